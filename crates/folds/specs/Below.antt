@@ -10,8 +10,9 @@ use native.Mathlib.Nat.{lt-suc-self, le-step, eq-or-lt-of-le}
 use native.Mathlib.Numerals.{add-one}
 use native.Mathlib.Omega.{arith}
 use lib.Dec.{eqb}
-use lib.Ieee.{Float, binary32, ofBits, add}
+use lib.Ieee.{Float}
 use borrow.Author.Tests.{eq-eqb, ne-eqb}
+use Rattle.folds.specs.Arith.{_⊕_, zeroF}
 
 -- ---- tests
 
@@ -125,13 +126,10 @@ unfoldable pub total : (ℕ → ℕ) → ℕ → ℕ
 total f zero = 0
 total f (suc n) = total f n + f n
 
-abbrev pub zeroF : Float
-zeroF = ofBits binary32 0
-
 -- the f32 sum, from 0 on and left to right, of the f k with p k, k below n
 unfoldable pub sumOf : (ℕ → Bool) → (ℕ → Float) → ℕ → Float
 sumOf p f zero = zeroF
-sumOf p f (suc n) = cond (p n) (add binary32 (sumOf p f n) (f n)) (sumOf p f n)
+sumOf p f (suc n) = cond (p n) (sumOf p f n ⊕ f n) (sumOf p f n)
 
 module _ (p : ℕ → Bool) where
   pub some-none : some p 0 ≡ false
@@ -216,7 +214,7 @@ module _ (p : ℕ → Bool) where
   unfolding sumOf
   sum-none f = refl
 
-  pub sum-more : (f : ℕ → Float) (i : ℕ) → sumOf p f (i + 1) ≡ cond (p i) (add binary32 (sumOf p f i) (f i)) (sumOf p f i)
+  pub sum-more : (f : ℕ → Float) (i : ℕ) → sumOf p f (i + 1) ≡ cond (p i) (sumOf p f i ⊕ f i) (sumOf p f i)
   unfolding sumOf
   sum-more f i = rw (add-one i)
 
@@ -241,7 +239,7 @@ unfolding sumOf
 sum-ext p q f g zero h v = refl
 sum-ext p q f g (suc n) h v = rw (h n (lt-suc-self n), sum-ext p q f g n (λ k l. h k (le-step l)) (λ k l. v k (le-step l))) (go (q n) (v n (lt-suc-self n)))
   where
-    go : (b : Bool) → (b ≡ true → f n ≡ g n) → cond b (add binary32 (sumOf q g n) (f n)) (sumOf q g n) ≡ cond b (add binary32 (sumOf q g n) (g n)) (sumOf q g n)
+    go : (b : Bool) → (b ≡ true → f n ≡ g n) → cond b (sumOf q g n ⊕ f n) (sumOf q g n) ≡ cond b (sumOf q g n ⊕ g n) (sumOf q g n)
     go true e = rw (e refl)
     go false e = refl
 

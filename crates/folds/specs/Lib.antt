@@ -1,3 +1,4 @@
+pub mod Arith
 pub mod Run
 pub mod Below
 pub mod Lists

@@ -1,0 +1,86 @@
+-- What the filters see of a sheet: functions of rank, with no cell numbers. A point's rank is its place in cell order.
+-- Assumes nothing.
+use mathlib.Core.Bool.{Bool, _&&_}
+use mathlib.Core.List.{List, [], _∷_}
+use Prim.Native.Nat.{ℕ, _+_, _*_}
+use lib.Dec.{eqb, ltb}
+use lib.ListN.{getD}
+use lib.Ieee.{Float, nan}
+use Rattle.folds.specs.Below.{some, tally}
+
+-- the most points of a sheet ("There are more than 2,048 points")
+abbrev pub maxPoints : ℕ
+maxPoints = 2048
+
+-- 25 entries for each point
+abbrev pub nearSize : ℕ
+nearSize = 51200
+
+pub record View : Type 0 where
+  -- how many points there are
+  pub count : ℕ
+  -- at 25 * k + d the rank of the point at offset d from rank k; a number of count or more is none
+  pub near : ℕ → ℕ
+  -- the first rank with the same v, and with the same u
+  pub row : ℕ → ℕ
+  pub column : ℕ → ℕ
+  -- the last rank with the same index, which stands for the index
+  pub byIdx : ℕ → ℕ
+  pub x : ℕ → Float
+  pub y : ℕ → Float
+
+-- the view that arrays give, or the lists that they hold
+abbrev pub viewAt : ℕ → List ℕ → List ℕ → List ℕ → List ℕ → List Float → List Float → View
+viewAt n near row column byIdx xs ys =
+    record {
+      count = n;
+      near = λ (i : ℕ). getD near i 0;
+      row = λ (k : ℕ). getD row k 0;
+      column = λ (k : ℕ). getD column k 0;
+      byIdx = λ (k : ℕ). getD byIdx k 0;
+      x = λ (k : ℕ). getD xs k nan;
+      y = λ (k : ℕ). getD ys k nan;
+    }
+
+-- Offset (du, dv), each from -2 to 2, has the number 5 * (du + 2) + (dv + 2). The cell itself:
+abbrev pub own : ℕ
+own = 12
+
+-- (1, 0), (-1, 0), (0, 1) and (0, -1)
+abbrev pub nextU : ℕ
+nextU = 17
+
+abbrev pub prevU : ℕ
+prevU = 7
+
+abbrev pub nextV : ℕ
+nextV = 13
+
+abbrev pub prevV : ℕ
+prevV = 11
+
+-- "Two cells share an edge if they differ by one in u and agree in v, or the other way round": the offsets that lead over a shared edge
+abbrev pub squareSides : List ℕ
+squareSides = prevU ∷ nextU ∷ prevV ∷ nextV ∷ []
+
+module _ (w : View) where
+  -- the rank at offset d from rank k, or a number of count or more
+  abbrev pub rankAt : ℕ → ℕ → ℕ
+  rankAt k d = w .near (25 * k + d)
+
+  -- there is a point at offset d from rank k
+  abbrev pub present : ℕ → ℕ → Bool
+  present k d = ltb (rankAt k d) (w .count)
+
+  -- ranks k and j have one index
+  abbrev pub alike : ℕ → ℕ → Bool
+  alike k j = eqb (w .byIdx k) (w .byIdx j)
+
+  -- some point with rank k's index has the mark t
+  abbrev pub indexHas : (ℕ → Bool) → ℕ → Bool
+  indexHas t k = some (λ (j : ℕ). t j && alike j k) (w .count)
+
+  -- degree: how many of the four cells that share an edge with rank k's hold a point
+  unfoldable pub degreeAt : ℕ → ℕ
+  unfolding tally
+  degreeAt k = tally (λ (i : ℕ). present k (getD squareSides i 0)) 4
