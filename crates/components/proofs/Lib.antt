@@ -1,0 +1,4 @@
+pub mod Surviving
+pub mod Searching
+pub mod Closure
+pub mod Labelling
