@@ -1,16 +1,17 @@
 -- The closure that computes is reachability: `via` at n tells of two ranks below n whether the one reaches the other. Over any test of
 -- survival and any test of a link that joins survivors only. Assumes nothing.
 use mathlib.Core.Path.{_≡_, refl, sym, ap, _∙_, subst}
-use mathlib.Core.Bool.{Bool, true, false, _&&_, _||_}
+use mathlib.Core.Bool.{Bool, true, false, _&&_, _||_, true≢false}
 use mathlib.Core.Logic.{_⊎_, inl, inr}
 use mathlib.Core.List.{List, []}
 use Prim.Native.Nat.{ℕ, zero, suc, _≤_, _<_}
+use native.Mathlib.Decide.{decLt}
 use native.Mathlib.Nat.{eq-or-lt-of-le}
 use native.Mathlib.Omega.{arith}
 use borrow.Author.Tests.{eq-eqb, eqb-true}
 use lib.Dec.{eqb}
 use lib.ListN.{getD}
-use Rattle.folds.specs.Below.{and-left, and-right, and-both, not-true, first, first-hit, first-miss}
+use Rattle.folds.specs.Below.{and-left, and-right, and-both, not-true, first, first-hit, first-miss, first-holds, first-before}
 use Rattle.folds.specs.Lists.{listOf, list-at}
 use Rattle.components.specs.Patches.{test, square, via}
 use Rattle.components.specs.Reach.{Reach, here, step, Labelled}
@@ -133,3 +134,21 @@ module _ (n : ℕ) (alive : ℕ → Bool) (link : ℕ → ℕ → Bool) where
 
     pub first-none : (k : ℕ) → k < n → (alive k ≡ true → ⊥) → first (λ (a : ℕ). test (via n alive link n) a k) 0 n ≡ n
     first-none k g f = first-miss (λ (a : ℕ). by n a k) n (λ a h. not-true (by n a k) (λ e. f (reach-to (by-sound n a k (omega arith) h g e))))
+
+    -- the definition's label is the least rank from which k is reached
+    pub first-labelled : (k : ℕ) → alive k ≡ true → Labelled alive link k (first (λ (a : ℕ). test (via n alive link n) a k) 0 n)
+    first-labelled k e = record {
+      reached = by-sound n v k (omega arith) (low k (here e) .1) (j .rank k e) (first-holds (λ (a : ℕ). by n a k) 0 n (low k (here e) .1));
+      least = λ a r. low a r .0;
+    }
+      where
+        v : ℕ
+        v = first (λ (a : ℕ). by n a k) 0 n
+
+        low : (a : ℕ) → Reach alive link a k → (v ≤ a) × (v < n)
+        low a r =
+            let h = j .rank a (reach-from r) in
+            elim (decLt a v) [
+              | yes l ↦ absurd (true≢false (sym (by-complete r) ∙ first-before (λ (a : ℕ). by n a k) 0 n a (omega arith) l))
+              | no f ↦ (omega (arith, f), omega (arith, f, h))
+            ]

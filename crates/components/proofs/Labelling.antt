@@ -13,7 +13,7 @@ use Rattle.components.specs.Patches.{at, survives, linked, test, via, la
 use Rattle.components.specs.Reach.{Reach, here, Labelled}
 use Rattle.components.specs.Search.{Seen, unlabelled, Search}
 use Rattle.components.proofs.Surviving.{survives-lt, link-from, link-to}
-use Rattle.components.proofs.Closure.{Joins, reach-to, first-label, first-none}
+use Rattle.components.proofs.Closure.{Joins, reach-to, first-label, first-none, first-labelled}
 
 module _ (n : ℕ) (near : ℕ → ℕ) (sides dropped : List ℕ) where
   -- links and survivors of a sheet
@@ -47,3 +47,6 @@ module _ (n : ℕ) (near : ℕ → ℕ) (sides dropped : List ℕ) where
 
   pub label-none : (k : ℕ) → k < n → (alive k ≡ true → ⊥) → at (labelsOf n near sides dropped) k ≡ n
   label-none k h f = label-at k h ∙ first-none n alive link joins k h f
+
+  pub label-some : (k : ℕ) → alive k ≡ true → Labelled alive link k (at (labelsOf n near sides dropped) k)
+  label-some k e = rw (label-at k (survives-lt n dropped k e)) (first-labelled n alive link joins k e)

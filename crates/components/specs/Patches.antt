@@ -75,6 +75,10 @@ unfoldable pub winnerOf : ℕ → List ℕ → ℕ
 unfolding sizesOf largestAt
 winnerOf n labels = largestAt (sizesOf n labels) n
 
+-- rank k is in the patch labelled w
+abbrev pub inPatch : ℕ → List ℕ → ℕ → ℕ → Bool
+inPatch n labels w k = ltb k n && eqb (at labels k) w
+
 -- rank k survives and is in another patch than the winner w
 abbrev pub isOther : ℕ → List ℕ → ℕ → ℕ → Bool
 isOther n labels w k = ltb (at labels k) n && not (eqb (at labels k) w)
@@ -89,10 +93,14 @@ othersOf n labels = othersBy n labels (winnerOf n labels)
 
 -- ---- the component mark
 
+-- the index that has its place at m has a marked cell
+abbrev pub placeHas : ℕ → (ℕ → ℕ) → List ℕ → ℕ → Bool
+placeHas n byIdx marks m = some (λ (j : ℕ). not (eqb (at marks j) 0) && eqb (byIdx j) m) n
+
 -- the marks of cells as marks of indices: an index with a marked cell is marked at each of its cells (`indexHas` of a view)
 unfoldable pub indexMarks : ℕ → (ℕ → ℕ) → List ℕ → List ℕ
 unfolding column some
-indexMarks n byIdx marks = column maxPoints 0 n (λ (k : ℕ). bit (some (λ (j : ℕ). not (eqb (at marks j) 0) && eqb (byIdx j) (byIdx k)) n))
+indexMarks n byIdx marks = column maxPoints 0 n (λ (k : ℕ). bit (placeHas n byIdx marks (byIdx k)))
 
 -- of a view
 abbrev pub patchLabels : View → List ℕ → List ℕ → List ℕ

@@ -39,11 +39,13 @@ pub record Kept (alive : ℕ → Bool) (link : ℕ → ℕ → Bool) (n : ℕ) (
   pub most : (W : ℕ → Bool) → WholePatch alive link W → tally W n ≤ tally K n
   pub tie : (W : ℕ → Bool) → WholePatch alive link W → tally W n ≡ tally K n → ((k : ℕ) → W k ≡ K k) ⊎ ((x y : ℕ) → Smallest W x → Smallest K y → y < x)
 
--- the ranks that `roots` picks stand for the whole patches, one for each
+-- The ranks below n that `roots` picks stand for the whole patches, one for each: patch s is the one of s, and s its smallest cell. So
+-- there are as many whole patches as such ranks.
 pub record Counted (alive : ℕ → Bool) (link : ℕ → ℕ → Bool) (n : ℕ) (roots : ℕ → Bool) (patch : ℕ → ℕ → Bool) : Type 0 where
   pub whole : (s : ℕ) → s < n → roots s ≡ true → WholePatch alive link (patch s)
   pub member : (s : ℕ) → s < n → roots s ≡ true → Smallest (patch s) s
-  pub every : (W : ℕ → Bool) → WholePatch alive link W → (s : ℕ) × (s < n) × (roots s ≡ true) × ((k : ℕ) → W k ≡ patch s k)
+  pub apart : (s t : ℕ) → s < n → t < n → roots s ≡ true → roots t ≡ true → ((k : ℕ) → patch s k ≡ patch t k) → s ≡ t
+  pub all : (W : ℕ → Bool) → WholePatch alive link W → (s : ℕ) × (s < n) × (roots s ≡ true) × ((k : ℕ) → W k ≡ patch s k)
 
 -- ---- what the theorems ask of the table and of the list of offsets
 

@@ -14,6 +14,10 @@ pub record Fit (n : ℕ) (sides : List ℕ) : Type 0 where
   pub few : n ≤ maxPoints
   pub offsets : (i : ℕ) → i < length sides → getD sides i 0 < 25
 
+-- the place of each index is a rank
+pub record Ranks (n : ℕ) (byIdx : List ℕ) : Type 0 where
+  pub rank : (k : ℕ) → k < n → getD byIdx k 0 < n
+
 -- rank k is marked
 abbrev pub Seen : List ℕ → ℕ → Type 0
 Seen m k = getD m k 0 ≡ 0 → ⊥
