@@ -17,7 +17,7 @@ use Rattle.components.proofs.Labelling.{joins, label-none, label-some}
 
 -- ---- the mark is of indices
 
-bit-test : (b : Bool) → not (eqb (bit b) 0) ≡ b
+bit-test : (b : Bool) → eqb (bit b) 1 ≡ b
 bit-test true = refl
 bit-test false = refl
 
@@ -27,14 +27,14 @@ pub mark-is : (w : View) (sides dropped : List ℕ) (k : ℕ) → k < w .count
 unfolding indexMarks othersOf othersBy
 mark-is w sides dropped k h =
     column-at maxPoints 0 (w .count) (λ (k : ℕ). bit (placeHas (w .count) (w .byIdx) (othersOf (w .count) labels) (w .byIdx k))) k h
-    ∙ ap bit (some-ext (λ (j : ℕ). not (eqb (at (othersOf (w .count) labels) j) 0) && eqb (w .byIdx j) (w .byIdx k)) (λ (j : ℕ). isOther (w .count) labels (winnerOf (w .count) labels) j && eqb (w .byIdx j) (w .byIdx k)) (w .count) each)
+    ∙ ap bit (some-ext (λ (j : ℕ). eqb (at (othersOf (w .count) labels) j) 1 && eqb (w .byIdx j) (w .byIdx k)) (λ (j : ℕ). isOther (w .count) labels (winnerOf (w .count) labels) j && eqb (w .byIdx j) (w .byIdx k)) (w .count) each)
   where
     labels : List ℕ
     labels = patchLabels w sides dropped
 
-    each : (j : ℕ) → j < w .count → not (eqb (at (othersOf (w .count) labels) j) 0) && eqb (w .byIdx j) (w .byIdx k) ≡ isOther (w .count) labels (winnerOf (w .count) labels) j && eqb (w .byIdx j) (w .byIdx k)
+    each : (j : ℕ) → j < w .count → eqb (at (othersOf (w .count) labels) j) 1 && eqb (w .byIdx j) (w .byIdx k) ≡ isOther (w .count) labels (winnerOf (w .count) labels) j && eqb (w .byIdx j) (w .byIdx k)
     each j l =
-        ap (λ (x : ℕ). not (eqb x 0) && eqb (w .byIdx j) (w .byIdx k)) (column-at maxPoints 0 (w .count) (λ (k : ℕ). bit (isOther (w .count) labels (winnerOf (w .count) labels) k)) j l)
+        ap (λ (x : ℕ). eqb x 1 && eqb (w .byIdx j) (w .byIdx k)) (column-at maxPoints 0 (w .count) (λ (k : ℕ). bit (isOther (w .count) labels (winnerOf (w .count) labels) k)) j l)
         ∙ ap (λ (b : Bool). b && eqb (w .byIdx j) (w .byIdx k)) (bit-test (isOther (w .count) labels (winnerOf (w .count) labels) j))
 
 -- where no two points have one index, the marked cells are those outside the winner
@@ -77,4 +77,4 @@ pub marks-depend : (n : ℕ) (byIdx byIdx′ : ℕ → ℕ) (marks : List ℕ) �
 unfolding indexMarks
 marks-depend n byIdx byIdx′ marks e =
     column-ext maxPoints 0 n (λ (k : ℕ). bit (placeHas n byIdx marks (byIdx k))) (λ (k : ℕ). bit (placeHas n byIdx′ marks (byIdx′ k)))
-    (λ k h. ap bit (some-ext (λ (j : ℕ). not (eqb (at marks j) 0) && eqb (byIdx j) (byIdx k)) (λ (j : ℕ). not (eqb (at marks j) 0) && eqb (byIdx′ j) (byIdx′ k)) n (λ j l. rw (e j l, e k h))))
+    (λ k h. ap bit (some-ext (λ (j : ℕ). eqb (at marks j) 1 && eqb (byIdx j) (byIdx k)) (λ (j : ℕ). eqb (at marks j) 1 && eqb (byIdx′ j) (byIdx′ k)) n (λ j l. rw (e j l, e k h))))

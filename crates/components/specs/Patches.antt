@@ -95,7 +95,7 @@ othersOf n labels = othersBy n labels (winnerOf n labels)
 
 -- the index that has its place at m has a marked cell
 abbrev pub placeHas : ℕ → (ℕ → ℕ) → List ℕ → ℕ → Bool
-placeHas n byIdx marks m = some (λ (j : ℕ). not (eqb (at marks j) 0) && eqb (byIdx j) m) n
+placeHas n byIdx marks m = some (λ (j : ℕ). eqb (at marks j) 1 && eqb (byIdx j) m) n
 
 -- the marks of cells as marks of indices: an index with a marked cell is marked at each of its cells (`indexHas` of a view)
 unfoldable pub indexMarks : ℕ → (ℕ → ℕ) → List ℕ → List ℕ

@@ -270,7 +270,7 @@ fn gathered(by_idx: &[u16; MAX_POINTS], marks: &[u8; MAX_POINTS], n: usize) -> [
         let v = view::wide(by_idx[i]);
         let mark = marks[i];
         i += 1;
-        if mark != 0 {
+        if mark == 1 {
             hit[v] = 1;
         }
     }

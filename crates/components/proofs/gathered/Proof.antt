@@ -65,7 +65,7 @@ loop-less c = search needs
 loop-again : tie.Need-loop-again Inv-loop μ-loop
 loop-again c =
     let l = c .before .before .before .before .before in
-    (omega arith, scattered-put _ _ _ _ _ (l .loop .i) (c .before .before .wide .result) _ (omega (arith, place c, length-replicate {A = ℕ} maxPoints 0)) (c .before .before .wide .ensures) (rw (ne-eqb (at (l .before .args .marks .now) (l .loop .i)) 0 (c .if1 .taken)) refl) (l .loop .inv .1))
+    (omega arith, scattered-put _ _ _ _ _ (l .loop .i) (c .before .before .wide .result) _ (omega (arith, place c, length-replicate {A = ℕ} maxPoints 0)) (c .before .before .wide .ensures) (eq-eqb (at (l .before .args .marks .now) (l .loop .i)) 1 (c .if1 .taken)) (l .loop .inv .1))
 
 -- src/lib.rt:269:5
 loop-less-2 : tie.Need-loop-less-2 Inv-loop μ-loop
@@ -75,7 +75,7 @@ loop-less-2 c = search needs
 loop-again-2 : tie.Need-loop-again-2 Inv-loop μ-loop
 loop-again-2 c =
     let l = c .before .before .before .before .before in
-    (omega arith, scattered-skip _ _ _ _ _ (l .loop .i) _ (rw (eq-eqb (at (l .before .args .marks .now) (l .loop .i)) 0 (c .if1 .left)) refl) (l .loop .inv .1))
+    (omega arith, scattered-skip _ _ _ _ _ (l .loop .i) _ (ne-eqb (at (l .before .args .marks .now) (l .loop .i)) 1 (c .if1 .left)) (l .loop .inv .1))
 
 -- src/lib.rt:263:1
 returns : tie.Need-returns Inv-loop μ-loop
