@@ -7,8 +7,8 @@ use lib.Dec.{T}
 use lib.Ieee.{Float, binary32, fits, ofBits, toBits}
 use lib.Ieee.Bits.{toBits-lt}
 use Rattle.float.specs.Root.{rootOf}
-use Rattle.float.proofs.Nan.{no-nan}
-use Rattle.float.proofs.Special.{root-of-nan, pattern, own-root, root-of-zero, root-of-minus-zero, root-of-infinity, below-nan, no-root, zero-over-zero}
+use Rattle.float.proofs.Nan.{no-nan, no-nan-pattern, zero-over-zero}
+use Rattle.float.proofs.Special.{root-of-nan, pattern, own-root, root-of-zero, root-of-minus-zero, root-of-infinity, no-root}
 use Rattle.float.proofs.sqrt.Statement.{statement}
 use Rattle.float.proofs.sqrt.Tie as tie
 
@@ -31,7 +31,7 @@ root-bits-requires : tie.Need-root-bits-requires
 root-bits-requires c κs = search needs
 
 float-from-bits-result : tie.Need-float-from-bits-result
-float-from-bits-result c = below-nan _ (c .root-bits .ensures .0)
+float-from-bits-result c = no-nan-pattern _ (omega arith)
 
 returns-3 : tie.Need-returns-3
 returns-3 c =
