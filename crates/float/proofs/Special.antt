@@ -1,7 +1,7 @@
 -- The f32 with a root of its own: a NaN, the zeros, the infinities and what is negative. Assumes nothing.
 use mathlib.Core.Path.{_≡_, refl, sym, ap, _∙_, subst}
 use mathlib.Core.Bool.{Bool, true, false, cond}
-use Prim.Native.Nat.{ℕ, zero, suc, _+_, _*_, _/_, _%_, _^_, _≤_, _<_}
+use Prim.Native.Nat.{ℕ, zero, suc, _+_, _*_, _/_, _%_, _^_, _<_}
 use native.Mathlib.Nat.{mul-pos, zero-mul, mul-assoc}
 use native.Mathlib.Decide.{decLt}
 use native.Mathlib.Omega.{arith}
@@ -14,7 +14,7 @@ use lib.Ieee.Bits.{ofBits-toBits}
 use lib.Ieee.Fits.{down-pos}
 use lib.Ieee.Compare.{differs-from-itself}
 use lib.Ieee.Exact.{HasValue, odd-sign}
-use Rattle.float.specs.Root.{rootUnits, rootOf}
+use Rattle.float.specs.Root.{rootOf}
 use Rattle.float.proofs.Pattern.{ofBits-is}
 
 pub root-of-nan : (x : Float) → ne x x ≡ true → x ≡ rootOf x

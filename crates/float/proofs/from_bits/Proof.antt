@@ -11,8 +11,6 @@ returns c = zero-over-zero ∙ sym (nan-pattern _ (c .if1 .taken))
 float-from-bits-result : tie.Need-float-from-bits-result
 float-from-bits-result c = no-nan-pattern _ (c .if1 .left)
 
-returns-2 : tie.Need-returns-2
-returns-2 c = search needs
-
 pub from-bits-spec : {M : Type 1} → statement M
-from-bits-spec = tie.close (tie.spec returns float-from-bits-result returns-2)
+from-bits-spec = tie.close
+    (tie.spec returns float-from-bits-result (λ c. search needs))
