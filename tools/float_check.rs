@@ -1,6 +1,6 @@
 // Holds the functions of crate `float` against Rust's own, and times the root, through the static library of `float_c`.
 // rt staticlib float_c && rustc -O -o target/float_check -L target/staticlib -l static=float_c tools/float_check.rs && target/float_check
-// It takes about two minutes and prints `differences 0` for each function that agrees with Rust at every bit pattern.
+// It takes some 80 s on an idle processor (the word `time` after it: only the times) and prints `differences 0` for each function that agrees with Rust at every bit pattern.
 
 use std::hint::black_box;
 use std::time::Instant;
