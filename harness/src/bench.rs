@@ -1,0 +1,96 @@
+//! Microseconds a sheet on a clean 45 by 45 board: the least of many runs.
+
+use crate::kept;
+use crate::run_original::Prepared;
+use crate::second::{self, Fault};
+use crate::sheet::{Gate, Point, Rest, Settings, Sheet};
+use std::hint::black_box;
+use std::time::{Duration, Instant};
+
+/// A clean board in perspective, every filter on.
+pub fn board(side: i32, gated: bool) -> Sheet {
+    let mut points = Vec::new();
+    for u in 0..side {
+        for v in 0..side {
+            let (i, j) = (u as f32, v as f32);
+            let w = 1.0 + 0.002 * i + 0.001 * j;
+            let (x, y) = (
+                (40.0 * i + 3.0 * j + 100.0) / w,
+                (2.0 * i + 40.0 * j + 80.0) / w,
+            );
+            points.push(Point {
+                u,
+                v,
+                index: points.len() as u32,
+                x,
+                y,
+            });
+        }
+    }
+    let rest = Rest {
+        step_flag: 1,
+        step_threshold: 0.5,
+        ..Rest::defaults()
+    };
+    let eight_degrees = 16_613_942.0 / 16_777_216.0;
+    let gate = Gate {
+        minimum_degree: 2,
+        floats: [eight_degrees, 1.18, eight_degrees, 1.1],
+    };
+    Sheet {
+        settings: Settings {
+            cell_size: 40.0,
+            rest: Some(rest),
+        },
+        gate: gated.then_some(gate),
+        points,
+    }
+}
+
+fn least(runs: usize, mut work: impl FnMut()) -> Duration {
+    let time = || {
+        let start = Instant::now();
+        work();
+        start.elapsed()
+    };
+    std::iter::repeat_with(time)
+        .take(runs)
+        .min()
+        .unwrap_or_default()
+}
+
+fn show(name: &str, time: Duration) {
+    println!("{:>9.1} µs  {name}", time.as_secs_f64() * 1e6);
+}
+
+pub fn run(runs: usize) {
+    for gated in [false, true] {
+        let sheet = board(45, gated);
+        let file = sheet.to_file();
+        let points = sheet.points.len();
+        let gate = if gated { "with" } else { "without" };
+        println!("{points} points, {gate} the edge gate, least of {runs} runs");
+        if let Some(prepared) = Prepared::new(&sheet) {
+            show(
+                "original drop_set",
+                least(runs, || drop(black_box(prepared.drop_set()))),
+            );
+            show(
+                "original validate",
+                least(runs, || drop(black_box(prepared.validate()))),
+            );
+        }
+        let answer = || drop(black_box(second::answer(&file, 1 << 16, Fault::None)));
+        show(
+            "second program, file to rows and listing",
+            least(runs, answer),
+        );
+        let mut rows = vec![0; second::ROW * points];
+        if kept::call(&file, &mut rows).is_some() {
+            let call = || {
+                black_box(kept::call(&file, &mut rows));
+            };
+            show("static library, file to rows", least(runs, call));
+        }
+    }
+}

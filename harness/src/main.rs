@@ -1,0 +1,242 @@
+//! The harness: the Rust original, a second program, generated sheets, and what runs them.
+
+mod angles;
+mod bench;
+mod compare;
+mod generate;
+mod kept;
+mod mutants;
+mod random;
+#[cfg(not(original_at_hand))]
+#[path = "no_original.rs"]
+mod run_original;
+#[cfg(original_at_hand)]
+mod run_original;
+mod second;
+mod sheet;
+mod stars;
+mod text;
+mod vectors;
+
+use generate::Kind;
+use second::Fault;
+use sheet::Sheet;
+use std::io::{Read, Write};
+use std::process::ExitCode;
+
+const USE: &str = "\
+harness quick                         the checks of the gate
+harness compare [--sheets N] [--seed S] [--kind KIND]
+                                      original against second program
+harness mutants [--sheets N] [--seed S]
+                                      how many sheets show each deliberate fault
+harness acos                          floats beside 30 degrees, and cosines acos cannot tell apart
+harness generate KIND SEED            a sheet file to standard output
+harness kinds                         the kinds of generated sheets
+harness second [BUFFER]               listing of the sheet file on standard input
+harness original                      rows of the original for the sheet file on standard input
+harness vectors FILE [--sheets N] [--seed S] [--most BYTES]
+                                      a bundle of files with their expected answers
+harness bench [--runs N]              microseconds a sheet
+harness text to-file | from-file      lines of text to a sheet file and back
+";
+
+/// The value after `--name`, or a default.
+fn option(args: &[String], name: &str, default: u64) -> u64 {
+    let at = args.iter().position(|a| a == name);
+    match at.map(|k| args.get(k + 1).map(|v| v.parse())) {
+        None => default,
+        Some(Some(Ok(value))) => value,
+        _ => fail(&format!("{name} takes a number")),
+    }
+}
+
+fn fail(message: &str) -> ! {
+    eprintln!("{message}");
+    std::process::exit(2)
+}
+
+fn input() -> Vec<u8> {
+    let mut bytes = Vec::new();
+    std::io::stdin()
+        .read_to_end(&mut bytes)
+        .unwrap_or_else(|e| fail(&e.to_string()));
+    bytes
+}
+
+fn output(bytes: &[u8]) {
+    std::io::stdout()
+        .write_all(bytes)
+        .unwrap_or_else(|e| fail(&e.to_string()));
+}
+
+/// One line if the Rust files were not at hand when this was built.
+fn say_without_original() {
+    if !cfg!(original_at_hand) {
+        println!("the Rust original is not at hand (HIGLAUPTH_RUST): its part is left out");
+    }
+}
+
+fn compare(args: &[String]) -> bool {
+    say_without_original();
+    let kind = args
+        .iter()
+        .position(|a| a == "--kind")
+        .and_then(|k| args.get(k + 1));
+    let kind =
+        kind.map(|name| Kind::from_name(name).unwrap_or_else(|| fail(&format!("no kind {name}"))));
+    let sheets = option(args, "--sheets", 2300) as usize;
+    let report = compare::run(sheets, option(args, "--seed", 0), kind);
+    report.print();
+    report.failed == 0
+}
+
+fn mutants(sheets: usize, seed: u64) -> usize {
+    mutants::print(sheets, &mutants::run(sheets, seed))
+}
+
+/// Floats beside the limit of 30 degrees that the Rust judges otherwise, and for some least
+/// cosines of tag 2 how many floats below them its acos cannot tell from them.
+fn acos() {
+    let others = stars::beside_30_degrees();
+    println!(
+        "floats from 1/2 to 1 that acos judges otherwise at 30 degrees: {}",
+        others.len()
+    );
+    for c in others {
+        println!("  {:08X} {c}", c.to_bits());
+    }
+    for least in [
+        16_613_942.0 / 16_777_216.0,
+        0.6f32,
+        0.8,
+        0.5,
+        0.9,
+        0.99,
+        0.999,
+        0.0,
+        -0.5,
+    ] {
+        let mut c = least.next_down();
+        let mut alike = 0;
+        while angles::degrees(c) <= angles::limit(least) {
+            alike += 1;
+            c = c.next_down();
+        }
+        println!(
+            "least cosine {:08X} {least}: {alike} floats below it",
+            least.to_bits()
+        );
+    }
+}
+
+/// The checks of the gate; true if all hold.
+fn quick() -> bool {
+    say_without_original();
+    let (mut passed, mut failed) = (0, 0);
+    let mut count = |name: &str, holds: bool| {
+        if holds {
+            passed += 1;
+        } else {
+            failed += 1;
+            println!("failed: {name}");
+        }
+    };
+    for (name, holds) in stars::checks() {
+        count(&name, holds);
+    }
+    let report = compare::run(4600, 1, None);
+    report.print();
+    count(
+        "the original and the second program agree",
+        report.failed == 0,
+    );
+    count("deliberate faults show", mutants(1150, 1) == 0);
+    let pair = |k: u64| generate::case(Kind::Gated, k).file;
+    let kept = |k: u64| {
+        let sheet = Sheet::from_file(&pair(k)).unwrap();
+        text::from_text(&text::to_text(&sheet)).unwrap().to_file() == pair(k)
+    };
+    count("text and back", (0..200).all(kept));
+    println!("{passed} passed, {failed} failed");
+    failed == 0
+}
+
+fn original_rows() {
+    let Some(sheet) = Sheet::from_file(&input()) else {
+        fail("not well framed")
+    };
+    let Some(prepared) = run_original::Prepared::new(&sheet) else {
+        return say_without_original();
+    };
+    let held = prepared.run();
+    println!(
+        "points {} components {}",
+        sheet.points.len(),
+        held.components()
+    );
+    let mut points = sheet.points.clone();
+    points.sort_by_key(|p| (p.u, p.v));
+    for p in points {
+        println!("{} {} {} {:02X?}", p.u, p.v, p.index, held.row(p.index));
+    }
+}
+
+fn to_file() -> Vec<u8> {
+    let lines = String::from_utf8(input()).unwrap_or_else(|e| fail(&e.to_string()));
+    text::from_text(&lines)
+        .unwrap_or_else(|e| fail(&e))
+        .to_file()
+}
+
+fn generated(kind: &str, seed: &str) -> Vec<u8> {
+    match (Kind::from_name(kind), seed.parse()) {
+        (Some(kind), Ok(seed)) => generate::case(kind, seed).file,
+        _ => fail("generate takes a kind and a seed"),
+    }
+}
+
+fn main() -> ExitCode {
+    let args: Vec<String> = std::env::args().skip(1).collect();
+    let words: Vec<&str> = args.iter().map(String::as_str).collect();
+    let mut holds = true;
+    match words.as_slice() {
+        ["quick"] => holds = quick(),
+        ["compare", ..] => holds = compare(&args),
+        ["mutants", ..] => {
+            let sheets = option(&args, "--sheets", 2300) as usize;
+            holds = mutants(sheets, option(&args, "--seed", 0)) == 0;
+        }
+        ["acos"] => acos(),
+        ["generate", kind, seed] => output(&generated(kind, seed)),
+        ["kinds"] => Kind::ALL
+            .iter()
+            .for_each(|(kind, text)| println!("{kind:?}: {text}")),
+        ["second", buffer @ ..] => {
+            let buffer = buffer.first().map_or(1 << 16, |b| b.parse().unwrap_or(0));
+            output(
+                second::answer(&input(), buffer, Fault::None)
+                    .listing()
+                    .as_bytes(),
+            );
+        }
+        ["original"] => original_rows(),
+        ["vectors", file, ..] => {
+            let sheets = option(&args, "--sheets", 230) as usize;
+            let most = option(&args, "--most", 2000) as usize;
+            let bundle = vectors::bundle(sheets, option(&args, "--seed", 0), most);
+            std::fs::write(file, bundle).unwrap_or_else(|e| fail(&e.to_string()));
+        }
+        ["bench", ..] => bench::run(option(&args, "--runs", 200) as usize),
+        ["text", "to-file"] => output(&to_file()),
+        ["text", "from-file"] => match Sheet::from_file(&input()) {
+            Some(sheet) => output(text::to_text(&sheet).as_bytes()),
+            None => fail("not well framed"),
+        },
+        _ => {
+            eprint!("{USE}");
+            return ExitCode::from(2);
+        }
+    }
+    ExitCode::from(u8::from(!holds))
+}
