@@ -30,7 +30,7 @@ harness compare [--sheets N] [--seed S] [--kind KIND]
                                       original against second program
 harness mutants [--sheets N] [--seed S]
                                       how many sheets show each deliberate fault
-harness acos                          floats beside 30 degrees, and cosines acos cannot tell apart
+harness acos [COSINE ..]              what the Rust's acos makes of 30 degrees and of least cosines
 harness generate KIND SEED            a sheet file to standard output
 harness kinds                         the kinds of generated sheets
 harness second [BUFFER]               listing of the sheet file on standard input
@@ -91,42 +91,23 @@ fn compare(args: &[String]) -> bool {
     report.failed == 0
 }
 
-fn mutants(sheets: usize, seed: u64) -> usize {
-    mutants::print(sheets, &mutants::run(sheets, seed))
+fn mutants(args: &[String]) -> bool {
+    let sheets = option(args, "--sheets", 2700) as usize;
+    let shown = mutants::run(sheets, option(args, "--seed", 0), false);
+    mutants::print(sheets, &shown);
+    mutants::unseen(&shown) == 0
 }
 
-/// Floats beside the limit of 30 degrees that the Rust judges otherwise, and for some least
-/// cosines of tag 2 how many floats below them its acos cannot tell from them.
-fn acos() {
-    let others = stars::beside_30_degrees();
-    println!(
-        "floats from 1/2 to 1 that acos judges otherwise at 30 degrees: {}",
-        others.len()
-    );
-    for c in others {
-        println!("  {:08X} {c}", c.to_bits());
+/// All floats against 30 degrees, or the floats that acos cannot tell from given cosines.
+fn acos(cosines: &[&str]) {
+    if cosines.is_empty() {
+        return angles::sweep();
     }
-    for least in [
-        16_613_942.0 / 16_777_216.0,
-        0.6f32,
-        0.8,
-        0.5,
-        0.9,
-        0.99,
-        0.999,
-        0.0,
-        -0.5,
-    ] {
-        let mut c = least.next_down();
-        let mut alike = 0;
-        while angles::degrees(c) <= angles::limit(least) {
-            alike += 1;
-            c = c.next_down();
+    for word in cosines {
+        match text::float(word) {
+            Ok(least) if least.abs() <= 1.0 => angles::alike(least),
+            _ => fail("acos takes cosines from -1 to 1"),
         }
-        println!(
-            "least cosine {:08X} {least}: {alike} floats below it",
-            least.to_bits()
-        );
     }
 }
 
@@ -151,7 +132,14 @@ fn quick() -> bool {
         "the original and the second program agree",
         report.failed == 0,
     );
-    count("deliberate faults show", mutants(1150, 1) == 0);
+    let shown = mutants::run(27_000, 0, true);
+    for (&(fault, text), (seen, _)) in Fault::ALL.iter().zip(&shown) {
+        let none_can = mutants::NONE_CAN_SHOW.iter().any(|(f, _)| *f == fault);
+        count(
+            &format!("a sheet shows the fault: {text}"),
+            *seen > 0 || none_can,
+        );
+    }
     let pair = |k: u64| generate::case(Kind::Gated, k).file;
     let kept = |k: u64| {
         let sheet = Sheet::from_file(&pair(k)).unwrap();
@@ -203,11 +191,8 @@ fn main() -> ExitCode {
     match words.as_slice() {
         ["quick"] => holds = quick(),
         ["compare", ..] => holds = compare(&args),
-        ["mutants", ..] => {
-            let sheets = option(&args, "--sheets", 2300) as usize;
-            holds = mutants(sheets, option(&args, "--seed", 0)) == 0;
-        }
-        ["acos"] => acos(),
+        ["mutants", ..] => holds = mutants(&args),
+        ["acos", cosines @ ..] => acos(cosines),
         ["generate", kind, seed] => output(&generated(kind, seed)),
         ["kinds"] => Kind::ALL
             .iter()

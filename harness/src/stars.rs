@@ -1,6 +1,5 @@
 //! The sheets that document 01 names, with what it says of them.
 
-use crate::angles;
 use crate::second::{self, over_30_degrees, Answer, Fault};
 use crate::text;
 
@@ -133,12 +132,4 @@ pub fn checks() -> Vec<(String, bool)> {
     also("over 30 degrees", over_30_degrees(part(14_529_495)));
     also("not over 30 degrees", !over_30_degrees(part(14_529_496)));
     out
-}
-
-/// Floats from 1/2 to 1 that the Rust's acos judges at 30 degrees as document 01 does not.
-pub fn beside_30_degrees() -> Vec<f32> {
-    (0.5f32.to_bits()..=1f32.to_bits())
-        .map(f32::from_bits)
-        .filter(|&c| (angles::degrees(c) > 30.0) != over_30_degrees(c))
-        .collect()
 }
