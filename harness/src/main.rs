@@ -3,9 +3,11 @@
 mod angles;
 mod bench;
 mod compare;
+mod floats;
 mod generate;
 mod kept;
 mod mutants;
+mod properties;
 mod random;
 #[cfg(not(original_at_hand))]
 #[path = "no_original.rs"]
@@ -37,6 +39,9 @@ harness second [BUFFER]               listing of the sheet file on standard inpu
 harness original                      rows of the original for the sheet file on standard input
 harness vectors FILE [--sheets N] [--seed S] [--most BYTES]
                                       a bundle of files with their expected answers
+harness floats FILE [--count N] [--seed S]
+                                      a bundle of single f32 operations
+harness roots [--step N]              the machine's root against whole numbers
 harness bench [--runs N]              microseconds a sheet
 harness text to-file | from-file      lines of text to a sheet file and back
 ";
@@ -68,6 +73,10 @@ fn output(bytes: &[u8]) {
     std::io::stdout()
         .write_all(bytes)
         .unwrap_or_else(|e| fail(&e.to_string()));
+}
+
+fn save(file: &str, bytes: &[u8]) {
+    std::fs::write(file, bytes).unwrap_or_else(|e| fail(&e.to_string()));
 }
 
 /// One line if the Rust files were not at hand when this was built.
@@ -111,6 +120,17 @@ fn acos(cosines: &[&str]) {
     }
 }
 
+/// On a row of five with strengths 1, the last 2, and fraction 2 all but the last are peeled.
+fn weak_ends() -> bool {
+    let mut sheet = bench::board(5, false);
+    sheet.points.retain(|p| p.v == 0);
+    let last = sheet.points[4].index;
+    let strength = |index: u32| if index == last { 2.0 } else { 1.0 };
+    let peeled = run_original::weak_leaf_peel(&sheet, strength, &[], 2.0);
+    let all_but_last = sheet.points[..4].iter().map(|p| p.index).collect();
+    peeled.is_none_or(|set| set == all_but_last)
+}
+
 /// The checks of the gate; true if all hold.
 fn quick() -> bool {
     say_without_original();
@@ -146,6 +166,13 @@ fn quick() -> bool {
         text::from_text(&text::to_text(&sheet)).unwrap().to_file() == pair(k)
     };
     count("text and back", (0..200).all(kept));
+    let failure = properties::first_failure(810, 2);
+    count(
+        &format!("order and switches: {failure:?}"),
+        failure.is_none(),
+    );
+    count("roots over whole numbers", floats::roots(4099).1 == 0);
+    count("weak_leaf_peel is at hand with the original", weak_ends());
     println!("{passed} passed, {failed} failed");
     failed == 0
 }
@@ -210,7 +237,16 @@ fn main() -> ExitCode {
             let sheets = option(&args, "--sheets", 230) as usize;
             let most = option(&args, "--most", 2000) as usize;
             let bundle = vectors::bundle(sheets, option(&args, "--seed", 0), most);
-            std::fs::write(file, bundle).unwrap_or_else(|e| fail(&e.to_string()));
+            save(file, &bundle);
+        }
+        ["floats", file, ..] => {
+            let count = option(&args, "--count", 2000) as usize;
+            save(file, &floats::bundle(count, option(&args, "--seed", 0)));
+        }
+        ["roots", ..] => {
+            let (count, otherwise) = floats::roots(option(&args, "--step", 1).max(1) as usize);
+            println!("{count} floats, {otherwise} with another root");
+            holds = otherwise == 0;
         }
         ["bench", ..] => bench::run(option(&args, "--runs", 200) as usize),
         ["text", "to-file"] => output(&to_file()),

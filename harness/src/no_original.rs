@@ -3,6 +3,7 @@
 
 use crate::second::ROW;
 use crate::sheet::Sheet;
+use std::collections::HashSet;
 
 #[allow(dead_code)]
 pub struct Prepared;
@@ -32,4 +33,13 @@ impl Held {
     pub fn row(&self, _: u32) -> [u8; ROW] {
         unreachable!()
     }
+}
+
+pub fn weak_leaf_peel(
+    _: &Sheet,
+    _: impl Fn(u32) -> f32,
+    _: &[u32],
+    _: f32,
+) -> Option<HashSet<u32>> {
+    None
 }

@@ -74,6 +74,8 @@ const SHEETS: &[(&str, &str, Says)] = &[
     ),
 ];
 
+const REPEATED_AND_INFINITE: &str = "cell 100\n0 0 1 0x7F800000 0\n0 0 2 0 0";
+
 fn mark_word(line: &str) -> &str {
     line.split(' ').nth(3).unwrap()
 }
@@ -99,6 +101,19 @@ fn row(n: usize) -> String {
     })
 }
 
+/// The files of the named sheets.
+pub fn files() -> Vec<Vec<u8>> {
+    let file = |sheet: &str| text::from_text(sheet).unwrap().to_file();
+    let mut out: Vec<Vec<u8>> = SHEETS.iter().map(|(_, sheet, _)| file(sheet)).collect();
+    out.extend([
+        file(&row(2048)),
+        file(&row(2049)),
+        file(REPEATED_AND_INFINITE),
+        Vec::new(),
+    ]);
+    out
+}
+
 /// Each check with whether it holds.
 pub fn checks() -> Vec<(String, bool)> {
     let mut out = Vec::new();
@@ -116,10 +131,9 @@ pub fn checks() -> Vec<(String, bool)> {
         "2,048 points",
         listing_of(&row(2048)).starts_with("points 2048 "),
     );
-    let infinite = "cell 100\n0 0 1 0x7F800000 0\n0 0 2 0 0";
     also(
         "a repeated cell with an infinite position",
-        listing_of(infinite) == "refused 7\n",
+        listing_of(REPEATED_AND_INFINITE) == "refused 7\n",
     );
     let refused = second::answer(&[], 0, Fault::None) == Answer::Refused(1);
     also("an empty file", refused);

@@ -68,7 +68,7 @@ pub fn shapes(r: &mut Random) -> Sheet {
 
 /// Whole positions from a small range, so that sums, pivots and cosines are often equal.
 pub fn wild(r: &mut Random) -> Sheet {
-    let range = r.pick(&[1, 2, 4, 10, 100]);
+    let range = r.pick(&[1, 2, 4, 10, 100, 16384]);
     let left_out = r.pick(&[3, 6, 1000]);
     let mut at =
         |r: &mut Random, _: i32, _: i32| (r.whole(-range, range) as f32, r.whole(0, range) as f32);
