@@ -8,6 +8,7 @@ mod generate;
 mod kept;
 mod mutants;
 mod properties;
+mod quick;
 mod random;
 #[cfg(not(original_at_hand))]
 #[path = "no_original.rs"]
@@ -120,63 +121,6 @@ fn acos(cosines: &[&str]) {
     }
 }
 
-/// On a row of five with strengths 1, the last 2, and fraction 2 all but the last are peeled.
-fn weak_ends() -> bool {
-    let mut sheet = bench::board(5, false);
-    sheet.points.retain(|p| p.v == 0);
-    let last = sheet.points[4].index;
-    let strength = |index: u32| if index == last { 2.0 } else { 1.0 };
-    let peeled = run_original::weak_leaf_peel(&sheet, strength, &[], 2.0);
-    let all_but_last = sheet.points[..4].iter().map(|p| p.index).collect();
-    peeled.is_none_or(|set| set == all_but_last)
-}
-
-/// The checks of the gate; true if all hold.
-fn quick() -> bool {
-    say_without_original();
-    let (mut passed, mut failed) = (0, 0);
-    let mut count = |name: &str, holds: bool| {
-        if holds {
-            passed += 1;
-        } else {
-            failed += 1;
-            println!("failed: {name}");
-        }
-    };
-    for (name, holds) in stars::checks() {
-        count(&name, holds);
-    }
-    let report = compare::run(4600, 1, None);
-    report.print();
-    count(
-        "the original and the second program agree",
-        report.failed == 0,
-    );
-    let shown = mutants::run(27_000, 0, true);
-    for (&(fault, text), (seen, _)) in Fault::ALL.iter().zip(&shown) {
-        let none_can = mutants::NONE_CAN_SHOW.iter().any(|(f, _)| *f == fault);
-        count(
-            &format!("a sheet shows the fault: {text}"),
-            *seen > 0 || none_can,
-        );
-    }
-    let pair = |k: u64| generate::case(Kind::Gated, k).file;
-    let kept = |k: u64| {
-        let sheet = Sheet::from_file(&pair(k)).unwrap();
-        text::from_text(&text::to_text(&sheet)).unwrap().to_file() == pair(k)
-    };
-    count("text and back", (0..200).all(kept));
-    let failure = properties::first_failure(810, 2);
-    count(
-        &format!("order and switches: {failure:?}"),
-        failure.is_none(),
-    );
-    count("roots over whole numbers", floats::roots(4099).1 == 0);
-    count("weak_leaf_peel is at hand with the original", weak_ends());
-    println!("{passed} passed, {failed} failed");
-    failed == 0
-}
-
 fn original_rows() {
     let Some(sheet) = Sheet::from_file(&input()) else {
         fail("not well framed")
@@ -216,7 +160,10 @@ fn main() -> ExitCode {
     let words: Vec<&str> = args.iter().map(String::as_str).collect();
     let mut holds = true;
     match words.as_slice() {
-        ["quick"] => holds = quick(),
+        ["quick"] => {
+            say_without_original();
+            holds = quick::run();
+        }
         ["compare", ..] => holds = compare(&args),
         ["mutants", ..] => holds = mutants(&args),
         ["acos", cosines @ ..] => acos(cosines),

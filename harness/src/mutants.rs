@@ -13,7 +13,8 @@ pub const NONE_CAN_SHOW: &[(Fault, &str)] = &[(
 /// A fault's count of sheets that show it, and the first kind and seed that does.
 type Shown = Vec<(usize, Option<(Kind, u64)>)>;
 
-fn can_show(fault: Fault) -> bool {
+/// Whether a sheet could show a fault.
+pub fn can_show(fault: Fault) -> bool {
     NONE_CAN_SHOW.iter().all(|(f, _)| *f != fault)
 }
 

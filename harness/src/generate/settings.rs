@@ -9,7 +9,7 @@ const EXTREME: [f32; 16] = [
     1e-6, 0.5, 1000.0,
 ];
 
-fn rest<'a>(s: &'a mut Sheet) -> &'a mut Rest {
+fn rest(s: &mut Sheet) -> &mut Rest {
     s.settings.rest.get_or_insert_with(Rest::defaults)
 }
 

@@ -87,7 +87,7 @@ fn window(board: &Board, of: &Edge, direction: (i32, i32), fault: Fault) -> Vec<
 
 fn off_axis(of: &Edge, window: &[Edge], fault: Fault) -> bool {
     let mut sum = Vector { x: 0.0, y: 0.0 };
-    let taken = if fault == Fault::WindowMean {
+    let taken = if fault == Fault::WindowFirstEdge {
         1
     } else {
         window.len()
@@ -124,7 +124,11 @@ fn fails(
         let overlong = fault.above(of.length, 1.5 * middle, Fault::OverlongAtEqual);
         return overlong || off_axis(of, &window, fault);
     }
-    let ratio = if fault == Fault::SheetAngle { 1.5 } else { 1.6 };
+    let ratio = if fault == Fault::SheetAtWindowRatio {
+        1.5
+    } else {
+        1.6
+    };
     whole.is_some_and(|middle| of.length > ratio * middle)
 }
 
