@@ -47,10 +47,11 @@ pub fn board(side: i32, gated: bool) -> Sheet {
     }
 }
 
-fn least(runs: usize, mut work: impl FnMut()) -> Duration {
+/// The least time of many runs; what the work hands back is not optimised away.
+fn least<T>(runs: usize, mut work: impl FnMut() -> T) -> Duration {
     let time = || {
         let start = Instant::now();
-        work();
+        black_box(work());
         start.elapsed()
     };
     std::iter::repeat_with(time)
@@ -71,26 +72,20 @@ pub fn run(runs: usize) {
         let gate = if gated { "with" } else { "without" };
         println!("{points} points, {gate} the edge gate, least of {runs} runs");
         if let Some(prepared) = Prepared::new(&sheet) {
-            show(
-                "original drop_set",
-                least(runs, || drop(black_box(prepared.drop_set()))),
-            );
-            show(
-                "original validate",
-                least(runs, || drop(black_box(prepared.validate()))),
-            );
+            show("original drop_set", least(runs, || prepared.drop_set()));
+            show("original validate", least(runs, || prepared.validate()));
         }
-        let answer = || drop(black_box(second::answer(&file, 1 << 16, Fault::None)));
+        let answer = || second::answer(&file, 1 << 16, Fault::None);
         show(
             "second program, file to rows and listing",
             least(runs, answer),
         );
         let mut rows = vec![0; second::ROW * points];
         if kept::call(&file, &mut rows).is_some() {
-            let call = || {
-                black_box(kept::call(&file, &mut rows));
-            };
-            show("static library, file to rows", least(runs, call));
+            show(
+                "static library, file to rows",
+                least(runs, || kept::call(&file, &mut rows)),
+            );
         }
     }
 }
