@@ -123,9 +123,9 @@ module _ {alive : ℕ → Bool} {link : ℕ → ℕ → Bool} {n s : ℕ} {m l q
     rest = c .rest;
     done = c .done;
     closed = λ p b. ⊎-elim
-      (λ (e : p ≡ head). subst (λ (i : ℕ). (j : ℕ) → link (getD q i 0) j ≡ true → Seen m j) (sym e) all)
-      (λ (g : p < head). c .closed p g)
-      (eq-or-lt-of-le (omega arith));
+        (λ (e : p ≡ head). subst (λ (i : ℕ). (j : ℕ) → link (getD q i 0) j ≡ true → Seen m j) (sym e) all)
+        (λ (g : p < head). c .closed p g)
+        (eq-or-lt-of-le (omega arith));
   }
 
   -- the worklist is empty: the patch of s is marked
@@ -139,9 +139,9 @@ module _ {alive : ℕ → Bool} {link : ℕ → ℕ → Bool} {n s : ℕ} {m l q
     label = c .label;
     rest = c .rest;
     done = λ a k b r. ⊎-elim
-      (λ (e : a ≡ s). along first (subst (λ (i : ℕ). Reach alive link i k) e r))
-      (λ (g : a < s). c .done a k g r)
-      (eq-or-lt-of-le (omega arith));
+        (λ (e : a ≡ s). along first (subst (λ (i : ℕ). Reach alive link i k) e r))
+        (λ (g : a < s). c .done a k g r)
+        (eq-or-lt-of-le (omega arith));
     closed = λ p b. c .closed p (omega arith);
   }
     where
@@ -171,7 +171,7 @@ module _ {alive : ℕ → Bool} {link : ℕ → ℕ → Bool} {n s head x : ℕ}
     search = search-visit (small j) (λ a. subst (Reach alive link s) (sym e) (step (reached .1) (lead (reached .0) (subst (λ (k : ℕ). alive k ≡ true) e a)))) (c .search) v;
     kept = λ k y. visit-kept k v (c .kept k y);
     visited = below-more (λ (i : ℕ). alive (f i) ≡ true → Seen m′ (f i)) d (λ i h a. visit-kept (f i) v (c .visited i h a))
-      (subst (λ (k : ℕ). alive k ≡ true → Seen m′ k) e (visit-seen v (λ a. omega (arith, small j a, c .search .sized .marks))));
+        (subst (λ (k : ℕ). alive k ≡ true → Seen m′ k) e (visit-seen v (λ a. omega (arith, small j a, c .search .sized .marks))));
   }
     where
       reached : (alive x ≡ true) × Reach alive link s x

@@ -105,9 +105,10 @@ module _ (n : ℕ) (near : ℕ → ℕ) (sides dropped : List ℕ) where
 
     -- two survivors have the same label exactly when one is reached from the other
     pub same-label : (a b : ℕ) → alive a ≡ true → alive b ≡ true → (label a ≡ label b → Reach alive link a b) × (Reach alive link a b → label a ≡ label b)
-    same-label a b p q =
-        ((λ e. reach-trans (reach-back (label-some n near sides dropped a p .reached)) (rw e (label-some n near sides dropped b q .reached))),
-        λ r. le-antisymm (lower (reach-back r)) (lower r))
+    same-label a b p q = (
+      (λ e. reach-trans (reach-back (label-some n near sides dropped a p .reached)) (rw e (label-some n near sides dropped b q .reached))),
+      λ r. le-antisymm (lower (reach-back r)) (lower r),
+    )
 
     label-le : (k : ℕ) → alive k ≡ true → label k ≤ k
     label-le k e = label-some n near sides dropped k e .least k (here e)
@@ -141,8 +142,8 @@ module _ (n : ℕ) (near : ℕ → ℕ) (sides dropped : List ℕ) where
     -- and any whole patch is such a one
     by-label : (W : ℕ → Bool) (p : WholePatch alive link W) (k : ℕ) → W k ≡ inPatch n labels (label (p .seed)) k
     by-label W p k = both-ways (W k) (inPatch n labels (label (p .seed)) k)
-      (λ e. patch-out (p .seed) k (p .survives) (p .inner k e))
-      (λ e. p .outer k (patch-in (p .seed) k (p .survives) e))
+        (λ e. patch-out (p .seed) k (p .survives) (p .inner k e))
+        (λ e. p .outer k (patch-in (p .seed) k (p .survives) e))
 
     -- the least rank of a patch is its own label
     own-label : (a : ℕ) → alive a ≡ true → (alive (label a) ≡ true) × (label (label a) ≡ label a)
@@ -166,7 +167,7 @@ module _ (n : ℕ) (near : ℕ → ℕ) (sides dropped : List ℕ) where
       member = first-of;
       apart = λ s t h g e f same. sym (root s h e .1) ∙ patch-of t s (sym (same s) ∙ first-of s h e .member) .1;
       all = λ W p. let w = own-label (p .seed) (p .survives) in
-        (label (p .seed), survives-lt n dropped (label (p .seed)) (w .0), eq-eqb (label (label (p .seed))) (label (p .seed)) (w .1), by-label W p);
+          (label (p .seed), survives-lt n dropped (label (p .seed)) (w .0), eq-eqb (label (label (p .seed))) (label (p .seed)) (w .1), by-label W p);
     }
 
     -- ---- the winner

@@ -8,7 +8,6 @@ ghost use lib.ListN.{getD};
 ghost use Rattle.view.specs.View.{maxPoints, squareSides};
 ghost use Rattle.components.specs.Patches.{at, survives, linked, labelsOf, countOf, sizesOf, largestAt, winnerOf, othersBy, othersOf, placeHas, indexMarks};
 ghost use Rattle.components.specs.Search.{Fit, Ranks, Sized, Visit, unlabelled, Search, Advanced};
-
 use view::MAX_POINTS;
 use view::NEAR_SIZE;
 
@@ -278,7 +277,11 @@ fn gathered(by_idx: &[u16; MAX_POINTS], marks: &[u8; MAX_POINTS], n: usize) -> [
 }
 
 // The marks of cells as marks of indices: an index with a marked cell is marked at each of its cells.
-pub fn index_marks(by_idx: &[u16; MAX_POINTS], marks: &[u8; MAX_POINTS], n: usize) -> [u8; MAX_POINTS]
+pub fn index_marks(
+    by_idx: &[u16; MAX_POINTS],
+    marks: &[u8; MAX_POINTS],
+    n: usize,
+) -> [u8; MAX_POINTS]
     requires { ⌜ (n ≤ maxPoints) × Ranks n (now «by_idx») ⌝ }
     ensures { λ r. ⌜ r ≡ indexMarks n (at (now («by_idx» .entry))) (now (marks .entry)) ⌝ }
 {

@@ -13,7 +13,7 @@ use Rattle.float.specs.Constants.{epsilon}
 use Rattle.view.specs.View.{View, rankAt, present, own, nextU, prevU, nextV, prevV, degreeAt}
 use Rattle.folds.specs.Marked.{bit}
 use Rattle.edges.specs.Edges.{edgeAt}
-use Rattle.edge_shape.specs.declared.EdgeShapeParams.{EdgeShapeParams}
+use Rattle.sheet_file.specs.declared.EdgeShapeParams.{EdgeShapeParams}
 use Rattle.edge_shape.specs.declared.Side.{Side}
 use Rattle.edge_shape.specs.declared.Measure.{Measure}
 use Rattle.edge_shape.specs.declared.Measure.the-variants.{Absent, Held}
@@ -76,7 +76,7 @@ cellAt w t =
 unfoldable pub within : EdgeShapeParams → Measure → Bool
 unfolding lt
 within g Absent = false
-within g (Held c r) = not (lt c (g .«cell_cosine_min»)) && not (lt (g .«cell_ratio_max») r)
+within g (Held c r) = not (lt c (g .«cell_opposite_cos_min»)) && not (lt (g .«cell_opposite_length_ratio_max») r)
 
 abbrev pub isAdjacent : Cell → Bool
 isAdjacent Incomplete = false
@@ -101,7 +101,7 @@ diagonal = 6
 abbrev pub continuationFails : EdgeShapeParams → ℕ → ℕ → Measure → Bool
 continuationFails g degree valid Absent = false
 continuationFails g degree valid (Held c r) =
-    lt c (g .«continuation_cosine_min») || ((leb degree 3 || leb valid 2) && lt (g .«continuation_ratio_max») r)
+    lt c (g .«continuation_cos_min») || ((leb degree 3 || leb valid 2) && lt (g .«continuation_length_ratio_max») r)
 
 unfoldable pub reasonOf : EdgeShapeParams → ℕ → ℕ → ℕ → Measure → Reason
 unfolding lt

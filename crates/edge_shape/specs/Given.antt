@@ -19,7 +19,7 @@ use Rattle.edge_shape.specs.declared.Cell.the-variants.{Incomplete, Comp
 use Rattle.edge_shape.specs.declared.Reason.{Reason}
 use Rattle.edge_shape.specs.declared.Reason.the-variants.{NoReason, LowCardinalDegree, BadContinuation, NoValidAdjacentCell}
 use Rattle.edge_shape.specs.declared.Figures.{Figures}
-use Rattle.edge_shape.specs.declared.EdgeShapeParams.{EdgeShapeParams}
+use Rattle.sheet_file.specs.declared.EdgeShapeParams.{EdgeShapeParams}
 use Rattle.edge_shape.specs.Figures.{sideAt, compared, noted, continuationAt, continuationsAt, cellAt, isAdjacent, isValid, notedCell, continuationFails, reasonOf, figuresBy, figuresAt, diagonal}
 
 -- the view of the tables that the figures need

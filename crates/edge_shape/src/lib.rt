@@ -1,4 +1,5 @@
 // Edge figures and edge reasons: how edges continue through a corner, and the shape of the cells around it.
+use sheet_file::EdgeShapeParams;
 use view::MAX_POINTS;
 use view::NEAR_SIZE;
 ghost use mathlib.Core.Path.{_≡_};
@@ -12,14 +13,6 @@ ghost use Rattle.folds.specs.Column.{column};
 ghost use Rattle.view.specs.View.{viewAt, maxPoints, nextU, nextV, rankAt, present, degreeAt};
 ghost use Rattle.edge_shape.specs.Figures.{sideAt, compared, noted, continuationAt, cellAt, within, continuationFails, isAdjacent, isValid, notedCell, reasonOf, reasonNumber, figuresBy, figuresAt, noFigures};
 ghost use Rattle.edge_shape.specs.Given.{seen, Lengths, Given, Counted};
-
-pub struct EdgeShapeParams {
-    pub min_cardinal_degree: u8,
-    pub continuation_cosine_min: f32,
-    pub continuation_ratio_max: f32,
-    pub cell_cosine_min: f32,
-    pub cell_ratio_max: f32,
-}
 
 pub struct Side {
     pub dx: f32,
@@ -191,10 +184,10 @@ fn is_within(g: EdgeShapeParams, m: Measure) -> bool
     match m {
         Measure::Absent => false,
         Measure::Held(c, r) => {
-            if c < g.cell_cosine_min {
+            if c < g.cell_opposite_cos_min {
                 return false;
             }
-            if g.cell_ratio_max < r {
+            if g.cell_opposite_length_ratio_max < r {
                 return false;
             }
             true
@@ -246,14 +239,14 @@ fn continuation_fails(g: EdgeShapeParams, degree: u8, valid: u8, m: Measure) -> 
     match m {
         Measure::Absent => false,
         Measure::Held(c, r) => {
-            if c < g.continuation_cosine_min {
+            if c < g.continuation_cos_min {
                 return true;
             }
             if degree <= 3 {
-                return g.continuation_ratio_max < r;
+                return g.continuation_length_ratio_max < r;
             }
             if valid <= 2 {
-                return g.continuation_ratio_max < r;
+                return g.continuation_length_ratio_max < r;
             }
             false
         }

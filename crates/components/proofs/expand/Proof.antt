@@ -105,12 +105,14 @@ loop-again c =
     let w = c .before .before .before .before in
     let l = w .before .before .before .before .before in
     let b = l .before .before .before .before in
-    let a = b .args in
-    (omega arith, l .loop .inv .1,
-    expand-more _ (λ k e. omega (arith, survives-lt (a .n) (a .dropped .now) k e, b .pre .0 .few))
-    (λ p q. link-by (a .n) (at (a .near .now)) (a .sides .now) (a .dropped .now) _ _ p q (l .loop .d) (omega arith) refl)
-    (w .wide2 .ensures ∙ ap (λ (o : ℕ). at (a .near .now) (25 * l .before .wide .result + o)) (w .before .before .offset .ensures))
-    (l .loop .inv .2) (c .visit .ensures))
+    let a = b .args in (
+      omega arith,
+      l .loop .inv .1,
+      expand-more _ (λ k e. omega (arith, survives-lt (a .n) (a .dropped .now) k e, b .pre .0 .few))
+          (λ p q. link-by (a .n) (at (a .near .now)) (a .sides .now) (a .dropped .now) _ _ p q (l .loop .d) (omega arith) refl)
+          (w .wide2 .ensures ∙ ap (λ (o : ℕ). at (a .near .now) (25 * l .before .wide .result + o)) (w .before .before .offset .ensures))
+          (l .loop .inv .2) (c .visit .ensures),
+    )
 
 -- src/lib.rt:60:1
 returns : tie.Need-returns Inv-loop μ-loop

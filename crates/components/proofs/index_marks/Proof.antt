@@ -66,10 +66,11 @@ loop-less c = search needs
 loop-again : tie.Need-loop-again Inv-loop μ-loop
 loop-again c =
     let l = c .before .before .before in
-    let a = l .before .before .args in
-    (omega arith,
-    fill-more _ _ _ _ (omega (arith, length-replicate {A = ℕ} maxPoints 0))
-    (l .before .gathered .ensures (c .wide .result) (place c) ∙ ap (λ (v : ℕ). bit (placeHas (a .n) (at (a .by-idx .now)) (a .marks .now) v)) (c .wide .ensures)) (l .loop .inv .1))
+    let a = l .before .before .args in (
+      omega arith,
+      fill-more _ _ _ _ (omega (arith, length-replicate {A = ℕ} maxPoints 0))
+          (l .before .gathered .ensures (c .wide .result) (place c) ∙ ap (λ (v : ℕ). bit (placeHas (a .n) (at (a .by-idx .now)) (a .marks .now) v)) (c .wide .ensures)) (l .loop .inv .1),
+    )
 
 -- src/lib.rt:281:1
 returns : tie.Need-returns Inv-loop μ-loop
