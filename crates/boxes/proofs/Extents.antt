@@ -1,8 +1,8 @@
 -- How far a patch reaches a way tells of a point whether it is outermost that way. Assumes nothing.
-use mathlib.Core.Path.{_≡_, refl, sym, ap, _∙_}
-use mathlib.Core.Bool.{Bool, true, false, not, _&&_, _||_}
+use mathlib.Core.Path.{_≡_, ap, _∙_}
+use mathlib.Core.Bool.{Bool, true, not, _&&_, _||_}
 use mathlib.Core.List.{List}
-use Prim.Native.Nat.{ℕ, _-_, _^_, _≤_, _<_}
+use Prim.Native.Nat.{ℕ, _-_, _≤_, _<_}
 use native.Mathlib.Omega.{arith}
 use borrow.Author.Tests.{lt-ltb, ltb-true}
 use lib.Dec.{eqb, ltb}
@@ -11,8 +11,8 @@ use Rattle.folds.specs.Column.{column, column-at}
 use Rattle.folds.specs.Marked.{bit}
 use Rattle.folds.specs.Scattered.{larger, fold-above}
 use Rattle.view.specs.View.{maxPoints}
-use Rattle.components.specs.Patches.{at}
-use Rattle.boxes.specs.Boxes.{uOf, vOf, isLeast, isGreatest, onBoundary, Cells, extent}
+use Rattle.patches.specs.Patches.{at}
+use Rattle.boxes.specs.Boxes.{uOf, vOf, onBoundary, Cells, extent}
 
 -- the other way round
 turned : (x y : ℕ) → x ≤ 16383 → y ≤ 16383 → ltb (16383 - x) (16383 - y) ≡ ltb y x

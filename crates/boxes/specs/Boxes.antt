@@ -9,7 +9,7 @@ use Rattle.folds.specs.Below.{some}
 use Rattle.folds.specs.Column.{column}
 use Rattle.folds.specs.Marked.{bit}
 use Rattle.view.specs.View.{maxPoints}
-use Rattle.components.specs.Patches.{at, labelsOf}
+use Rattle.patches.specs.Patches.{at, labelsOf}
 
 -- u and v, each with 8003 added
 abbrev pub uOf : ℕ → ℕ

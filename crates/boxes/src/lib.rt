@@ -8,8 +8,8 @@ ghost use Rattle.folds.specs.Column.{column};
 ghost use Rattle.folds.specs.Marked.{bit};
 ghost use Rattle.folds.specs.Scattered.{larger};
 ghost use Rattle.view.specs.View.{maxPoints};
-ghost use Rattle.components.specs.Patches.{at};
-ghost use Rattle.components.specs.Search.{Fit};
+ghost use Rattle.patches.specs.Patches.{at};
+ghost use Rattle.patches.specs.Search.{Fit};
 ghost use Rattle.boxes.specs.Boxes.{Cells, extent, boundaryBy, boundaryOf};
 use view::MAX_POINTS;
 use view::NEAR_SIZE;
@@ -125,6 +125,6 @@ pub fn boundary(
     ensures { λ r. ⌜ r ≡ boundaryOf n (at (now (near .entry))) (now (sides .entry)) (now (keys .entry)) ⌝ }
 {
     let dropped = [0u8; MAX_POINTS];
-    let label = components::labels(near, &dropped, sides, n);
+    let label = patches::labels(near, &dropped, sides, n);
     boundary_by(keys, &label, n)
 }

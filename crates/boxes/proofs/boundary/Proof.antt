@@ -9,8 +9,8 @@ use lib.ListN.{replicate}
 use Rattle.folds.specs.Lists.{past-end}
 use Rattle.folds.specs.Column.{replicate-at}
 use Rattle.view.specs.View.{maxPoints}
-use Rattle.components.specs.Patches.{at, labelsOf}
-use Rattle.components.proofs.Marking.{labels-depend}
+use Rattle.patches.specs.Patches.{at, labelsOf}
+use Rattle.patches.proofs.Agreeing.{labels-depend}
 use Rattle.boxes.specs.Boxes.{boundaryBy, boundaryOf}
 use Rattle.boxes.proofs.boundary.Statement.{statement}
 use Rattle.boxes.proofs.boundary.Tie as tie

@@ -1,12 +1,11 @@
 -- `boxes::boundary_by` meets its contract. Assumes nothing.
 use mathlib.Core.Path.{_≡_}
-use mathlib.Core.Bool.{not}
-use Prim.Native.Nat.{ℕ, zero, _-_, _≤_, zero-le}
+use Prim.Native.Nat.{ℕ, _-_, _≤_, zero-le}
 use native.Mathlib.Omega.{arith}
 use borrow.Author.Needs.{needs}
-use lib.ListN.{length, replicate, length-replicate}
+use lib.ListN.{replicate, length-replicate}
 use Rattle.view.specs.View.{maxPoints}
-use Rattle.components.specs.Patches.{at}
+use Rattle.patches.specs.Patches.{at}
 use Rattle.folds.specs.Column.{Filling, fill-start, fill-more, filled}
 use Rattle.folds.specs.Marked.{bit}
 use Rattle.boxes.specs.Boxes.{onBoundary, boundaryBy}

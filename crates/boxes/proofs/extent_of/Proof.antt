@@ -1,9 +1,7 @@
 -- `boxes::extent_of` meets its contract. Assumes nothing.
 use mathlib.Core.Path.{_≡_, refl}
-use mathlib.Core.Bool.{not}
 use Prim.Native.Nat.{ℕ, zero, suc, _-_}
 use borrow.Author.Needs.{needs}
-use Rattle.components.specs.Patches.{at}
 use Rattle.boxes.specs.Boxes.{vOf, extent}
 use Rattle.boxes.proofs.extent_of.Statement.{statement}
 use Rattle.boxes.proofs.extent_of.Tie as tie

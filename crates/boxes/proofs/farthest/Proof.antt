@@ -1,16 +1,14 @@
 -- `boxes::farthest` meets its contract. Assumes nothing.
 use mathlib.Core.Path.{_≡_}
-use mathlib.Core.Bool.{not}
-use Prim.Native.Nat.{ℕ, zero, _-_, _≤_, zero-le}
+use Prim.Native.Nat.{ℕ, _-_, _≤_, zero-le}
 use native.Mathlib.Omega.{arith}
 use borrow.Author.Needs.{needs}
 use borrow.Author.Tests.{lt-ltb, le-ltb}
-use lib.Dec.{ltb}
-use lib.ListN.{length, replicate, length-replicate}
+use lib.ListN.{replicate, length-replicate}
 use Rattle.view.specs.View.{maxPoints}
-use Rattle.components.specs.Patches.{at}
+use Rattle.patches.specs.Patches.{at}
 use Rattle.folds.specs.Scattered.{Scattered, larger, scattered-none, scattered-put, scattered-skip}
-use Rattle.components.proofs.Tallies.{labelled, labels-column}
+use Rattle.patches.proofs.Gathering.{labelled, labels-column}
 use Rattle.boxes.specs.Boxes.{extent}
 use Rattle.boxes.proofs.farthest.Statement.{statement}
 use Rattle.boxes.proofs.farthest.Tie as tie

@@ -1,10 +1,7 @@
 -- `boxes::larger_of` meets its contract. Assumes nothing.
 use mathlib.Core.Path.{refl}
-use mathlib.Core.Bool.{not}
 use Prim.Native.Nat.{_-_}
 use borrow.Author.Tests.{lt-ltb, le-ltb}
-use lib.Dec.{ltb}
-use Rattle.components.specs.Patches.{at}
 use Rattle.boxes.proofs.larger_of.Statement.{statement}
 use Rattle.boxes.proofs.larger_of.Tie as tie
 

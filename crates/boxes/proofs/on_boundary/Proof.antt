@@ -1,12 +1,10 @@
 -- `boxes::on_boundary` meets its contract. Assumes nothing.
 use mathlib.Core.Path.{refl}
-use mathlib.Core.Bool.{not}
 use Prim.Native.Nat.{_-_}
 use native.Mathlib.Omega.{arith}
 use borrow.Author.Needs.{needs}
 use borrow.Author.Tests.{lt-ltb, le-ltb}
-use lib.Dec.{ltb}
-use Rattle.components.specs.Patches.{at}
+use Rattle.patches.specs.Patches.{at}
 use Rattle.boxes.specs.Boxes.{extent}
 use Rattle.boxes.proofs.on_boundary.Statement.{statement}
 use Rattle.boxes.proofs.on_boundary.Tie as tie

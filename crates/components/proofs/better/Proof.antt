@@ -1,9 +1,7 @@
 -- `components::better` meets its contract. Assumes nothing.
 use mathlib.Core.Path.{refl}
-use mathlib.Core.Bool.{not}
 use Prim.Native.Nat.{_-_}
 use borrow.Author.Tests.{lt-ltb, le-ltb}
-use lib.Dec.{ltb}
 use Rattle.components.proofs.better.Statement.{statement}
 use Rattle.components.proofs.better.Tie as tie
 

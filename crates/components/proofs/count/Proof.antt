@@ -1,12 +1,12 @@
 -- `components::count` meets its contract. Assumes nothing.
 use mathlib.Core.Path.{_≡_, sym, ap}
-use mathlib.Core.Bool.{not}
 use Prim.Native.Nat.{ℕ, _-_, _≤_, zero-le}
 use native.Mathlib.Omega.{arith}
 use borrow.Author.Needs.{needs}
 use lib.Dec.{eqb}
 use Rattle.folds.specs.Below.{tally, tally-none, tally-le, tally-turn}
-use Rattle.components.specs.Patches.{at, countOf}
+use Rattle.patches.specs.Patches.{at}
+use Rattle.components.specs.Components.{countOf}
 use Rattle.components.proofs.count.Statement.{statement}
 use Rattle.components.proofs.count.Tie as tie
 

@@ -1,10 +1,8 @@
 -- `components::counted` meets its contract. Assumes nothing.
 use mathlib.Core.Path.{refl}
-use mathlib.Core.Bool.{not}
 use Prim.Native.Nat.{_-_}
 use borrow.Author.Needs.{needs}
 use borrow.Author.Tests.{eq-eqb, ne-eqb}
-use lib.Dec.{eqb}
 use Rattle.components.proofs.counted.Statement.{statement}
 use Rattle.components.proofs.counted.Tie as tie
 

@@ -1,15 +1,13 @@
 -- `components::gathered` meets its contract. Assumes nothing.
 use mathlib.Core.Path.{_≡_}
-use mathlib.Core.Bool.{not}
 use Prim.Native.Nat.{ℕ, _-_, _≤_, _<_, zero-le}
 use native.Mathlib.Omega.{arith}
 use borrow.Author.Needs.{needs}
 use borrow.Author.Tests.{eq-eqb, ne-eqb}
-use lib.Dec.{eqb}
-use lib.ListN.{length, replicate, length-replicate}
+use lib.ListN.{replicate, length-replicate}
 use Rattle.view.specs.View.{maxPoints}
 use Rattle.folds.specs.Scattered.{Scattered, markIt, scattered-none, scattered-put, scattered-skip}
-use Rattle.components.specs.Patches.{at}
+use Rattle.patches.specs.Patches.{at}
 use Rattle.components.proofs.Tallies.{isMarked, places-are}
 use Rattle.components.proofs.gathered.Statement.{statement}
 use Rattle.components.proofs.gathered.Tie as tie

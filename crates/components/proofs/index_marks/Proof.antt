@@ -3,11 +3,12 @@ use mathlib.Core.Path.{_≡_, ap, _∙_}
 use Prim.Native.Nat.{ℕ, _-_, _≤_, _<_, zero-le}
 use native.Mathlib.Omega.{arith}
 use borrow.Author.Needs.{needs}
-use lib.ListN.{length, replicate, length-replicate}
+use lib.ListN.{replicate, length-replicate}
 use Rattle.view.specs.View.{maxPoints}
 use Rattle.folds.specs.Column.{Filling, fill-start, fill-more, filled}
 use Rattle.folds.specs.Marked.{bit}
-use Rattle.components.specs.Patches.{at, placeHas, indexMarks}
+use Rattle.patches.specs.Patches.{at}
+use Rattle.components.specs.Components.{placeHas, indexMarks}
 use Rattle.components.proofs.index_marks.Statement.{statement}
 use Rattle.components.proofs.index_marks.Tie as tie
 

@@ -1,11 +1,11 @@
 -- `components::largest` meets its contract. Assumes nothing.
 use mathlib.Core.Path.{_≡_, sym, _∙_}
-use mathlib.Core.Bool.{not}
 use Prim.Native.Nat.{_-_, _≤_, _<_, zero-le}
 use native.Mathlib.Omega.{arith}
 use borrow.Author.Needs.{needs}
 use Rattle.view.specs.View.{maxPoints}
-use Rattle.components.specs.Patches.{at, largestAt}
+use Rattle.patches.specs.Patches.{at}
+use Rattle.components.specs.Components.{largestAt}
 use Rattle.components.proofs.Tallies.{largest-none, largest-more, largest-le}
 use Rattle.components.proofs.largest.Statement.{statement}
 use Rattle.components.proofs.largest.Tie as tie

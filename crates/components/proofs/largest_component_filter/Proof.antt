@@ -3,7 +3,8 @@ use mathlib.Core.Path.{_≡_, ap, _∙_}
 use mathlib.Core.List.{List}
 use Prim.Native.Nat.{ℕ}
 use borrow.Author.Needs.{needs}
-use Rattle.components.specs.Patches.{at, countOf, winnerOf, othersBy, othersOf, indexMarks}
+use Rattle.patches.specs.Patches.{at}
+use Rattle.components.specs.Components.{countOf, winnerOf, othersBy, othersOf, indexMarks}
 use Rattle.components.proofs.largest_component_filter.Statement.{statement}
 use Rattle.components.proofs.largest_component_filter.Tie as tie
 

@@ -1,9 +1,7 @@
 -- `components::other` meets its contract. Assumes nothing.
 use mathlib.Core.Path.{refl}
-use mathlib.Core.Bool.{not}
 use Prim.Native.Nat.{_-_}
 use borrow.Author.Tests.{lt-ltb, le-ltb, eq-eqb, ne-eqb}
-use lib.Dec.{eqb, ltb}
 use Rattle.components.proofs.other.Statement.{statement}
 use Rattle.components.proofs.other.Tie as tie
 

@@ -5,11 +5,12 @@ use Prim.Native.Nat.{ℕ, _-_, _≤_, zero-le}
 use native.Mathlib.Omega.{arith}
 use borrow.Author.Needs.{needs}
 use lib.Dec.{eqb, ltb}
-use lib.ListN.{length, replicate, length-replicate}
+use lib.ListN.{replicate, length-replicate}
 use Rattle.view.specs.View.{maxPoints}
 use Rattle.folds.specs.Column.{Filling, fill-start, fill-more, filled}
 use Rattle.folds.specs.Marked.{bit}
-use Rattle.components.specs.Patches.{at, isOther, othersBy}
+use Rattle.patches.specs.Patches.{at}
+use Rattle.components.specs.Components.{isOther, othersBy}
 use Rattle.components.proofs.others.Statement.{statement}
 use Rattle.components.proofs.others.Tie as tie
 

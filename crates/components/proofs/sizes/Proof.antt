@@ -1,17 +1,16 @@
 -- `components::sizes` meets its contract. Assumes nothing.
 use mathlib.Core.Path.{_≡_}
-use mathlib.Core.Bool.{not}
 use Prim.Native.Nat.{ℕ, _-_, _≤_, zero-le}
 use native.Mathlib.Omega.{arith}
 use borrow.Author.Needs.{needs}
 use borrow.Author.Tests.{lt-ltb, le-ltb}
-use lib.Dec.{ltb}
-use lib.ListN.{length, replicate, length-replicate}
+use lib.ListN.{replicate, length-replicate}
 use Rattle.folds.specs.Column.{replicate-at}
 use Rattle.view.specs.View.{maxPoints}
 use Rattle.folds.specs.Scattered.{Scattered, oneMore, scattered-none, scattered-put, scattered-skip, counted-le}
-use Rattle.components.specs.Patches.{at}
-use Rattle.components.proofs.Tallies.{labelled, sizes-are}
+use Rattle.patches.specs.Patches.{at}
+use Rattle.patches.proofs.Gathering.{labelled}
+use Rattle.components.proofs.Tallies.{sizes-are}
 use Rattle.components.proofs.sizes.Statement.{statement}
 use Rattle.components.proofs.sizes.Tie as tie
 

@@ -1,10 +1,9 @@
 -- `components::winner` meets its contract. Assumes nothing.
 use mathlib.Core.Path.{ap, _∙_}
-use mathlib.Core.Bool.{not}
 use Prim.Native.Nat.{ℕ, _-_}
 use borrow.Author.Needs.{needs}
 use mathlib.Core.List.{List}
-use Rattle.components.specs.Patches.{largestAt, winnerOf}
+use Rattle.components.specs.Components.{largestAt, winnerOf}
 use Rattle.components.proofs.winner.Statement.{statement}
 use Rattle.components.proofs.winner.Tie as tie
 

@@ -1,4 +1,4 @@
--- `components::blank` meets its contract. Assumes nothing.
+-- `patches::blank` meets its contract. Assumes nothing.
 use mathlib.Core.Path.{_≡_, refl}
 use Prim.Native.Nat.{ℕ, _-_, _≤_, zero-le}
 use native.Mathlib.Omega.{arith}
@@ -6,8 +6,8 @@ use borrow.Author.Needs.{needs}
 use lib.ListN.{replicate, length-replicate}
 use Rattle.folds.specs.Column.{Filling, fill-start, fill-more, filled}
 use Rattle.view.specs.View.{maxPoints}
-use Rattle.components.proofs.blank.Statement.{statement}
-use Rattle.components.proofs.blank.Tie as tie
+use Rattle.patches.proofs.blank.Statement.{statement}
+use Rattle.patches.proofs.blank.Tie as tie
 
 abbrev Inv-loop : tie.InvT-loop
 Inv-loop n none label₀ i₀ label i = (i ≤ n) × Filling (replicate maxPoints 0) 0 (λ (k : ℕ). n) i label

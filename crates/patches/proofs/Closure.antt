@@ -1,20 +1,19 @@
 -- The closure that computes is reachability: `via` at n tells of two ranks below n whether the one reaches the other. Over any test of
 -- survival and any test of a link that joins survivors only. Assumes nothing.
-use mathlib.Core.Path.{_≡_, refl, sym, ap, _∙_, subst}
+use mathlib.Core.Path.{_≡_, refl, sym, _∙_, subst}
 use mathlib.Core.Bool.{Bool, true, false, _&&_, _||_, true≢false}
 use mathlib.Core.Logic.{_⊎_, inl, inr}
-use mathlib.Core.List.{List, []}
+use mathlib.Core.List.{[]}
 use Prim.Native.Nat.{ℕ, zero, suc, _≤_, _<_}
 use native.Mathlib.Decide.{decLt}
 use native.Mathlib.Nat.{eq-or-lt-of-le}
 use native.Mathlib.Omega.{arith}
 use borrow.Author.Tests.{eq-eqb, eqb-true}
 use lib.Dec.{eqb}
-use lib.ListN.{getD}
 use Rattle.folds.specs.Below.{and-left, and-right, and-both, not-true, first, first-hit, first-miss, first-holds, first-before}
 use Rattle.folds.specs.Lists.{listOf, list-at}
-use Rattle.components.specs.Patches.{test, square, via}
-use Rattle.components.specs.Reach.{Reach, here, step, Labelled}
+use Rattle.patches.specs.Patches.{test, square, via}
+use Rattle.patches.specs.Reach.{Reach, here, step, Labelled}
 
 or-left : (a b : Bool) → a ≡ true → a || b ≡ true
 or-left a b e = rw e

@@ -1,14 +1,13 @@
 -- What it is to survive, and what a link between two survivors is. Assumes nothing.
-use mathlib.Core.Path.{_≡_, refl, sym, ap, _∙_, subst}
-use mathlib.Core.Bool.{Bool, true, false, _&&_}
+use mathlib.Core.Path.{_≡_}
+use mathlib.Core.Bool.{true, _&&_}
 use mathlib.Core.List.{List}
-use Prim.Native.Nat.{ℕ, _+_, _*_, _≤_, _<_}
-use native.Mathlib.Omega.{arith}
+use Prim.Native.Nat.{ℕ, _+_, _*_, _<_}
 use borrow.Author.Tests.{eq-eqb, eqb-true, lt-ltb, ltb-true}
 use lib.Dec.{eqb, ltb}
-use lib.ListN.{length, getD}
-use Rattle.folds.specs.Below.{some, some-yes, some-at, and-left, and-right, and-both}
-use Rattle.components.specs.Patches.{at, survives, touches, linked}
+use lib.ListN.{length}
+use Rattle.folds.specs.Below.{some-yes, some-at, and-left, and-right, and-both}
+use Rattle.patches.specs.Patches.{at, survives, touches, linked}
 
 module _ (n : ℕ) (dropped : List ℕ) (k : ℕ) where
   pub survives-lt : survives n dropped k ≡ true → k < n

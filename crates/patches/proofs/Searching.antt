@@ -1,10 +1,10 @@
 -- Laws of the search for patches: a visit keeps the state, so does one entry of the worklist more, and at its end the next patch may begin.
 -- Assumes nothing.
 use mathlib.Core.Path.{_≡_, refl, sym, ap, _∙_, subst}
-use mathlib.Core.Bool.{Bool, true, false, true≢false}
-use mathlib.Core.Logic.{_⊎_, inl, inr, ⊎-elim}
+use mathlib.Core.Bool.{Bool, true}
+use mathlib.Core.Logic.{_⊎_, ⊎-elim}
 use mathlib.Core.List.{List, [], _∷_}
-use Prim.{Dec, yes, no}
+use Prim.{yes, no}
 use Prim.Native.Nat.{ℕ, zero, suc, _+_, _≤_, _<_, zero-le, suc-le-suc}
 use native.Mathlib.Nat.{le-step, eq-or-lt-of-le}
 use native.Mathlib.Decide.{ℕ-discrete, decLt}
@@ -12,10 +12,10 @@ use native.Mathlib.Omega.{arith}
 use borrow.Author.Count.{below-more}
 use lib.ListN.{length, getD, set, length-set, replicate, length-replicate}
 use lib.Seq.{getD-set-same, getD-set-other}
-use Rattle.folds.specs.Column.{column, length-column, replicate-at}
+use Rattle.folds.specs.Column.{length-column, replicate-at}
 use Rattle.view.specs.View.{maxPoints}
-use Rattle.components.specs.Reach.{Reach, here, step, Labelled}
-use Rattle.components.specs.Search.{Seen, marked, Sized, Visit, stays, pushed, unlabelled, Search, Advanced}
+use Rattle.patches.specs.Reach.{Reach, here, step}
+use Rattle.patches.specs.Search.{Seen, marked, Visit, stays, pushed, unlabelled, Search, Advanced}
 
 pub marked-le : (m : List ℕ) → marked m ≤ length m
 unfolding marked

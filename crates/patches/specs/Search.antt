@@ -1,22 +1,18 @@
 -- The state of the search for patches: the marks m, set when a rank is put on the worklist; the labels l; the worklist q with t entries.
 -- These are the contracts of the inner functions. Assumes nothing.
 use mathlib.Core.Path.{_≡_}
-use mathlib.Core.Bool.{Bool, true, false}
+use mathlib.Core.Bool.{Bool, true}
 use mathlib.Core.List.{List, [], _∷_}
 use Prim.Native.Nat.{ℕ, zero, suc, _+_, _≤_, _<_}
 use lib.ListN.{length, getD, set}
 use Rattle.folds.specs.Column.{column}
 use Rattle.view.specs.View.{maxPoints}
-use Rattle.components.specs.Reach.{Reach, Labelled}
+use Rattle.patches.specs.Reach.{Reach, Labelled}
 
 -- what a caller sees to: there is room for n points, and each offset number is below 25
 pub record Fit (n : ℕ) (sides : List ℕ) : Type 0 where
   pub few : n ≤ maxPoints
   pub offsets : (i : ℕ) → i < length sides → getD sides i 0 < 25
-
--- the place of each index is a rank
-pub record Ranks (n : ℕ) (byIdx : List ℕ) : Type 0 where
-  pub rank : (k : ℕ) → k < n → getD byIdx k 0 < n
 
 -- rank k is marked
 abbrev pub Seen : List ℕ → ℕ → Type 0

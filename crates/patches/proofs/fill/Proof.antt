@@ -1,16 +1,16 @@
--- `components::fill` meets its contract. The worklist is searched to its end. Assumes nothing.
+-- `patches::fill` meets its contract. The worklist is searched to its end. Assumes nothing.
 use mathlib.Core.Path.{_≡_}
 use mathlib.Core.Bool.{true}
 use Prim.Native.Nat.{_-_, _<_}
 use native.Mathlib.Omega.{arith}
 use borrow.Author.Needs.{needs}
 use Rattle.view.specs.View.{maxPoints}
-use Rattle.components.specs.Patches.{at, survives, linked}
-use Rattle.components.specs.Search.{Seen, Search}
-use Rattle.components.proofs.Surviving.{survives-lt}
-use Rattle.components.proofs.Searching.{marked-le, search-start, search-end}
-use Rattle.components.proofs.fill.Statement.{statement}
-use Rattle.components.proofs.fill.Tie as tie
+use Rattle.patches.specs.Patches.{at, survives, linked}
+use Rattle.patches.specs.Search.{Seen, Search}
+use Rattle.patches.proofs.Surviving.{survives-lt}
+use Rattle.patches.proofs.Searching.{marked-le, search-start, search-end}
+use Rattle.patches.proofs.fill.Statement.{statement}
+use Rattle.patches.proofs.fill.Tie as tie
 
 abbrev Inv-loop : tie.InvT-loop
 Inv-loop near dropped sides n s seen₀ label₀ queue₀ start tail₀ head₀ seen label queue tail head =

@@ -1,23 +1,11 @@
--- Reachability along shared edges, survivor to survivor; whole patches; and what the kept patch is. Over any test of survival `alive` and
--- any test of a link between two ranks. Assumes nothing.
+-- Whole patches, and what the kept patch is: what the theorems say. Over any test of survival `alive` and any test of a link between two
+-- ranks. Assumes nothing.
 use mathlib.Core.Path.{_≡_}
 use mathlib.Core.Logic.{_⊎_}
 use mathlib.Core.Bool.{Bool, true, false}
-use mathlib.Core.List.{List}
-use Prim.Native.Nat.{ℕ, _+_, _-_, _*_, _≤_, _<_}
-use lib.Dec.{eqb}
-use lib.ListN.{length, getD}
-use Rattle.folds.specs.Below.{some, every, tally}
-
--- "a survivor with every survivor reached from it by steps over shared edges, survivor to survivor": the survivor a reaches ..
-pub data Reach (alive : ℕ → Bool) (link : ℕ → ℕ → Bool) (a : ℕ) : ℕ → Type 0 where
-  here : alive a ≡ true → Reach alive link a a
-  step : {b c : ℕ} → Reach alive link a b → link b c ≡ true → Reach alive link a c
-
--- v is the least rank from which k is reached
-pub record Labelled (alive : ℕ → Bool) (link : ℕ → ℕ → Bool) (k v : ℕ) : Type 0 where
-  pub reached : Reach alive link v k
-  pub least : (a : ℕ) → Reach alive link a k → v ≤ a
+use Prim.Native.Nat.{ℕ, _≤_, _<_}
+use Rattle.folds.specs.Below.{tally}
+use Rattle.patches.specs.Reach.{Reach}
 
 -- W is a whole patch
 pub record WholePatch (alive : ℕ → Bool) (link : ℕ → ℕ → Bool) (W : ℕ → Bool) : Type 0 where
@@ -46,14 +34,3 @@ pub record Counted (alive : ℕ → Bool) (link : ℕ → ℕ → Bool) (n : ℕ
   pub member : (s : ℕ) → s < n → roots s ≡ true → Smallest (patch s) s
   pub apart : (s t : ℕ) → s < n → t < n → roots s ≡ true → roots t ≡ true → ((k : ℕ) → patch s k ≡ patch t k) → s ≡ t
   pub all : (W : ℕ → Bool) → WholePatch alive link W → (s : ℕ) × (s < n) × (roots s ≡ true) × ((k : ℕ) → W k ≡ patch s k)
-
--- ---- what the theorems ask of the table and of the list of offsets
-
--- j is at offset d of k just where k is at the opposite offset, number 24 - d, of j
-pub record Mirrored (n : ℕ) (near : ℕ → ℕ) : Type 0 where
-  pub back : (k j d : ℕ) → k < n → j < n → d < 25 → near (25 * k + d) ≡ j → near (25 * j + (24 - d)) ≡ k
-
--- the list has each offset's opposite
-unfoldable pub paired : List ℕ → Bool
-unfolding every some
-paired sides = every (λ (i : ℕ). some (λ (j : ℕ). eqb (getD sides j 0) (24 - getD sides i 0)) (length sides)) (length sides)

@@ -1,16 +1,16 @@
--- `components::expand` meets its contract. The state of the search is kept by each visit; each neighbour in a direction below d that survives is marked. Assumes nothing.
+-- `patches::expand` meets its contract. The state of the search is kept by each visit; each neighbour in a direction below d that survives is marked. Assumes nothing.
 use mathlib.Core.Path.{refl, ap, _∙_}
 use mathlib.Core.List.{List}
 use Prim.Native.Nat.{ℕ, _+_, _*_, _-_, _≤_, _<_}
 use native.Mathlib.Omega.{arith}
 use borrow.Author.Needs.{needs}
 use lib.ListN.{length}
-use Rattle.components.specs.Patches.{at, survives, linked}
+use Rattle.patches.specs.Patches.{at, survives, linked}
 use Rattle.view.specs.View.{maxPoints}
-use Rattle.components.proofs.Surviving.{survives-lt, link-to, link-side, link-by}
-use Rattle.components.proofs.Searching.{marked-le, Expanding, expand-start, expand-more, expand-end}
-use Rattle.components.proofs.expand.Statement.{statement}
-use Rattle.components.proofs.expand.Tie as tie
+use Rattle.patches.proofs.Surviving.{survives-lt, link-to, link-side, link-by}
+use Rattle.patches.proofs.Searching.{marked-le, Expanding, expand-start, expand-more, expand-end}
+use Rattle.patches.proofs.expand.Statement.{statement}
+use Rattle.patches.proofs.expand.Tie as tie
 
 -- the rank at the i-th offset from x
 abbrev side : (near sides : List ℕ) (x i : ℕ) → ℕ

@@ -1,14 +1,13 @@
--- `components::visit` meets its contract. A rank that does not survive, or that is marked, changes nothing; any other is stored in the three arrays, and there is room since its
+-- `patches::visit` meets its contract. A rank that does not survive, or that is marked, changes nothing; any other is stored in the three arrays, and there is room since its
 -- own mark is not set. Assumes nothing.
 use Prim.Native.Nat.{_<_}
 use native.Mathlib.Omega.{arith}
 use borrow.Author.Needs.{needs}
-use Rattle.components.specs.Patches.{survives}
-use Rattle.components.specs.Search.{stays, pushed}
-use Rattle.components.proofs.Surviving.{survives-lt, survives-zero, survivor}
-use Rattle.components.proofs.Searching.{marked-room}
-use Rattle.components.proofs.visit.Statement.{statement}
-use Rattle.components.proofs.visit.Tie as tie
+use Rattle.patches.specs.Search.{stays, pushed}
+use Rattle.patches.proofs.Surviving.{survives-lt, survives-zero, survivor}
+use Rattle.patches.proofs.Searching.{marked-room}
+use Rattle.patches.proofs.visit.Statement.{statement}
+use Rattle.patches.proofs.visit.Tie as tie
 
 returns : tie.Need-returns
 returns c = let a = c .before .args in stays (λ e. absurd (omega (arith, survives-lt (a .n) (a .dropped .now) (a .j) e)))

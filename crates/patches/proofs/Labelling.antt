@@ -1,19 +1,19 @@
 -- After the search the labels are those of the definition; and what the definition's labels are. Assumes nothing.
-use mathlib.Core.Path.{_≡_, refl, sym, ap, _∙_, subst}
+use mathlib.Core.Path.{_≡_, refl, sym, _∙_}
 use mathlib.Core.Bool.{Bool, true, false, false≢true}
 use mathlib.Core.List.{List}
-use Prim.Native.Nat.{ℕ, _+_, _*_, _≤_, _<_}
+use Prim.Native.Nat.{ℕ, _≤_, _<_}
 use native.Mathlib.Decide.{ℕ-discrete}
 use native.Mathlib.Omega.{arith}
-use lib.ListN.{length, getD, replicate, length-replicate}
+use lib.ListN.{getD, length-replicate}
 use Rattle.folds.specs.Below.{first}
-use Rattle.folds.specs.Column.{column, column-at, column-over, Filling, filled, replicate-at}
+use Rattle.folds.specs.Column.{column-at, column-over, filled, replicate-at}
 use Rattle.view.specs.View.{maxPoints}
-use Rattle.components.specs.Patches.{at, survives, linked, test, via, labelsBy, labelsOf}
-use Rattle.components.specs.Reach.{Reach, here, Labelled}
-use Rattle.components.specs.Search.{Seen, unlabelled, Search}
-use Rattle.components.proofs.Surviving.{survives-lt, link-from, link-to}
-use Rattle.components.proofs.Closure.{Joins, reach-to, first-label, first-none, first-labelled}
+use Rattle.patches.specs.Patches.{at, survives, linked, test, via, labelsBy, labelsOf}
+use Rattle.patches.specs.Reach.{here, Labelled}
+use Rattle.patches.specs.Search.{Search}
+use Rattle.patches.proofs.Surviving.{survives-lt, link-from, link-to}
+use Rattle.patches.proofs.Closure.{Joins, reach-to, first-label, first-none, first-labelled}
 
 module _ (n : ℕ) (near : ℕ → ℕ) (sides dropped : List ℕ) where
   -- links and survivors of a sheet
@@ -50,3 +50,14 @@ module _ (n : ℕ) (near : ℕ → ℕ) (sides dropped : List ℕ) where
 
   pub label-some : (k : ℕ) → alive k ≡ true → Labelled alive link k (at (labelsOf n near sides dropped) k)
   label-some k e = rw (label-at k (survives-lt n dropped k e)) (first-labelled n alive link joins k e)
+
+  pub label-le : (k : ℕ) → alive k ≡ true → at (labelsOf n near sides dropped) k ≤ k
+  label-le k e = label-some k e .least k (here e)
+
+  -- a rank with a label below n survives
+  pub label-lives : (k : ℕ) → k < n → at (labelsOf n near sides dropped) k < n → alive k ≡ true
+  label-lives k h l = go (alive k) refl
+    where
+      go : (b : Bool) → alive k ≡ b → alive k ≡ true
+      go true e = e
+      go false e = absurd (omega (arith, l, label-none k h (λ t. false≢true (sym e ∙ t))))

@@ -1,13 +1,13 @@
--- `components::labels` meets its contract. After the last patch the labels are those of the definition. Assumes nothing.
+-- `patches::labels` meets its contract. After the last patch the labels are those of the definition. Assumes nothing.
 use Prim.Native.Nat.{_-_, _≤_}
 use native.Mathlib.Omega.{arith}
 use borrow.Author.Needs.{needs}
-use Rattle.components.specs.Patches.{at, survives, linked}
-use Rattle.components.specs.Search.{Search}
-use Rattle.components.proofs.Searching.{search-none}
-use Rattle.components.proofs.Labelling.{search-labels}
-use Rattle.components.proofs.labels.Statement.{statement}
-use Rattle.components.proofs.labels.Tie as tie
+use Rattle.patches.specs.Patches.{at, survives, linked}
+use Rattle.patches.specs.Search.{Search}
+use Rattle.patches.proofs.Searching.{search-none}
+use Rattle.patches.proofs.Labelling.{search-labels}
+use Rattle.patches.proofs.labels.Statement.{statement}
+use Rattle.patches.proofs.labels.Tie as tie
 
 abbrev Inv-loop : tie.InvT-loop
 Inv-loop near dropped sides n seen₀ queue₀ label₀ tail₀ i₀ seen queue label tail i = (i ≤ n) × Search (survives n dropped) (linked n (at near) sides dropped) n i tail seen label queue tail
