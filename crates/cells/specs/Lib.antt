@@ -1,0 +1,2 @@
+pub mod Points
+pub mod Cell

@@ -1,0 +1,4 @@
+-- What a merge has done, and a sort by halves.
+pub mod Slices
+pub mod Merging
+pub mod Halves

@@ -1,0 +1,4 @@
+pub mod Sorted
+pub mod Numbers
+pub mod Packed
+pub mod Parts
