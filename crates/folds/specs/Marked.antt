@@ -11,12 +11,27 @@ use lib.Dec.{eqb}
 use borrow.Author.Tests.{eqb-true, eqb-false}
 use lib.ListN.{length, getD, set, length-set, replicate, length-replicate, List·getD-eq-default}
 use lib.Seq.{getD-set-same, getD-set-other}
-use Rattle.folds.specs.Below.{some, some-more}
+use Rattle.folds.specs.Below.{some, some-more, tally, tally-none, tally-more}
 use Rattle.folds.specs.Column.{column, Filling, filled, replicate-at}
 
 abbrev pub bit : Bool → ℕ
 bit true = 1
 bit false = 0
+
+pub bit-le : (b : Bool) → bit b ≤ 1
+bit-le true = omega arith
+bit-le false = omega arith
+
+-- counting is adding up bits
+pub tally-bit : (p : ℕ → Bool) (i : ℕ) → tally p (i + 1) ≡ tally p i + bit (p i)
+tally-bit p i = tally-more p i ∙ go (p i)
+  where
+    go : (b : Bool) → cond b (tally p i + 1) (tally p i) ≡ tally p i + bit b
+    go true = refl
+    go false = omega arith
+
+pub tally-four : (p : ℕ → Bool) → tally p 4 ≡ bit (p 0) + bit (p 1) + bit (p 2) + bit (p 3)
+tally-four p = omega (arith, tally-none p, tally-bit p 0, tally-bit p 1, tally-bit p 2, tally-bit p 3)
 
 -- the marks a with those that hit names set are b
 pub record Marked (hit : ℕ → Bool) (a b : List ℕ) : Type 0 where

@@ -1,0 +1,9 @@
+-- Laws that more than one function's proof uses.
+pub mod Nan
+pub mod Near
+pub mod Over
+pub mod Pattern
+pub mod Sign
+pub mod Special
+pub mod Squares
+pub mod Theorems

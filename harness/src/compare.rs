@@ -1,0 +1,215 @@
+//! The original against the second program, sheet by sheet.
+
+use crate::angles;
+use crate::generate::{self, Case, Expected, Kind};
+use crate::kept;
+use crate::run_original::{Held, Prepared};
+use crate::second::{self, Answer, Fault, ROW};
+use crate::sheet::Sheet;
+use crate::text;
+
+/// How one case came out.
+#[derive(Debug)]
+pub enum Verdict {
+    Same,
+    /// The two differ, and not if the second program judges angles by the Rust's acos.
+    AcosOnly,
+    Different(String),
+}
+
+/// How often each run of the original is repeated: its hash order is random.
+const RUNS: usize = 2;
+
+/// A row of the second program with the Rust's angle in the place of each cosine.
+fn row_with_angles(row: &[u8]) -> [u8; ROW] {
+    let mut out: [u8; ROW] = row.try_into().unwrap();
+    for k in [1, 3] {
+        if out[2] >> k & 1 == 1 {
+            let at = 8 + 4 * k;
+            let cosine = f32::from_le_bytes(out[at..at + 4].try_into().unwrap());
+            out[at..at + 4].copy_from_slice(&angles::degrees(cosine).to_le_bytes());
+        }
+    }
+    out
+}
+
+/// The first place where what the original holds differs from an answer.
+fn difference(sheet: &Sheet, held: &Held, answer: &Answer) -> Option<String> {
+    let Answer::Accepted {
+        components, rows, ..
+    } = answer
+    else {
+        return Some("refused".into());
+    };
+    if held.components() != *components {
+        return Some(format!("components {} and {components}", held.components()));
+    }
+    let mut points: Vec<_> = sheet.points.iter().collect();
+    points.sort_by_key(|p| (p.u, p.v));
+    for (p, row) in points.into_iter().zip(rows.chunks(ROW)) {
+        let (theirs, ours) = (held.row(p.index), row_with_angles(row));
+        if theirs != ours {
+            return Some(format!(
+                "cell {} {}: {theirs:02X?} and {ours:02X?}",
+                p.u, p.v
+            ));
+        }
+    }
+    None
+}
+
+/// Compares one case with its answer.
+pub fn check(case: &Case, answer: &Answer) -> Verdict {
+    let refusal = match answer {
+        Answer::Refused(number) => Expected::Refused(*number),
+        Answer::Accepted { .. } => Expected::Accepted,
+    };
+    if case.expected != Expected::Unknown && refusal != case.expected {
+        return Verdict::Different(format!("expected {:?}, found {refusal:?}", case.expected));
+    }
+    if let Some(text) = kept::difference(&case.file, case.buffer, answer) {
+        return Verdict::Different(text);
+    }
+    if refusal != Expected::Accepted {
+        return Verdict::Same;
+    }
+    let Some(sheet) = Sheet::from_file(&case.file) else {
+        return Verdict::Different("accepted, yet not well framed".into());
+    };
+    let mut verdict = Verdict::Same;
+    for _ in 0..RUNS {
+        // A fresh preparation has fresh hash maps, hence another order.
+        let Some(prepared) = Prepared::new(&sheet) else {
+            return Verdict::Same;
+        };
+        let held = prepared.run();
+        if let Some(text) = difference(&sheet, &held, answer) {
+            let by_acos = second::answer(&case.file, case.buffer, Fault::AnglesByAcos);
+            if difference(&sheet, &held, &by_acos).is_some() {
+                return Verdict::Different(text);
+            }
+            verdict = Verdict::AcosOnly;
+        }
+    }
+    verdict
+}
+
+/// What a run of comparisons met.
+#[derive(Default)]
+pub struct Report {
+    pub sheets: usize,
+    pub failed: usize,
+    pub acos: usize,
+    by_kind: Vec<[usize; 4]>,
+    refused: [usize; 10],
+    points: usize,
+    marks: [usize; 4],
+    reasons: [usize; 4],
+    without_fit: usize,
+    not_a_number: usize,
+    infinite: usize,
+    smallest_acos: Option<(usize, Case)>,
+}
+
+impl Report {
+    fn count_rows(&mut self, rows: &[u8]) {
+        for row in rows.chunks(ROW) {
+            self.points += 1;
+            for (bit, count) in self.marks.iter_mut().enumerate() {
+                *count += usize::from(row[0] >> bit & 1);
+            }
+            self.reasons[usize::from(row[1])] += 1;
+            let residual = f32::from_le_bytes(row[8..12].try_into().unwrap());
+            self.without_fit += usize::from(row[2] & 1 == 0);
+            self.not_a_number += usize::from(residual.is_nan());
+            self.infinite += usize::from(residual.is_infinite());
+        }
+    }
+
+    fn add(&mut self, case: &Case) {
+        let answer = second::answer(&case.file, case.buffer, Fault::None);
+        self.sheets += 1;
+        self.by_kind.resize(Kind::ALL.len(), [0; 4]);
+        let kind = &mut self.by_kind[case.kind as usize];
+        kind[0] += 1;
+        match &answer {
+            Answer::Refused(number) => self.refused[usize::from(*number)] += 1,
+            Answer::Accepted { .. } => kind[1] += 1,
+        }
+        match check(case, &answer) {
+            Verdict::Same => {}
+            Verdict::AcosOnly => {
+                kind[2] += 1;
+                self.acos += 1;
+                let size = case.file.len();
+                if self
+                    .smallest_acos
+                    .as_ref()
+                    .is_none_or(|(least, _)| size < *least)
+                {
+                    self.smallest_acos = Some((size, case.clone()));
+                }
+            }
+            Verdict::Different(text) => {
+                kind[3] += 1;
+                self.failed += 1;
+                if self.failed <= 20 {
+                    println!("differs: {:?} seed {}: {text}", case.kind, case.seed);
+                }
+            }
+        }
+        if let Answer::Accepted { rows, .. } = &answer {
+            self.count_rows(rows);
+        }
+    }
+
+    pub fn print(&self) {
+        println!("kind           sheets accepted acos differ");
+        for (&(kind, _), [sheets, accepted, acos, differ]) in Kind::ALL.iter().zip(&self.by_kind) {
+            println!(
+                "{:<14} {sheets:>6} {accepted:>8} {acos:>4} {differ:>6}",
+                format!("{kind:?}")
+            );
+        }
+        println!("refused with 1 to 9: {:?}", &self.refused[1..]);
+        println!(
+            "points {} marks VOWC {:?} reasons 1 to 3 {:?}",
+            self.points,
+            self.marks,
+            &self.reasons[1..]
+        );
+        println!(
+            "residuals: none {} NaN {} infinite {}",
+            self.without_fit, self.not_a_number, self.infinite
+        );
+        if let Some((_, case)) = &self.smallest_acos {
+            println!(
+                "smallest sheet that only acos explains ({:?} seed {}):",
+                case.kind, case.seed
+            );
+            print!("{}", text::to_text(&Sheet::from_file(&case.file).unwrap()));
+        }
+        let (sheets, acos, failed) = (self.sheets, self.acos, self.failed);
+        if cfg!(original_at_hand) {
+            let alike = sheets - acos - failed;
+            println!(
+                "{sheets} sheets, {alike} alike, {acos} differ by acos alone, {failed} differ"
+            );
+        } else {
+            println!("{sheets} sheets through the second program alone, {failed} differ");
+        }
+    }
+}
+
+/// Compares `sheets` cases from a seed on, of one kind or of all in turn.
+pub fn run(sheets: usize, seed: u64, kind: Option<Kind>) -> Report {
+    let mut report = Report::default();
+    for i in 0..sheets {
+        let case = match kind {
+            Some(kind) => generate::case(kind, seed + i as u64),
+            None => generate::nth(seed, i),
+        };
+        report.add(&case);
+    }
+    report
+}

@@ -1,0 +1,210 @@
+//! The harness: the Rust original, a second program, generated sheets, and what runs them.
+
+mod angles;
+mod bench;
+mod compare;
+mod floats;
+mod generate;
+mod kept;
+mod mutants;
+mod properties;
+mod quick;
+mod random;
+#[cfg(not(original_at_hand))]
+#[path = "no_original.rs"]
+mod run_original;
+#[cfg(original_at_hand)]
+mod run_original;
+mod second;
+mod sheet;
+mod stars;
+mod text;
+mod vectors;
+
+use generate::Kind;
+use second::Fault;
+use sheet::Sheet;
+use std::io::{Read, Write};
+use std::process::ExitCode;
+
+const USE: &str = "\
+harness quick                         the checks of the gate
+harness compare [--sheets N] [--seed S] [--kind KIND]
+                                      original against second program
+harness mutants [--sheets N] [--seed S]
+                                      how many sheets show each deliberate fault
+harness acos [COSINE ..]              what the Rust's acos makes of 30 degrees and of least cosines
+harness generate KIND SEED            a sheet file to standard output
+harness kinds                         the kinds of generated sheets
+harness second [BUFFER]               listing of the sheet file on standard input
+harness original                      rows of the original for the sheet file on standard input
+harness vectors FILE [--sheets N] [--seed S] [--most BYTES]
+                                      a bundle of files with their expected answers
+harness floats FILE [--count N] [--seed S]
+                                      a bundle of single f32 operations
+harness roots [--step N]              the machine's root against whole numbers
+harness bench [--runs N]              microseconds a sheet
+harness text to-file | from-file      lines of text to a sheet file and back
+";
+
+/// The value after `--name`, or a default.
+fn option(args: &[String], name: &str, default: u64) -> u64 {
+    let at = args.iter().position(|a| a == name);
+    match at.map(|k| args.get(k + 1).map(|v| v.parse())) {
+        None => default,
+        Some(Some(Ok(value))) => value,
+        _ => fail(&format!("{name} takes a number")),
+    }
+}
+
+fn fail(message: &str) -> ! {
+    eprintln!("{message}");
+    std::process::exit(2)
+}
+
+fn input() -> Vec<u8> {
+    let mut bytes = Vec::new();
+    std::io::stdin()
+        .read_to_end(&mut bytes)
+        .unwrap_or_else(|e| fail(&e.to_string()));
+    bytes
+}
+
+fn output(bytes: &[u8]) {
+    std::io::stdout()
+        .write_all(bytes)
+        .unwrap_or_else(|e| fail(&e.to_string()));
+}
+
+fn save(file: &str, bytes: &[u8]) {
+    std::fs::write(file, bytes).unwrap_or_else(|e| fail(&e.to_string()));
+}
+
+/// One line if the Rust files were not at hand when this was built.
+fn say_without_original() {
+    if !cfg!(original_at_hand) {
+        println!("the Rust original is not at hand (HIGLAUPTH_RUST): its part is left out");
+    }
+}
+
+fn compare(args: &[String]) -> bool {
+    say_without_original();
+    let kind = args
+        .iter()
+        .position(|a| a == "--kind")
+        .and_then(|k| args.get(k + 1));
+    let kind =
+        kind.map(|name| Kind::from_name(name).unwrap_or_else(|| fail(&format!("no kind {name}"))));
+    let sheets = option(args, "--sheets", 2300) as usize;
+    let report = compare::run(sheets, option(args, "--seed", 0), kind);
+    report.print();
+    report.failed == 0
+}
+
+fn mutants(args: &[String]) -> bool {
+    let sheets = option(args, "--sheets", 2700) as usize;
+    let shown = mutants::run(sheets, option(args, "--seed", 0), false);
+    mutants::print(sheets, &shown);
+    mutants::unseen(&shown) == 0
+}
+
+/// All floats against 30 degrees, or the floats that acos cannot tell from given cosines.
+fn acos(cosines: &[&str]) {
+    if cosines.is_empty() {
+        return angles::sweep();
+    }
+    for word in cosines {
+        match text::float(word) {
+            Ok(least) if least.abs() <= 1.0 => angles::alike(least),
+            _ => fail("acos takes cosines from -1 to 1"),
+        }
+    }
+}
+
+fn original_rows() {
+    let Some(sheet) = Sheet::from_file(&input()) else {
+        fail("not well framed")
+    };
+    let Some(prepared) = run_original::Prepared::new(&sheet) else {
+        return say_without_original();
+    };
+    let held = prepared.run();
+    println!(
+        "points {} components {}",
+        sheet.points.len(),
+        held.components()
+    );
+    let mut points = sheet.points.clone();
+    points.sort_by_key(|p| (p.u, p.v));
+    for p in points {
+        println!("{} {} {} {:02X?}", p.u, p.v, p.index, held.row(p.index));
+    }
+}
+
+fn to_file() -> Vec<u8> {
+    let lines = String::from_utf8(input()).unwrap_or_else(|e| fail(&e.to_string()));
+    text::from_text(&lines)
+        .unwrap_or_else(|e| fail(&e))
+        .to_file()
+}
+
+fn generated(kind: &str, seed: &str) -> Vec<u8> {
+    match (Kind::from_name(kind), seed.parse()) {
+        (Some(kind), Ok(seed)) => generate::case(kind, seed).file,
+        _ => fail("generate takes a kind and a seed"),
+    }
+}
+
+fn main() -> ExitCode {
+    let args: Vec<String> = std::env::args().skip(1).collect();
+    let words: Vec<&str> = args.iter().map(String::as_str).collect();
+    let mut holds = true;
+    match words.as_slice() {
+        ["quick"] => {
+            say_without_original();
+            holds = quick::run();
+        }
+        ["compare", ..] => holds = compare(&args),
+        ["mutants", ..] => holds = mutants(&args),
+        ["acos", cosines @ ..] => acos(cosines),
+        ["generate", kind, seed] => output(&generated(kind, seed)),
+        ["kinds"] => Kind::ALL
+            .iter()
+            .for_each(|(kind, text)| println!("{kind:?}: {text}")),
+        ["second", buffer @ ..] => {
+            let buffer = buffer.first().map_or(1 << 16, |b| b.parse().unwrap_or(0));
+            output(
+                second::answer(&input(), buffer, Fault::None)
+                    .listing()
+                    .as_bytes(),
+            );
+        }
+        ["original"] => original_rows(),
+        ["vectors", file, ..] => {
+            let sheets = option(&args, "--sheets", 230) as usize;
+            let most = option(&args, "--most", 2000) as usize;
+            let bundle = vectors::bundle(sheets, option(&args, "--seed", 0), most);
+            save(file, &bundle);
+        }
+        ["floats", file, ..] => {
+            let count = option(&args, "--count", 2000) as usize;
+            save(file, &floats::bundle(count, option(&args, "--seed", 0)));
+        }
+        ["roots", ..] => {
+            let (count, otherwise) = floats::roots(option(&args, "--step", 1).max(1) as usize);
+            println!("{count} floats, {otherwise} with another root");
+            holds = otherwise == 0;
+        }
+        ["bench", ..] => bench::run(option(&args, "--runs", 200) as usize),
+        ["text", "to-file"] => output(&to_file()),
+        ["text", "from-file"] => match Sheet::from_file(&input()) {
+            Some(sheet) => output(text::to_text(&sheet).as_bytes()),
+            None => fail("not well framed"),
+        },
+        _ => {
+            eprint!("{USE}");
+            return ExitCode::from(2);
+        }
+    }
+    ExitCode::from(u8::from(!holds))
+}

@@ -1,0 +1,93 @@
+//! Deliberate faults of the second program: what the generated sheets must bring to light.
+
+macro_rules! faults {
+    ($($name:ident: $text:literal,)*) => {
+        #[derive(Clone, Copy, Debug, PartialEq, Eq)]
+        pub enum Fault {
+            /// No fault: the program as document 01 has it.
+            None,
+            /// Angles judged by the Rust's acos, to explain a difference.
+            AnglesByAcos,
+            $($name,)*
+        }
+
+        impl Fault {
+            /// Every deliberate fault with what is wrong.
+            pub const ALL: &'static [(Fault, &'static str)] = &[$((Fault::$name, $text),)*];
+
+            /// a above b; under the fault `wrong` also where they are equal.
+            pub fn above(self, a: f32, b: f32, wrong: Fault) -> bool {
+                a > b || (self == wrong && a == b)
+            }
+        }
+    };
+}
+
+faults! {
+    RefuseAll: "every file is refused",
+    SameRows: "the rows are zeros for all sheets",
+    NoOrientation: "the orientation marks are zeros",
+    NoWrongLabel: "the wrong-label marks are zeros",
+    NoComponent: "the component marks are zeros",
+    InventedCount: "the component count is 1 with the switch on",
+    NoFitTooSoon: "no fit where the solution is large",
+    EmptyPatch: "the largest patch is marked with the smaller ones",
+    FileOrderSums: "a line is summed in file order",
+    Rule3ByCell: "rule 3 visits its corners by cell",
+    BaseTurnedDown: "a base with three of its four on one line is turned down",
+    ComponentByCell: "component marks go by cell, not by index",
+    SquareRings: "the base's order is by the larger of |du|, |dv|",
+    SmallerDuFirst: "equally near cells go by smaller du, then dv",
+    OwnIndexInBase: "cells with the corner's own index are not skipped",
+    LowerMedian: "a median of n is entry (n-1)/2",
+    LineMinimumMissed: "a line needs more members than the line minimum",
+    PivotLastOfEquals: "of equal pivots the last is taken",
+    MultiplierDivided: "multiplier = entry divided by pivot",
+    RowwiseSubstitution: "substitution by rows",
+    SumsRightToLeft: "inner sums run right to left",
+    ResidualOfFirstCell: "a repeated index keeps the residual of its first cell",
+    SmallerCellWins: "a repeated index is judged at its smaller cell",
+    FlagsByCell: "line flags of an index are those of one cell",
+    Rule1AtOne: "one line flag marks",
+    Rule2AtOnce: "rule 2 takes the tolerance itself",
+    Rule3LastOfEquals: "rule 3 takes the last of equals",
+    Rule3NeedsFour: "rule 3 passes over a base of fewer than four",
+    Rule4AtTwo: "rule 4 takes two steps as enough",
+    Rule4WithoutLine: "rule 4 asks for no line flag",
+    ScaleIsCell: "with the step flag the residual's scale is the cell size",
+    LastCosineStays: "of equal cosines the last met stays",
+    CosineNotClamped: "cosines are not clamped",
+    RatioAlwaysFails: "a continuation ratio fails at well-held corners too",
+    BoxOfSheet: "box boundary is that of the whole sheet",
+    EpsilonIsZero: "a side of at most 2^-23 counts if it is above 0",
+    MinorityWhole: "all members of the minority are marked",
+    TieKeepsAll: "a tie of votes marks nothing",
+    ZeroVotes: "a cross product of zero votes negative",
+    WindowHasItself: "an edge's window holds the edge itself",
+    WindowNarrow: "an edge's window is within 1 cell",
+    WindowAtFour: "four edges make a window",
+    SheetAtSeven: "seven edges make the whole sheet's median",
+    SheetAtWindowRatio: "edges judged by the whole sheet fail at 1.5",
+    LineAtEqual: "a member at the tolerance itself is flagged",
+    ResidualAtEqual: "a residual at the tolerance itself counts as over",
+    CosineAtEqual: "a cosine at the least itself fails",
+    RatioAtEqual: "a ratio at the largest itself fails",
+    OverlongAtEqual: "an edge of 1.5 times its window's median fails",
+    EndAtEqual: "the end of a line is marked at r = 0.30 itself",
+    WindowFirstEdge: "an edge is held against its window's first edge, not the mean direction",
+    CloseByRoot: "closeness is compared as distances, not as squares",
+    PatchesByIndex: "a patch's size counts indices, not cells",
+    StepsAtEveryCell: "the median of steps is over cells, not indices",
+    ThirtyWithoutSign: "over 30 degrees is 4c² < 3 alone",
+    CloseAtEqual: "points at exactly 0.2 cell sizes are marked",
+    EndWithGap: "the four outermost cells of a line may have a gap",
+    EndAtDegree3: "the end of a line is marked at degree 3",
+    EndAbsolute: "the end of a line is marked by |r|",
+    DiagonalPatches: "patches join cells by corners too",
+    TieToLarger: "a tie of patches goes to the larger least cell",
+    CellAtLimit: "cells at 8,000 are refused",
+    BufferShort: "a buffer one byte too short is taken",
+    CellsBeforePositions: "refusal 8 is given before 7",
+    FlagsAfterFloats: "refusal 5 is given before 4",
+    TailTaken: "bytes after the last field are taken",
+}

@@ -1,0 +1,232 @@
+//! The sheet file: fields and refusals.
+
+use super::fault::Fault;
+use super::plane::Vector;
+
+pub const MAX_POINTS: usize = 2048;
+pub const ROW: usize = 28;
+
+#[derive(Clone, Copy, Debug)]
+pub struct Settings {
+    pub cell_size: f32,
+    pub line_tolerance: f32,
+    pub line_minimum: usize,
+    pub local_tolerance: f32,
+    pub step_flag: u8,
+    pub step_threshold: f32,
+    pub wrong_label: u8,
+    pub largest_patch: u8,
+}
+
+#[derive(Clone, Copy, Debug)]
+pub struct Gate {
+    pub minimum_degree: u8,
+    pub least_continuation: f32,
+    pub largest_continuation: f32,
+    pub least_cell: f32,
+    pub largest_cell: f32,
+}
+
+#[derive(Clone, Copy, Debug)]
+pub struct Point {
+    pub u: i32,
+    pub v: i32,
+    pub index: u32,
+    pub at: Vector,
+    /// Place in the file, from 0.
+    pub place: usize,
+}
+
+/// An accepted file, its points in cell order.
+#[derive(Clone, Debug)]
+pub struct Sheet {
+    pub settings: Settings,
+    pub gate: Option<Gate>,
+    pub points: Vec<Point>,
+}
+
+fn f32_at(data: &[u8], at: usize) -> f32 {
+    f32::from_le_bytes(data[at..at + 4].try_into().unwrap())
+}
+
+fn u32_at(data: &[u8], at: usize) -> u32 {
+    u32::from_le_bytes(data[at..at + 4].try_into().unwrap())
+}
+
+fn u16_at(data: &[u8], at: usize) -> usize {
+    usize::from(u16::from_le_bytes([data[at], data[at + 1]]))
+}
+
+/// The fields of a file, tag and data, if it is made of whole fields.
+fn fields(file: &[u8], fault: Fault) -> Option<Vec<(u8, &[u8])>> {
+    let mut out = Vec::new();
+    let mut rest = file;
+    while !rest.is_empty() {
+        if fault == Fault::TailTaken && matches!(out.last(), Some((3, _))) {
+            break;
+        }
+        if rest.len() < 3 || rest.len() < 3 + u16_at(rest, 1) {
+            return None;
+        }
+        let (field, after) = rest.split_at(3 + u16_at(rest, 1));
+        out.push((field[0], &field[3..]));
+        rest = after;
+    }
+    Some(out)
+}
+
+fn settings(data: &[u8]) -> Option<Settings> {
+    match data.len() {
+        4 => Some(Settings {
+            cell_size: f32_at(data, 0),
+            line_tolerance: 0.15,
+            line_minimum: 3,
+            local_tolerance: 0.20,
+            step_flag: 0,
+            step_threshold: 0.0,
+            wrong_label: 1,
+            largest_patch: 1,
+        }),
+        21 => Some(Settings {
+            cell_size: f32_at(data, 0),
+            line_tolerance: f32_at(data, 4),
+            line_minimum: u16_at(data, 8),
+            local_tolerance: f32_at(data, 10),
+            step_flag: data[14],
+            step_threshold: f32_at(data, 15),
+            wrong_label: data[19],
+            largest_patch: data[20],
+        }),
+        _ => None,
+    }
+}
+
+fn gate(data: &[u8]) -> Option<Gate> {
+    (data.len() == 17).then(|| Gate {
+        minimum_degree: data[0],
+        least_continuation: f32_at(data, 1),
+        largest_continuation: f32_at(data, 5),
+        least_cell: f32_at(data, 9),
+        largest_cell: f32_at(data, 13),
+    })
+}
+
+fn points(data: &[u8]) -> Option<Vec<Point>> {
+    data.len().is_multiple_of(20).then(|| {
+        let point = |(place, record): (usize, &[u8])| Point {
+            u: u32_at(record, 0) as i32,
+            v: u32_at(record, 4) as i32,
+            index: u32_at(record, 8),
+            at: Vector {
+                x: f32_at(record, 12),
+                y: f32_at(record, 16),
+            },
+            place,
+        };
+        data.chunks(20).enumerate().map(point).collect()
+    })
+}
+
+/// The contents of a well-framed file, its points in file order.
+fn framed(file: &[u8], fault: Fault) -> Option<Sheet> {
+    let (first, second, third) = match fields(file, fault)?.as_slice() {
+        [(1, first), (3, third)] => (*first, None, *third),
+        [(1, first), (2, second), (3, third)] => (*first, Some(*second), *third),
+        _ => return None,
+    };
+    Some(Sheet {
+        settings: settings(first)?,
+        gate: match second {
+            Some(data) => Some(gate(data)?),
+            None => None,
+        },
+        points: points(third)?,
+    })
+}
+
+fn out_of_bounds(float: f32) -> bool {
+    !float.is_finite() || float.abs() > 16384.0
+}
+
+fn bad_flag(s: &Settings) -> bool {
+    s.step_flag > 1 || s.wrong_label > 1 || s.largest_patch > 1
+}
+
+fn bad_float(s: &Settings, gate: &Option<Gate>) -> bool {
+    let mut floats = vec![
+        s.cell_size,
+        s.line_tolerance,
+        s.local_tolerance,
+        s.step_threshold,
+    ];
+    if let Some(g) = gate {
+        floats.extend([g.least_continuation, g.largest_continuation]);
+        floats.extend([g.least_cell, g.largest_cell]);
+    }
+    floats.into_iter().any(out_of_bounds)
+}
+
+fn bad_cell(p: &Point, limit: i32) -> bool {
+    p.u < -limit || p.u > limit || p.v < -limit || p.v > limit
+}
+
+/// Whether two points, in cell order, have the same cell.
+fn repeated_cell(points: &[Point]) -> bool {
+    points
+        .windows(2)
+        .any(|p| (p[0].u, p[0].v) == (p[1].u, p[1].v))
+}
+
+/// Whether one index stands at positions with different bits.
+fn torn_index(points: &[Point]) -> bool {
+    let key = |p: &Point| (p.index, p.at.x.to_bits(), p.at.y.to_bits());
+    let mut keys: Vec<_> = points.iter().map(key).collect();
+    keys.sort_unstable();
+    keys.windows(2).any(|k| k[0].0 == k[1].0 && k[0] != k[1])
+}
+
+/// The accepted sheet, or the first number whose condition applies.
+pub fn read(file: &[u8], buffer: usize, fault: Fault) -> Result<Sheet, u8> {
+    let mut sheet = framed(file, fault).ok_or(1)?;
+    let n = sheet.points.len();
+    if n > MAX_POINTS {
+        return Err(2);
+    }
+    if buffer + usize::from(fault == Fault::BufferShort) < ROW * n {
+        return Err(3);
+    }
+    let flags = bad_flag(&sheet.settings);
+    let floats = bad_float(&sheet.settings, &sheet.gate);
+    if flags && !(fault == Fault::FlagsAfterFloats && floats) {
+        return Err(4);
+    }
+    if floats {
+        return Err(5);
+    }
+    let limit = if fault == Fault::CellAtLimit {
+        7999
+    } else {
+        8000
+    };
+    if sheet.points.iter().any(|p| bad_cell(p, limit)) {
+        return Err(6);
+    }
+    sheet.points.sort_by_key(|p| (p.u, p.v));
+    if fault == Fault::CellsBeforePositions && repeated_cell(&sheet.points) {
+        return Err(8);
+    }
+    if sheet
+        .points
+        .iter()
+        .any(|p| out_of_bounds(p.at.x) || out_of_bounds(p.at.y))
+    {
+        return Err(7);
+    }
+    if repeated_cell(&sheet.points) {
+        return Err(8);
+    }
+    if torn_index(&sheet.points) {
+        return Err(9);
+    }
+    Ok(sheet)
+}

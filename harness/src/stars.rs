@@ -1,0 +1,149 @@
+//! The sheets that document 01 names, with what it says of them.
+
+use crate::second::{self, over_30_degrees, Answer, Fault};
+use crate::text;
+
+/// What a sheet must come out as: its whole listing, or the marks of its points in cell
+/// order.
+enum Says {
+    Listing(&'static str),
+    Marks(&'static [&'static str]),
+}
+
+const SHEETS: &[(&str, &str, Says)] = &[
+    (
+        "no points",
+        "cell 100",
+        Says::Listing(
+            "points 0 components 0\nkept 0 validate 0 orientation 0 wrong 0 component 0\n",
+        ),
+    ),
+    (
+        "the sheet of five points",
+        "cell 100\n5 5 14 500 500\n0 0 10 0 0\n1 0 11 100 0\n0 1 12 0 100\n1 1 13 100 100",
+        Says::Listing(
+            "points 5 components 2\n0 0 10 ---- - -\n0 1 12 ---- - -\n1 0 11 ---- - -\n\
+             1 1 13 ---- - -\n5 5 14 ---C - -\n\
+             kept 4 validate 0 orientation 0 wrong 0 component 1\n",
+        ),
+    ),
+    (
+        "two patches of one",
+        "cell 100\n5 5 1 500 500\n0 0 2 0 0",
+        Says::Marks(&["----", "---C"]),
+    ),
+    (
+        "19 pixels apart",
+        "cell 100\n0 0 1 0 0\n1 0 2 19 0",
+        Says::Marks(&["--W-", "--W-"]),
+    ),
+    (
+        "20 pixels apart",
+        "cell 100\n0 0 1 0 0\n1 0 2 20 0",
+        Says::Marks(&["----", "----"]),
+    ),
+    (
+        "row with both ends wrong",
+        "cell 100\n0 0 1 0 0\n1 0 2 140 0\n2 0 3 240 0\n3 0 4 340 0",
+        Says::Marks(&["--W-", "----", "----", "--W-"]),
+    ),
+    (
+        "row with 440 added",
+        "cell 100\n0 0 1 0 0\n1 0 2 140 0\n2 0 3 240 0\n3 0 4 340 0\n4 0 5 440 0",
+        Says::Marks(&["--W-", "----", "----", "----", "----"]),
+    ),
+    (
+        "row at 0, 130, 230, 330",
+        "cell 100\n0 0 1 0 0\n1 0 2 130 0\n2 0 3 230 0\n3 0 4 330 0",
+        Says::Marks(&["----", "----", "----", "----"]),
+    ),
+    (
+        "row with one line flag each",
+        "cell 100\n0 0 1 0 0\n1 0 2 100 60\n2 0 3 200 0",
+        Says::Marks(&["----", "----", "----"]),
+    ),
+    (
+        "no vote",
+        "cell 100\n0 0 1 0 0\n1 0 2 30 0\n0 1 3 60 0",
+        Says::Marks(&["----", "----", "----"]),
+    ),
+    (
+        "index 7 twice",
+        "cell 100\n0 0 7 3 3\n1 0 7 3 3",
+        Says::Marks(&["--W-", "--W-"]),
+    ),
+];
+
+const REPEATED_AND_INFINITE: &str = "cell 100\n0 0 1 0x7F800000 0\n0 0 2 0 0";
+
+fn mark_word(line: &str) -> &str {
+    line.split(' ').nth(3).unwrap()
+}
+
+/// The marks of each point; a point's line has six words.
+fn marks(listing: &str) -> Vec<&str> {
+    listing
+        .lines()
+        .filter(|line| line.split(' ').count() == 6)
+        .map(mark_word)
+        .collect()
+}
+
+fn listing_of(sheet: &str) -> String {
+    let file = text::from_text(sheet).unwrap().to_file();
+    second::answer(&file, 1 << 16, Fault::None).listing()
+}
+
+/// A row of n points, the settings on top.
+fn row(n: usize) -> String {
+    (0..n).fold("cell 100\n".into(), |text, k| {
+        text + &format!("{k} 0 {k} {k} 0\n")
+    })
+}
+
+/// The files of the named sheets.
+pub fn files() -> Vec<Vec<u8>> {
+    let file = |sheet: &str| text::from_text(sheet).unwrap().to_file();
+    let mut out: Vec<Vec<u8>> = SHEETS.iter().map(|(_, sheet, _)| file(sheet)).collect();
+    out.extend([
+        file(&row(2048)),
+        file(&row(2049)),
+        file(REPEATED_AND_INFINITE),
+        Vec::new(),
+    ]);
+    out
+}
+
+/// Each check with whether it holds.
+pub fn checks() -> Vec<(String, bool)> {
+    let mut out = Vec::new();
+    for (name, sheet, says) in SHEETS {
+        let listing = listing_of(sheet);
+        let holds = match says {
+            Says::Listing(text) => listing == *text,
+            Says::Marks(expected) => marks(&listing) == *expected,
+        };
+        out.push((name.to_string(), holds));
+    }
+    let mut also = |name: &str, holds: bool| out.push((name.to_string(), holds));
+    also("2,049 points", listing_of(&row(2049)) == "refused 2\n");
+    also(
+        "2,048 points",
+        listing_of(&row(2048)).starts_with("points 2048 "),
+    );
+    also(
+        "a repeated cell with an infinite position",
+        listing_of(REPEATED_AND_INFINITE) == "refused 7\n",
+    );
+    let refused = second::answer(&[], 0, Fault::None) == Answer::Refused(1);
+    also("an empty file", refused);
+    also("root of 2", 2f32.sqrt().to_bits() == 0x3FB5_04F3);
+    also(
+        "root of the least subnormal",
+        f32::from_bits(1).sqrt().to_bits() == 0x1A35_04F3,
+    );
+    let part = |k: u32| k as f32 / 16_777_216.0;
+    also("over 30 degrees", over_30_degrees(part(14_529_495)));
+    also("not over 30 degrees", !over_30_degrees(part(14_529_496)));
+    out
+}
