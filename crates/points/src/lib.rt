@@ -216,7 +216,8 @@ pub struct Table {
     pub y: [f32; MAX_POINTS],
 }
 
-fn refused(number: u8) -> Table
+// No points, and the number of a refusal.
+pub fn refused(number: u8) -> Table
     ensures { λ r. ⌜ Tabled number [] r ⌝ }
 {
     let none: f32 = 0.0 / 0.0;
