@@ -249,16 +249,26 @@ key-order p q r s =
         go (no a) (no b) (yes c) = rw (le-ltb u x (omega arith), le-ltb x u (omega arith), lt-ltb v y c) (lt-ltb (u * 16384 + v) (x * 16384 + y) (omega arith))
         go (no a) (no b) (no c) = rw (le-ltb u x (omega arith), le-ltb x u (omega arith), le-ltb v y (omega arith)) (le-ltb (u * 16384 + v) (x * 16384 + y) (omega arith))
 
--- q's cell is p's moved by (a, b): so is its key
-pub key-moved : (a b : ℤ) (p q : Point) → InRange p → InRange q → cellOf q ≡ moved a b (cellOf p) → keyOf q + keyDown a b ≡ keyOf p + keyUp a b
-key-moved a b p q r s e =
-    let k = keyed p r in
-    let l = keyed q s in
-    let eu : cellOf q .u ≡ cellOf p .u +ℤ a = ap (λ (c : Cell). c .u) e in
-    let ev : cellOf q .v ≡ cellOf p .v +ℤ b = ap (λ (c : Cell). c .v) e in
-    let mu : lift (cellOf q .u) + downOf a ≡ lift (cellOf p .u) + upOf a = rw (← eu) at (add-lift (cellOf p .u) a (k .above-u) (rw eu at (l .above-u))) in
-    let mv : lift (cellOf q .v) + downOf b ≡ lift (cellOf p .v) + upOf b = rw (← ev) at (add-lift (cellOf p .v) b (k .above-v) (rw ev at (l .above-v))) in
-    omega (arith, mu, mv, k .key, l .key)
+-- q's cell is p's moved by (a, b): so are its key's parts, and its key
+module _ (a b : ℤ) (p q : Point) (r : InRange p) (s : InRange q) (e : cellOf q ≡ moved a b (cellOf p)) where
+  pub u-moved : keyOf q / 16384 + downOf a ≡ keyOf p / 16384 + upOf a
+  u-moved =
+      let k = keyed p r in
+      let l = keyed q s in
+      let f : cellOf q .u ≡ cellOf p .u +ℤ a = ap (λ (c : Cell). c .u) e in
+      let m : lift (cellOf q .u) + downOf a ≡ lift (cellOf p .u) + upOf a = rw (← f) at (add-lift (cellOf p .u) a (k .above-u) (rw f at (l .above-u))) in
+      omega (arith, m, k .key, l .key, k .v, l .v)
+
+  pub v-moved : keyOf q % 16384 + downOf b ≡ keyOf p % 16384 + upOf b
+  v-moved =
+      let k = keyed p r in
+      let l = keyed q s in
+      let f : cellOf q .v ≡ cellOf p .v +ℤ b = ap (λ (c : Cell). c .v) e in
+      let m : lift (cellOf q .v) + downOf b ≡ lift (cellOf p .v) + upOf b = rw (← f) at (add-lift (cellOf p .v) b (k .above-v) (rw f at (l .above-v))) in
+      omega (arith, m, k .key, l .key, k .v, l .v)
+
+  pub key-moved : keyOf q + keyDown a b ≡ keyOf p + keyUp a b
+  key-moved = omega (arith, u-moved, v-moved)
 
 -- q stands at offset d from p just where its key says so
 pub key-of-neighbour : (p q : Point) (d : ℕ) → d < 25 → InRange p → InRange q → cellOf q ≡ moved (duOf d) (dvOf d) (cellOf p) → keyOf q + centreStep ≡ keyOf p + stepOf d

@@ -1,8 +1,14 @@
--- Tests of a list's elements: some element passes, some pair passes. Neither depends on the order of the list. Assumes nothing.
+-- Tests of a list's elements: some element passes, some pair passes. Neither depends on the order of the list; and what they say of a
+-- list by number. Assumes nothing.
 use mathlib.Core.Path.{_≡_, refl, sym, ap, _∙_}
 use mathlib.Core.Bool.{Bool, true, false, _||_, true≢false}
 use mathlib.Core.List.{List, [], _∷_, List·Permᴰ, List·Permᴰ·nil, List·Permᴰ·cons, List·Permᴰ·swap, List·Permᴰ·trans}
-use Rattle.folds.specs.Lists.{All}
+use mathlib.Core.Logic.{⊎-elim}
+use Prim.Native.Nat.{ℕ, zero, suc, _+_, _≤_, _<_}
+use native.Mathlib.Nat.{eq-or-lt-of-le}
+use native.Mathlib.Omega.{arith}
+use Rattle.folds.specs.Below.{some, some-at, some-fails, or-true}
+use Rattle.folds.specs.Lists.{All, upFrom, listOf}
 
 or-swap : (a b c : Bool) → a || (b || c) ≡ b || (a || c)
 or-swap true true c = refl
@@ -51,3 +57,62 @@ module _ {A : Type 0} where
       or-pairs (t a b) (anyIn (t a) l) (anyIn (t b) l) (pairIn t l)
       ∙ cc (s a b, ap (λ (x : A). t x a) f, ap (t a′) e, ap (λ (x : A). anyIn (t x) l) e, ap (λ (x : A). anyIn (t x) l) f)
   pair-order t s (List·Permᴰ·trans p q) = pair-order t s p ∙ pair-order t s q
+
+  -- ---- of the elements f at, .., f (at + n - 1)
+
+  any-from-yes : (t : A → Bool) (f : ℕ → A) (at n k : ℕ) → at ≤ k → k < at + n → t (f k) ≡ true → anyIn t (upFrom f at n) ≡ true
+  unfolding upFrom
+  any-from-yes t f at zero k a b e = absurd (omega arith)
+  any-from-yes t f at (suc n) k a b e =
+      ⊎-elim
+      (λ (q : at ≡ k). let h : t (f at) ≡ true = rw q e in rw h)
+      (λ (l : at < k). rw (any-from-yes t f (suc at) n k l (omega arith) e) (or-true (t (f at))))
+      (eq-or-lt-of-le a)
+
+  any-from-ext : (t u : A → Bool) (f : ℕ → A) (at n : ℕ) → ((k : ℕ) → at ≤ k → k < at + n → t (f k) ≡ u (f k)) → anyIn t (upFrom f at n) ≡ anyIn u (upFrom f at n)
+  unfolding upFrom
+  any-from-ext t u f at zero h = refl
+  any-from-ext t u f at (suc n) h = rw (h at (omega arith) (omega arith), any-from-ext t u f (suc at) n (λ k a b. h k (omega arith) (omega arith)))
+
+  pair-from-yes : (t : A → A → Bool) (f : ℕ → A) (at n i j : ℕ) → at ≤ i → i < j → j < at + n → t (f i) (f j) ≡ true → pairIn t (upFrom f at n) ≡ true
+  unfolding upFrom
+  pair-from-yes t f at zero i j a b c e = absurd (omega arith)
+  pair-from-yes t f at (suc n) i j a b c e =
+      ⊎-elim
+      (λ (q : at ≡ i). rw (any-from-yes (t (f at)) f (suc at) n j (omega arith) (omega arith) (rw q e)))
+      (λ (l : at < i). rw (pair-from-yes t f (suc at) n i j l b (omega arith) e) (or-true (anyIn (t (f at)) (upFrom f (suc at) n))))
+      (eq-or-lt-of-le a)
+
+  pair-from-ext : (t u : A → A → Bool) (f : ℕ → A) (at n : ℕ) → ((i j : ℕ) → at ≤ i → i < j → j < at + n → t (f i) (f j) ≡ u (f i) (f j)) → pairIn t (upFrom f at n) ≡ pairIn u (upFrom f at n)
+  unfolding upFrom
+  pair-from-ext t u f at zero h = refl
+  pair-from-ext t u f at (suc n) h = rw (any-from-ext (t (f at)) (u (f at)) f (suc at) n (λ k a b. h at k (omega arith) (omega arith) (omega arith)), pair-from-ext t u f (suc at) n (λ i j a b c. h i j (omega arith) b (omega arith)))
+
+  pub any-never : (l : List A) → anyIn (λ (a : A). false) l ≡ false
+  any-never [] = refl
+  any-never (a ∷ l) = any-never l
+
+  pair-never : (l : List A) → pairIn (λ (a b : A). false) l ≡ false
+  pair-never [] = refl
+  pair-never (a ∷ l) = rw (any-never l) (pair-never l)
+
+  module _ (f : ℕ → A) (n : ℕ) where
+    -- some element of the list is some number's
+    pub any-list : (t : A → Bool) → anyIn t (listOf n f) ≡ some (λ (k : ℕ). t (f k)) n
+    unfolding listOf
+    any-list t = go (some (λ (k : ℕ). t (f k)) n) refl
+      where
+        go : (b : Bool) → some (λ (k : ℕ). t (f k)) n ≡ b → anyIn t (upFrom f 0 n) ≡ b
+        go true e = let w = some-at (λ (k : ℕ). t (f k)) n e in any-from-yes t f 0 n (w .0) (omega arith) (omega (arith, w .1)) (w .2)
+        go false e = any-from-ext t (λ (a : A). false) f 0 n (λ k a b. some-fails (λ (k : ℕ). t (f k)) n e k (omega arith)) ∙ any-never (upFrom f 0 n)
+
+    pub pair-yes : (t : A → A → Bool) (i j : ℕ) → i < j → j < n → t (f i) (f j) ≡ true → pairIn t (listOf n f) ≡ true
+    unfolding listOf
+    pair-yes t i j a b e = pair-from-yes t f 0 n i j (omega arith) a (omega arith) e
+
+    pub pair-ext : (t u : A → A → Bool) → ((i j : ℕ) → i < j → j < n → t (f i) (f j) ≡ u (f i) (f j)) → pairIn t (listOf n f) ≡ pairIn u (listOf n f)
+    unfolding listOf
+    pair-ext t u h = pair-from-ext t u f 0 n (λ i j a b c. h i j b (omega arith))
+
+    pub pair-no : (t : A → A → Bool) → ((i j : ℕ) → i < j → j < n → t (f i) (f j) ≡ false) → pairIn t (listOf n f) ≡ false
+    pair-no t h = pair-ext t (λ (a b : A). false) h ∙ pair-never (listOf n f)

@@ -1,0 +1,6 @@
+pub mod Tables
+pub mod Standing
+pub mod Sweep
+pub mod Views
+pub mod InOrder
+pub mod Moved
