@@ -1,6 +1,6 @@
 // Holds the functions of crate `float` against Rust's own, and times the root, through the static library of `float_c`.
 // rt staticlib float_c && rustc -O -o target/float_check -L target/staticlib -l static=float_c tools/float_check.rs && target/float_check
-// It takes about two minutes and prints `differences 0` for each function that agrees with Rust at every bit pattern.
+// It takes some 80 s on an idle processor (the word `time` after it: only the times) and prints `differences 0` for each function that agrees with Rust at every bit pattern.
 
 use std::hint::black_box;
 use std::time::Instant;
@@ -74,23 +74,24 @@ fn pairs(name: &str, ours: impl Fn(f32, f32) -> f32, rusts: impl Fn(f32, f32) ->
     println!("{name}: pairs {tried}, differences {differences}");
 }
 
-// Nanoseconds a call in a loop of a million, the best of 9 runs.
+// Nanoseconds a call in a loop of a million, taken in parts of 10,000 calls so that other work on the machine falls on few of them.
 fn time(name: &str, inputs: &[f32], f: impl Fn(f32, f32) -> f32) {
-    let mut best = f64::INFINITY;
-    for _ in 0..9 {
+    let mut parts = vec![];
+    for part in inputs.chunks(10_000) {
         let start = Instant::now();
-        for pair in inputs.windows(2) {
+        for pair in part.windows(2) {
             black_box(f(pair[0], pair[1]));
         }
-        best = best.min(start.elapsed().as_nanos() as f64 / inputs.len() as f64);
+        parts.push(start.elapsed().as_nanos() as f64 / part.len() as f64);
     }
-    println!("{name}: {best:.1} ns a call");
+    parts.sort_by(f64::total_cmp);
+    println!("{name}: {:.1} ns a call, the median of {} parts; least {:.1}", parts[parts.len() / 2], parts.len(), parts[0]);
 }
 
 fn main() {
     let mut state = 7;
-    let lengths: Vec<f32> = (0..1_000_001).map(|_| (next(&mut state) % 16_384_000) as f32 / 1000.0).collect();
-    let patterns: Vec<f32> = (0..1_000_001).map(|_| f32::from_bits(1 + next(&mut state) as u32 % 0x7f7f_ffff)).collect();
+    let lengths: Vec<f32> = (0..1_000_000).map(|_| (next(&mut state) % 16_384_000) as f32 / 1000.0).collect();
+    let patterns: Vec<f32> = (0..1_000_000).map(|_| f32::from_bits(1 + next(&mut state) as u32 % 0x7f7f_ffff)).collect();
     unsafe {
         time("sqrt, 0 to 16,384", &lengths, |x, _| float_sqrt(x));
         time("sqrt, any finite above 0", &patterns, |x, _| float_sqrt(x));

@@ -47,20 +47,44 @@ pub fn board(side: i32, gated: bool) -> Sheet {
     }
 }
 
-fn least(runs: usize, mut work: impl FnMut()) -> Duration {
-    let time = || {
-        let start = Instant::now();
-        work();
-        start.elapsed()
+/// Processor time of this thread: what a busy machine disturbs less than the clock.
+#[cfg(target_os = "linux")]
+fn processor() -> Duration {
+    #[repr(C)]
+    struct Time {
+        seconds: i64,
+        nanoseconds: i64,
+    }
+    extern "C" {
+        fn clock_gettime(clock: i32, time: *mut Time) -> i32;
+    }
+    const THREAD_CPUTIME: i32 = 3;
+    let mut time = Time {
+        seconds: 0,
+        nanoseconds: 0,
     };
-    std::iter::repeat_with(time)
-        .take(runs)
-        .min()
-        .unwrap_or_default()
+    // The C library writes one struct timespec, which is two 64-bit numbers on 64-bit Linux.
+    unsafe { clock_gettime(THREAD_CPUTIME, &mut time) };
+    Duration::new(time.seconds as u64, time.nanoseconds as u32)
 }
 
-fn show(name: &str, time: Duration) {
-    println!("{:>9.1} µs  {name}", time.as_secs_f64() * 1e6);
+#[cfg(not(target_os = "linux"))]
+fn processor() -> Duration {
+    Duration::ZERO
+}
+
+/// Prints the least clock time and the least processor time of many runs; what the work hands
+/// back is not optimised away.
+fn time<T>(name: &str, runs: usize, mut work: impl FnMut() -> T) {
+    let (mut clock, mut cpu) = (Duration::MAX, Duration::MAX);
+    for _ in 0..runs {
+        let (start, used) = (Instant::now(), processor());
+        black_box(work());
+        cpu = cpu.min(processor() - used);
+        clock = clock.min(start.elapsed());
+    }
+    let micros = |d: Duration| d.as_secs_f64() * 1e6;
+    println!("{:>9.1} {:>9.1}  {name}", micros(clock), micros(cpu));
 }
 
 pub fn run(runs: usize) {
@@ -69,28 +93,20 @@ pub fn run(runs: usize) {
         let file = sheet.to_file();
         let points = sheet.points.len();
         let gate = if gated { "with" } else { "without" };
-        println!("{points} points, {gate} the edge gate, least of {runs} runs");
-        if let Some(prepared) = Prepared::new(&sheet) {
-            show(
-                "original drop_set",
-                least(runs, || drop(black_box(prepared.drop_set()))),
-            );
-            show(
-                "original validate",
-                least(runs, || drop(black_box(prepared.validate()))),
-            );
-        }
-        let answer = || drop(black_box(second::answer(&file, 1 << 16, Fault::None)));
-        show(
-            "second program, file to rows and listing",
-            least(runs, answer),
+        println!(
+            "{points} points, {gate} the edge gate; µs, least of {runs} runs: clock, processor"
         );
+        if let Some(prepared) = Prepared::new(&sheet) {
+            time("original drop_set", runs, || prepared.drop_set());
+            time("original validate", runs, || prepared.validate());
+        }
+        let answer = || second::answer(&file, 1 << 16, Fault::None);
+        time("second program, file to rows and listing", runs, answer);
         let mut rows = vec![0; second::ROW * points];
         if kept::call(&file, &mut rows).is_some() {
-            let call = || {
-                black_box(kept::call(&file, &mut rows));
-            };
-            show("static library, file to rows", least(runs, call));
+            time("static library, file to rows", runs, || {
+                kept::call(&file, &mut rows)
+            });
         }
     }
 }

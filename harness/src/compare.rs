@@ -2,6 +2,7 @@
 
 use crate::angles;
 use crate::generate::{self, Case, Expected, Kind};
+use crate::kept;
 use crate::run_original::{Held, Prepared};
 use crate::second::{self, Answer, Fault, ROW};
 use crate::sheet::Sheet;
@@ -65,6 +66,9 @@ pub fn check(case: &Case, answer: &Answer) -> Verdict {
     };
     if case.expected != Expected::Unknown && refusal != case.expected {
         return Verdict::Different(format!("expected {:?}, found {refusal:?}", case.expected));
+    }
+    if let Some(text) = kept::difference(&case.file, case.buffer, answer) {
+        return Verdict::Different(text);
     }
     if refusal != Expected::Accepted {
         return Verdict::Same;
@@ -160,10 +164,10 @@ impl Report {
     }
 
     pub fn print(&self) {
-        println!("kind         sheets accepted acos differ");
+        println!("kind           sheets accepted acos differ");
         for (&(kind, _), [sheets, accepted, acos, differ]) in Kind::ALL.iter().zip(&self.by_kind) {
             println!(
-                "{:<12} {sheets:>6} {accepted:>8} {acos:>4} {differ:>6}",
+                "{:<14} {sheets:>6} {accepted:>8} {acos:>4} {differ:>6}",
                 format!("{kind:?}")
             );
         }
@@ -185,13 +189,15 @@ impl Report {
             );
             print!("{}", text::to_text(&Sheet::from_file(&case.file).unwrap()));
         }
-        println!(
-            "{} sheets, {} alike, {} differ by acos alone, {} differ",
-            self.sheets,
-            self.sheets - self.acos - self.failed,
-            self.acos,
-            self.failed
-        );
+        let (sheets, acos, failed) = (self.sheets, self.acos, self.failed);
+        if cfg!(original_at_hand) {
+            let alike = sheets - acos - failed;
+            println!(
+                "{sheets} sheets, {alike} alike, {acos} differ by acos alone, {failed} differ"
+            );
+        } else {
+            println!("{sheets} sheets through the second program alone, {failed} differ");
+        }
     }
 }
 

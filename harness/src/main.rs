@@ -3,9 +3,12 @@
 mod angles;
 mod bench;
 mod compare;
+mod floats;
 mod generate;
 mod kept;
 mod mutants;
+mod properties;
+mod quick;
 mod random;
 #[cfg(not(original_at_hand))]
 #[path = "no_original.rs"]
@@ -30,13 +33,16 @@ harness compare [--sheets N] [--seed S] [--kind KIND]
                                       original against second program
 harness mutants [--sheets N] [--seed S]
                                       how many sheets show each deliberate fault
-harness acos                          floats beside 30 degrees, and cosines acos cannot tell apart
+harness acos [COSINE ..]              what the Rust's acos makes of 30 degrees and of least cosines
 harness generate KIND SEED            a sheet file to standard output
 harness kinds                         the kinds of generated sheets
 harness second [BUFFER]               listing of the sheet file on standard input
 harness original                      rows of the original for the sheet file on standard input
 harness vectors FILE [--sheets N] [--seed S] [--most BYTES]
                                       a bundle of files with their expected answers
+harness floats FILE [--count N] [--seed S]
+                                      a bundle of single f32 operations
+harness roots [--step N]              the machine's root against whole numbers
 harness bench [--runs N]              microseconds a sheet
 harness text to-file | from-file      lines of text to a sheet file and back
 ";
@@ -70,6 +76,10 @@ fn output(bytes: &[u8]) {
         .unwrap_or_else(|e| fail(&e.to_string()));
 }
 
+fn save(file: &str, bytes: &[u8]) {
+    std::fs::write(file, bytes).unwrap_or_else(|e| fail(&e.to_string()));
+}
+
 /// One line if the Rust files were not at hand when this was built.
 fn say_without_original() {
     if !cfg!(original_at_hand) {
@@ -91,75 +101,24 @@ fn compare(args: &[String]) -> bool {
     report.failed == 0
 }
 
-fn mutants(sheets: usize, seed: u64) -> usize {
-    mutants::print(sheets, &mutants::run(sheets, seed))
+fn mutants(args: &[String]) -> bool {
+    let sheets = option(args, "--sheets", 2700) as usize;
+    let shown = mutants::run(sheets, option(args, "--seed", 0), false);
+    mutants::print(sheets, &shown);
+    mutants::unseen(&shown) == 0
 }
 
-/// Floats beside the limit of 30 degrees that the Rust judges otherwise, and for some least
-/// cosines of tag 2 how many floats below them its acos cannot tell from them.
-fn acos() {
-    let others = stars::beside_30_degrees();
-    println!(
-        "floats from 1/2 to 1 that acos judges otherwise at 30 degrees: {}",
-        others.len()
-    );
-    for c in others {
-        println!("  {:08X} {c}", c.to_bits());
+/// All floats against 30 degrees, or the floats that acos cannot tell from given cosines.
+fn acos(cosines: &[&str]) {
+    if cosines.is_empty() {
+        return angles::sweep();
     }
-    for least in [
-        16_613_942.0 / 16_777_216.0,
-        0.6f32,
-        0.8,
-        0.5,
-        0.9,
-        0.99,
-        0.999,
-        0.0,
-        -0.5,
-    ] {
-        let mut c = least.next_down();
-        let mut alike = 0;
-        while angles::degrees(c) <= angles::limit(least) {
-            alike += 1;
-            c = c.next_down();
+    for word in cosines {
+        match text::float(word) {
+            Ok(least) if least.abs() <= 1.0 => angles::alike(least),
+            _ => fail("acos takes cosines from -1 to 1"),
         }
-        println!(
-            "least cosine {:08X} {least}: {alike} floats below it",
-            least.to_bits()
-        );
     }
-}
-
-/// The checks of the gate; true if all hold.
-fn quick() -> bool {
-    say_without_original();
-    let (mut passed, mut failed) = (0, 0);
-    let mut count = |name: &str, holds: bool| {
-        if holds {
-            passed += 1;
-        } else {
-            failed += 1;
-            println!("failed: {name}");
-        }
-    };
-    for (name, holds) in stars::checks() {
-        count(&name, holds);
-    }
-    let report = compare::run(4600, 1, None);
-    report.print();
-    count(
-        "the original and the second program agree",
-        report.failed == 0,
-    );
-    count("deliberate faults show", mutants(1150, 1) == 0);
-    let pair = |k: u64| generate::case(Kind::Gated, k).file;
-    let kept = |k: u64| {
-        let sheet = Sheet::from_file(&pair(k)).unwrap();
-        text::from_text(&text::to_text(&sheet)).unwrap().to_file() == pair(k)
-    };
-    count("text and back", (0..200).all(kept));
-    println!("{passed} passed, {failed} failed");
-    failed == 0
 }
 
 fn original_rows() {
@@ -201,13 +160,13 @@ fn main() -> ExitCode {
     let words: Vec<&str> = args.iter().map(String::as_str).collect();
     let mut holds = true;
     match words.as_slice() {
-        ["quick"] => holds = quick(),
-        ["compare", ..] => holds = compare(&args),
-        ["mutants", ..] => {
-            let sheets = option(&args, "--sheets", 2300) as usize;
-            holds = mutants(sheets, option(&args, "--seed", 0)) == 0;
+        ["quick"] => {
+            say_without_original();
+            holds = quick::run();
         }
-        ["acos"] => acos(),
+        ["compare", ..] => holds = compare(&args),
+        ["mutants", ..] => holds = mutants(&args),
+        ["acos", cosines @ ..] => acos(cosines),
         ["generate", kind, seed] => output(&generated(kind, seed)),
         ["kinds"] => Kind::ALL
             .iter()
@@ -225,7 +184,16 @@ fn main() -> ExitCode {
             let sheets = option(&args, "--sheets", 230) as usize;
             let most = option(&args, "--most", 2000) as usize;
             let bundle = vectors::bundle(sheets, option(&args, "--seed", 0), most);
-            std::fs::write(file, bundle).unwrap_or_else(|e| fail(&e.to_string()));
+            save(file, &bundle);
+        }
+        ["floats", file, ..] => {
+            let count = option(&args, "--count", 2000) as usize;
+            save(file, &floats::bundle(count, option(&args, "--seed", 0)));
+        }
+        ["roots", ..] => {
+            let (count, otherwise) = floats::roots(option(&args, "--step", 1).max(1) as usize);
+            println!("{count} floats, {otherwise} with another root");
+            holds = otherwise == 0;
         }
         ["bench", ..] => bench::run(option(&args, "--runs", 200) as usize),
         ["text", "to-file"] => output(&to_file()),

@@ -10,14 +10,28 @@ pub const NONE_CAN_SHOW: &[(Fault, &str)] = &[(
      one, so no visit changes what another finds",
 )];
 
-/// How many of the sheets show each fault, in the order of `Fault::ALL`, and the first kind
-/// and seed that does.
-pub fn run(sheets: usize, seed: u64) -> Vec<(usize, Option<(Kind, u64)>)> {
-    let mut shown = vec![(0, None); Fault::ALL.len()];
+/// A fault's count of sheets that show it, and the first kind and seed that does.
+type Shown = Vec<(usize, Option<(Kind, u64)>)>;
+
+/// Whether a sheet could show a fault.
+pub fn can_show(fault: Fault) -> bool {
+    NONE_CAN_SHOW.iter().all(|(f, _)| *f != fault)
+}
+
+/// How many of the sheets show each fault, in the order of `Fault::ALL`. With `once` a fault
+/// is left alone after the first sheet that shows it, and the run ends when all are seen.
+pub fn run(sheets: usize, seed: u64, once: bool) -> Shown {
+    let mut shown: Shown = vec![(0, None); Fault::ALL.len()];
     for i in 0..sheets {
+        let faults = Fault::ALL.iter().enumerate();
+        let open = faults.filter(|(k, _)| !once || shown[*k].0 == 0);
+        let open: Vec<(usize, Fault)> = open.map(|(k, &(fault, _))| (k, fault)).collect();
+        if once && open.iter().all(|&(_, fault)| !can_show(fault)) {
+            break;
+        }
         let case = generate::nth(seed, i);
         let right = second::answer(&case.file, case.buffer, Fault::None);
-        for (k, &(fault, _)) in Fault::ALL.iter().enumerate() {
+        for (k, fault) in open {
             if second::answer(&case.file, case.buffer, fault) != right {
                 shown[k].0 += 1;
                 shown[k].1.get_or_insert((case.kind, case.seed));
@@ -27,21 +41,23 @@ pub fn run(sheets: usize, seed: u64) -> Vec<(usize, Option<(Kind, u64)>)> {
     shown
 }
 
-/// Prints the table; how many faults went unseen that a sheet could show.
-pub fn print(sheets: usize, shown: &[(usize, Option<(Kind, u64)>)]) -> usize {
-    let mut missed = 0;
+/// How many faults went unseen that a sheet could show.
+pub fn unseen(shown: &Shown) -> usize {
+    let faults = Fault::ALL.iter().zip(shown);
+    faults
+        .filter(|((fault, _), (count, _))| *count == 0 && can_show(*fault))
+        .count()
+}
+
+pub fn print(sheets: usize, shown: &Shown) {
     println!("of {sheets} sheets, those that show the fault:");
     for (&(fault, text), (count, first)) in Fault::ALL.iter().zip(shown) {
         let argued = NONE_CAN_SHOW.iter().find(|(f, _)| *f == fault);
         let note = match (first, argued) {
             (Some((kind, seed)), _) => format!("first {kind:?} {seed}"),
             (None, Some((_, why))) => format!("none can: {why}"),
-            (None, None) => {
-                missed += 1;
-                "UNSEEN".into()
-            }
+            (None, None) => "UNSEEN".into(),
         };
         println!("{count:>6} {:<20} {text} ({note})", format!("{fault:?}"));
     }
-    missed
 }

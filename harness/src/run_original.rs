@@ -8,12 +8,34 @@ use original::shared::validate::wrong_label_filters::{drop_set, DropSet};
 use original::shared::validate::{
     validate, EdgeShapeParams, LabelledEntry, ValidationParams, ValidationResult,
 };
-use std::collections::HashMap;
+use original::test_only;
+use std::collections::{HashMap, HashSet};
+
+/// Positions by index: a list where the indices are small, so that a caller's look-up costs
+/// the original as little as it can.
+enum Positions {
+    List(Vec<Point2<f32>>),
+    Map(HashMap<usize, Point2<f32>>),
+}
+
+impl Positions {
+    fn new(entries: &[LabelledEntry]) -> Positions {
+        let largest = entries.iter().map(|e| e.idx).max().unwrap_or(0);
+        if largest >= 1 << 16 {
+            return Positions::Map(entries.iter().map(|e| (e.idx, e.pixel)).collect());
+        }
+        let mut list = vec![Point2::new(0.0, 0.0); largest + 1];
+        for e in entries {
+            list[e.idx] = e.pixel;
+        }
+        Positions::List(list)
+    }
+}
 
 /// A sheet as the original takes it.
 pub struct Prepared {
     labelled: HashMap<(i32, i32), usize>,
-    positions: HashMap<usize, Point2<f32>>,
+    positions: Positions,
     entries: Vec<LabelledEntry>,
     cell_size: f32,
     params: ValidationParams,
@@ -58,7 +80,7 @@ impl Prepared {
         let entries: Vec<LabelledEntry> = sheet.points.iter().map(entry).collect();
         Some(Prepared {
             labelled: entries.iter().map(|e| (e.grid, e.idx)).collect(),
-            positions: entries.iter().map(|e| (e.idx, e.pixel)).collect(),
+            positions: Positions::new(&entries),
             entries,
             cell_size: sheet.settings.cell_size,
             params,
@@ -67,15 +89,22 @@ impl Prepared {
         })
     }
 
-    pub fn drop_set(&self) -> DropSet {
+    fn drop_set_with(&self, position: impl Fn(usize) -> Point2<f32>) -> DropSet {
         drop_set(
             &self.labelled,
-            |index| self.positions[&index],
+            position,
             self.cell_size,
             &self.params,
             self.wrong_label,
             self.largest_patch,
         )
+    }
+
+    pub fn drop_set(&self) -> DropSet {
+        match &self.positions {
+            Positions::List(list) => self.drop_set_with(|index| list[index]),
+            Positions::Map(map) => self.drop_set_with(|index| map[&index]),
+        }
     }
 
     pub fn validate(&self) -> ValidationResult {
@@ -149,4 +178,23 @@ fn put(row: &mut [u8; ROW], k: usize, float: f32) {
         float.to_bits()
     };
     row[8 + 4 * k..12 + 4 * k].copy_from_slice(&bits.to_le_bytes());
+}
+
+/// The filter that the original compiles for its tests only: the indices that it peels, some
+/// being dropped before. None where the original is not at hand.
+pub fn weak_leaf_peel(
+    sheet: &Sheet,
+    strength: impl Fn(u32) -> f32,
+    dropped: &[u32],
+    fraction: f32,
+) -> Option<HashSet<u32>> {
+    let labelled = sheet
+        .points
+        .iter()
+        .map(|p| ((p.u, p.v), p.index as usize))
+        .collect();
+    let dropped = dropped.iter().map(|&index| index as usize).collect();
+    let of = |index: usize| strength(index as u32);
+    let peeled = test_only::wrong_label_filters::weak_leaf_peel(&labelled, of, &dropped, fraction);
+    Some(peeled.into_iter().map(|index| index as u32).collect())
 }

@@ -62,7 +62,8 @@ pub fn to_text(sheet: &Sheet) -> String {
     out
 }
 
-fn float(word: &str) -> Result<f32, String> {
+/// A float from its decimal or hexadecimal form.
+pub fn float(word: &str) -> Result<f32, String> {
     match word.strip_prefix("0x") {
         Some(digits) => u32::from_str_radix(digits, 16)
             .map(f32::from_bits)

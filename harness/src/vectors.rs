@@ -15,6 +15,7 @@
 use crate::compare::{self, Verdict};
 use crate::generate;
 use crate::second::{self, Answer, Fault};
+use crate::stars;
 
 fn put(out: &mut Vec<u8>, numbers: &[usize]) {
     for &n in numbers {
@@ -52,8 +53,16 @@ fn encode(file: &[u8], buffer: usize, answer: &Answer) -> Vec<u8> {
     out
 }
 
-/// A bundle of `sheets` generated cases of at most `most` bytes of file each.
+/// A bundle of document 01's sheets and `sheets` generated cases, of at most `most` bytes of
+/// file each.
 pub fn bundle(sheets: usize, seed: u64, most: usize) -> Vec<u8> {
+    let named = stars::files().into_iter().filter(|file| file.len() <= most);
+    let named: Vec<Vec<u8>> = named
+        .map(|file| {
+            let buffer = file.len() * 2;
+            encode(&file, buffer, &second::answer(&file, buffer, Fault::None))
+        })
+        .collect();
     let mut cases = Vec::new();
     let mut i = 0;
     while cases.len() < sheets {
@@ -70,7 +79,8 @@ pub fn bundle(sheets: usize, seed: u64, most: usize) -> Vec<u8> {
         }
     }
     let mut out = Vec::new();
-    put(&mut out, &[sheets]);
+    put(&mut out, &[named.len() + sheets]);
+    out.extend(named.concat());
     out.extend(cases.concat());
     out
 }

@@ -1,10 +1,12 @@
--- `x != x` is the test for a NaN. Assumes nothing.
-use mathlib.Core.Path.{_≡_, refl, sym, ap, _∙_, subst}
+-- A NaN: `x != x` is the test for it, and its patterns. Assumes nothing.
+use mathlib.Core.Path.{_≡_, refl, sym, _∙_, subst}
 use mathlib.Core.Bool.{Bool, true, false, not}
-use Prim.Native.Nat.{ℕ}
+use Prim.Native.Nat.{ℕ, _%_, _≤_, _<_}
 use native.Mathlib.Omega.{arith}
+use borrow.Author.Tests.{lt-ltb, le-ltb}
 use lib.Dec.{T}
-use lib.Ieee.{Float, nan, inf, fin, isNan, ne}
+use lib.Ieee.{Float, nan, inf, fin, isNan, ne, binary32, ofBits, nanBits, div}
+use lib.Ieee.Bits.{nanBits-is, nanBits-above}
 use lib.Ieee.Compare.{differs-from-itself, nan-differs}
 
 nan-test : (x : Float) → ne x x ≡ isNan x
@@ -23,3 +25,20 @@ is-nan x h = sym (nan-test x) ∙ h
 
 pub no-nan : (x : Float) → ne x x ≡ false → T (not (isNan x))
 no-nan x h = subst (λ (t : Bool). T (not t)) (sym (is-nan x h)) tt
+
+pub only-nan : (x : Float) → isNan x ≡ true → x ≡ nan
+unfolding isNan
+only-nan nan h = refl
+only-nan (inf s) h = absurd (let z : _≡_ {A = ℕ} 0 1 = cc in omega arith)
+only-nan (fin s m e) h = absurd (let z : _≡_ {A = ℕ} 0 1 = cc in omega arith)
+
+-- the patterns of a NaN, with either sign, are those above the infinity's
+pub nan-pattern : (b : ℕ) → 0x7f80_0000 < b % 2147483648 → ofBits binary32 b ≡ nan
+nan-pattern b h = only-nan (ofBits binary32 b) (sym (nanBits-is binary32 b) ∙ nanBits-above binary32 b ∙ lt-ltb 0x7f80_0000 (b % 2147483648) h)
+
+pub no-nan-pattern : (b : ℕ) → b % 2147483648 ≤ 0x7f80_0000 → T (not (nanBits binary32 b))
+no-nan-pattern b h = subst (λ (t : Bool). T (not t)) (sym (nanBits-above binary32 b ∙ le-ltb 0x7f80_0000 (b % 2147483648) h)) tt
+
+pub zero-over-zero : div binary32 (ofBits binary32 0) (ofBits binary32 0) ≡ nan
+unfolding div ofBits
+zero-over-zero = refl

@@ -1,8 +1,8 @@
 -- The nearest whole root: the definition that computes is the nearest one, and its range for a significand. Assumes nothing.
-use mathlib.Core.Path.{_≡_, refl, sym, ap, _∙_, subst}
+use mathlib.Core.Path.{_≡_, sym, ap, _∙_, subst}
 use mathlib.Core.Bool.{Bool, true, false, not, cond}
 use Prim.Native.Nat.{ℕ, zero, suc, _+_, _-_, _*_, _/_, _%_, _^_, _≤_, _<_}
-use native.Mathlib.Nat.{le-antisymm, le-of-suc-le-suc, lt-of-not-le, le-dest, mul-comm, mul-assoc, mul-add, add-mul, mul-one, one-mul, pow-succ'}
+use native.Mathlib.Nat.{le-antisymm, le-of-suc-le-suc, lt-of-not-le, le-dest, mul-comm, mul-add, add-mul, pow-succ'}
 use native.Mathlib.Omega.{arith}
 use lib.Dec.{T, leb, ltb, leb→le, nleb→lt, ltb→lt, nltb→le}
 use Rattle.float.specs.Root.{NearRoot, floorRoot, nearRoot}

@@ -1,18 +1,19 @@
 -- 14,529,495 / 2 ^ 24 is the largest f32 whose square is below 3 / 4. Assumes nothing.
 use mathlib.Core.Path.{_≡_, refl, sym, ap, _∙_, subst}
-use mathlib.Core.Bool.{Bool, true, false, not, _&&_, _||_}
-use Prim.Native.Nat.{ℕ, zero, suc, _+_, _-_, _*_, _/_, _%_, _^_, _≤_, _<_}
+use mathlib.Core.Bool.{Bool, true, false, _&&_, _||_}
+use Prim.Native.Nat.{ℕ, zero, suc, _+_, _-_, _*_, _^_, _≤_, _<_}
 use mathlib.Core.Logic.{inl, inr}
-use native.Mathlib.Nat.{eq-or-lt-of-le, eq-zero-or-pos, lt-of-not-le, lt-of-lt-of-le, lt-of-le-of-lt, le-trans, mul-le-mul-left, mul-le-mul-right, mul-assoc, mul-comm, mul-left-comm, mul-one, one-mul, zero-mul, mul-pos, le-of-mul-le-mul-right, lt-of-mul-lt-mul-right}
+use native.Mathlib.Nat.{eq-or-lt-of-le, eq-zero-or-pos, lt-of-not-le, mul-assoc, mul-comm, mul-left-comm, zero-mul, mul-pos, le-of-mul-le-mul-right, lt-of-mul-lt-mul-right}
 use native.Mathlib.Decide.{decLe}
 use native.Mathlib.Omega.{arith}
 use borrow.Author.Tests.{lt-ltb, le-ltb, eq-eqb, ne-eqb}
-use lib.Dec.{T, leb, ltb, eqb, ltb→lt}
-use lib.Pow.{pow-pos, pow-mono, pow-add}
+use lib.Dec.{T, ltb, eqb}
+use lib.Pow.{pow-mono, pow-add}
 use lib.IntN.{ℤ, pos, negsuc}
 use lib.Ieee.{Float, nan, inf, fin, binary32, up, down, lt, eq, le, fits, ofBits}
-use lib.Ieee.Fits.{down-pos, and-l, and-r}
+use lib.Ieee.Fits.{down-pos}
 use Rattle.float.specs.Scalar.{over30Degrees, fourSquaresBelowThree}
+use Rattle.float.proofs.Pattern.{held}
 use Rattle.float.proofs.Squares.{square-le}
 
 pub limit : ofBits binary32 0x3f5d_b3d7 ≡ fin false 14529495 (negsuc 23)
@@ -21,7 +22,7 @@ limit = refl
 
 -- (a * b) * (a * b)
 square-of : (a b : ℕ) → a * b * (a * b) ≡ a * a * (b * b)
-square-of a b = simp (mul-assoc, mul-comm, mul-left-comm)
+square-of a b = simp (mul-assoc, mul-left-comm)
 
 -- at most the limit: below
 under : (n d : ℕ) → 0 < d → n * 16777216 ≤ 14529495 * d → 4 * (n * n) < 3 * (d * d)
@@ -75,17 +76,6 @@ decide x y n d p q = go (decLe x y)
           | inr g ↦ rw (lt-ltb x y g, lt-ltb (4 * (n * n)) (3 * (d * d)) (p l))
         ]
 
--- a significand that the format holds is below 2 ^ 24
-held : (s : Bool) (m : ℕ) (e : ℤ) → T (fits binary32 (fin s m e)) → m < 16777216
-unfolding fits
-held s zero e h = omega arith
-held s (suc m) e h =
-    let A = eqb (suc m % 2) 1 in
-    let B = ltb (suc m) 16777216 in
-    let C = leb (down e) (2 ^ 149) in
-    let D = ltb (suc m * up e) (2 ^ 128 * down e) in
-    ltb→lt (suc m) 16777216 (and-r A B (and-l (A && B) C (and-l (A && B && C) D h)))
-
 beyond-at : (m : ℕ) (e : ℤ) → m < 16777216 → 14529495 * down e < m * up e * 16777216 → 3 * (down e * down e) ≤ 4 * (m * up e * (m * up e))
 beyond-at m (pos k) M h = above (m * 2 ^ k) 1 16777216 refl h
 beyond-at m (negsuc k) M h = beyond (m * 1) (suc k) (omega arith) h
@@ -108,8 +98,12 @@ at-limit (inf true) h = refl
 at-limit (inf false) h = refl
 at-limit (fin true m e) h = rw (lt-ltb 0 (m * up e * 16777216 + 14529495 * down e) (omega (arith, down-pos e)), low (m * up e) (down e) (down-pos e))
 at-limit (fin false m e) h =
-    decide (m * up e * 16777216) (14529495 * down e) (m * up e) (down e) (under (m * up e) (down e) (down-pos e)) (beyond-at m e (held false m e h))
+    decide (m * up e * 16777216) (14529495 * down e) (m * up e) (down e) (under (m * up e) (down e) (down-pos e)) (beyond-at m e (small m h))
     ∙ sym (ap (λ (b : Bool). b || fourSquaresBelowThree (m * up e) (down e)) (le-ltb (m * up e * 1) (0 * down e) (omega arith)))
+  where
+    small : (m : ℕ) → T (fits binary32 (fin false m e)) → m < 16777216
+    small zero h = omega arith
+    small (suc m) h = held false m e h .0
 
 pub over-30-degrees : (c : Float) → T (fits binary32 c) → le c (ofBits binary32 0x3f5d_b3d7) ≡ over30Degrees c
 over-30-degrees c h = ap (le c) limit ∙ at-limit c h

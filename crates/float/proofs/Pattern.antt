@@ -1,19 +1,19 @@
 -- From the bit pattern of an f32 to the number that it stands for, and from there to the root. Assumes nothing.
 use mathlib.Core.Path.{_≡_, refl, sym, ap, _∙_, subst}
-use mathlib.Core.Bool.{Bool, true, false, not, cond}
+use mathlib.Core.Bool.{Bool, true, false, cond, _&&_}
 use Prim.Native.Nat.{ℕ, zero, suc, _+_, _-_, _*_, _/_, _%_, _^_, _≤_, _<_}
-use native.Mathlib.Nat.{le-trans, le-antisymm, le-of-eq, lt-of-lt-of-le, lt-of-not-le, not-le-of-lt, lt-irrefl, mod-eq-of-lt, mul-pos, zero-mul, mul-comm, mul-assoc, mul-div-cancel, mul-le-mul-right, mul-lt-mul-of-pos-right, le-of-mul-le-mul-right, lt-of-mul-lt-mul-right, add-comm, pow-succ', two-pow-succ}
+use native.Mathlib.Nat.{le-antisymm, lt-of-lt-of-le, lt-of-not-le, not-le-of-lt, mod-eq-of-lt, mul-pos, zero-mul, mul-assoc, mul-div-cancel, mul-le-mul-right, mul-lt-mul-of-pos-right, pow-succ', two-pow-succ}
 use native.Mathlib.Omega.{arith}
-use lib.Dec.{T, leb, eqb, leb→le, eqb→eq, not-T}
+use lib.Dec.{T, leb, ltb, eqb, ltb→lt, leb→le, eqb→eq, not-T}
 use lib.Pow.{pow-pos, pow-mono, pow-add, shl-lt}
+use lib.IntN.{ℤ}
 use lib.Count.{leadingZeros, leading-top}
-use lib.IntN.{pos, negsuc}
-use lib.Ieee.{Float, nan, inf, fin, binary32, up, down, odd, size, ofFields, ofBits, isNan, nanBits}
-use lib.Ieee.Bits.{is-true, is-false, cond-no}
-use lib.Ieee.Fits.{down-pos}
+use lib.Ieee.{Float, nan, inf, fin, binary32, up, down, odd, size, ofFields, ofBits, fits}
+use lib.Ieee.Bits.{is-false, cond-no}
+use lib.Ieee.Fits.{down-pos, and-l, and-r}
 use lib.Ieee.Digits.{size-lt, size-le}
 use lib.Ieee.Exact.{HasValue, odd-sign}
-use Rattle.float.specs.Root.{digits4, scaled, nearRoot, units, rootUnits, rootOf}
+use Rattle.float.specs.Root.{digits4, scaled, nearRoot, rootUnits, rootOf}
 use Rattle.float.proofs.Near.{significand}
 
 pub ofBits-is : (b : ℕ) → ofBits binary32 b ≡ ofFields binary32 (leb 2147483648 b) (b % 2147483648 / 8388608) (b % 8388608)
@@ -143,20 +143,39 @@ pattern-of-root b r q k m w e Q l h g f d p =
           ∙ sym (ap rootOf e ∙ root-of-value (odd 24 false q k 149) (q * 2 ^ k) (mul-pos Q (pow-pos k)) (odd-sign 24 false q k 149) ∙ root-of-significand (2 * (q * 2 ^ k)) m w l h g d),
     )
 
--- The leading zeros of a subnormal's digits b, less 8, move them up to 24 bits
-pub leading : (b : ℕ) → 0 < b → b < 2 ^ 23
-    → (8 ≤ leadingZeros 32 b) × (leadingZeros 32 b ≤ 31) × (b * 2 ^ (leadingZeros 32 b - 8) % 2 ^ 32 ≡ b * 2 ^ (leadingZeros 32 b - 8)) × (2 ^ 23 ≤ b * 2 ^ (leadingZeros 32 b - 8)) × (b * 2 ^ (leadingZeros 32 b - 8) < 2 ^ 24)
+-- The leading zeros z of a significand b in 32 bits, less 8, move it up to 24 bits
+pub record Leading (b z : ℕ) : Type 0 where
+  pub least : 8 ≤ z
+  pub most : z ≤ 31
+  pub low : 2 ^ 23 ≤ b * 2 ^ (z - 8)
+  pub high : b * 2 ^ (z - 8) < 2 ^ 24
+
+pub leading : (b : ℕ) → 0 < b → b < 2 ^ 24 → Leading b (leadingZeros 32 b)
 leading b B h = go (leadingZeros 32 b) (leading-top 32 b B (omega arith))
   where
-    go : (z : ℕ) → (j : ℕ) × (z + suc j ≡ 32) × (2 ^ j ≤ b) × (b < 2 ^ suc j) → (8 ≤ z) × (z ≤ 31) × (b * 2 ^ (z - 8) % 2 ^ 32 ≡ b * 2 ^ (z - 8)) × (2 ^ 23 ≤ b * 2 ^ (z - 8)) × (b * 2 ^ (z - 8) < 2 ^ 24)
+    go : (z : ℕ) → (j : ℕ) × (z + suc j ≡ 32) × (2 ^ j ≤ b) × (b < 2 ^ suc j) → Leading b z
     go z t =
         let j = t .0 in
-        let J : j < 23 = lt-of-not-le (λ (g : 23 ≤ j). not-le-of-lt (lt-of-lt-of-le h (pow-mono g)) (t .2)) in
+        let J : j < 24 = lt-of-not-le (λ (g : 24 ≤ j). not-le-of-lt (lt-of-lt-of-le h (pow-mono g)) (t .2)) in
         let q : j + (z - 8) ≡ 23 = omega (arith, t .1) in
-        let low : 2 ^ 23 ≤ b * 2 ^ (z - 8) = subst (λ (x : ℕ). x ≤ b * 2 ^ (z - 8)) (sym (pow-add 2 j (z - 8)) ∙ ap (λ (x : ℕ). 2 ^ x) q) (mul-le-mul-right (2 ^ (z - 8)) (t .2)) in
         let q' : suc j + (z - 8) ≡ 24 = omega arith in
-        let high : b * 2 ^ (z - 8) < 2 ^ 24 = subst (λ (x : ℕ). b * 2 ^ (z - 8) < 2 ^ x) q' (shl-lt (suc j) (z - 8) (t .3)) in
-        (omega (arith, t .1), omega (arith, t .1), mod-eq-of-lt (omega arith), low, high)
+        record {
+          least = omega (arith, t .1);
+          most = omega (arith, t .1);
+          low = subst (λ (x : ℕ). x ≤ b * 2 ^ (z - 8)) (sym (pow-add 2 j (z - 8)) ∙ ap (λ (x : ℕ). 2 ^ x) q) (mul-le-mul-right (2 ^ (z - 8)) (t .2));
+          high = subst (λ (x : ℕ). b * 2 ^ (z - 8) < 2 ^ x) q' (shl-lt (suc j) (z - 8) (t .3));
+        }
+
+-- what the format asks of a significand and its exponent
+pub held : (s : Bool) (m : ℕ) (e : ℤ) → T (fits binary32 (fin s (suc m) e)) → (suc m < 2 ^ 24) × (down e ≤ 2 ^ 149)
+unfolding fits
+held s m e t =
+    let A = eqb (suc m % 2) 1 in
+    let B = ltb (suc m) (2 ^ 24) in
+    let C = leb (down e) (2 ^ 149) in
+    let D = ltb (suc m * up e) (2 ^ 128 * down e) in
+    let h = and-l (A && B && C) D t in
+    (ltb→lt (suc m) (2 ^ 24) (and-r A B (and-l (A && B) C h)), leb→le (down e) (2 ^ 149) (and-r (A && B) C h))
 
 -- a subnormal's digits b, moved up by t places
 pub moved-up : (b t : ℕ) → t ≤ 26 → 2 * (b * 2 ^ 0) * 2 ^ 25 ≡ b * 2 ^ t * 2 ^ (26 - t)

@@ -1,13 +1,12 @@
 -- A pattern without its sign. Assumes nothing.
-use mathlib.Core.Path.{_≡_, refl, sym, ap, _∙_, subst}
+use mathlib.Core.Path.{_≡_, refl, sym, ap, _∙_}
 use mathlib.Core.Bool.{Bool, true, false, cond}
-use Prim.Native.Nat.{ℕ, zero, suc, _+_, _*_, _/_, _%_, _^_, _≤_, _<_}
-use native.Mathlib.Nat.{mod-eq-of-lt}
+use Prim.Native.Nat.{ℕ, zero, suc, _+_, _/_, _%_}
 use native.Mathlib.Omega.{arith}
 use borrow.Author.Tests.{lt-leb}
-use lib.Dec.{T, leb, eqb}
-use lib.Ieee.{Float, nan, inf, fin, binary32, odd, ofFields, ofBits, isNan, nanBits}
-use lib.Ieee.Bits.{nanBits-is, nanBits-above}
+use lib.Dec.{leb, eqb}
+use lib.Ieee.{nan, inf, binary32, odd, ofFields, ofBits, nanBits}
+use lib.Ieee.Bits.{nanBits-above}
 use Rattle.float.specs.Scalar.{absOf}
 use Rattle.float.proofs.Pattern.{ofBits-is}
 

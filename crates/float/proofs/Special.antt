@@ -1,20 +1,20 @@
 -- The f32 with a root of its own: a NaN, the zeros, the infinities and what is negative. Assumes nothing.
 use mathlib.Core.Path.{_≡_, refl, sym, ap, _∙_, subst}
-use mathlib.Core.Bool.{Bool, true, false, not, cond}
-use Prim.Native.Nat.{ℕ, zero, suc, _+_, _*_, _/_, _%_, _^_, _≤_, _<_}
+use mathlib.Core.Bool.{Bool, true, false, cond}
+use Prim.Native.Nat.{ℕ, zero, suc, _+_, _*_, _/_, _%_, _^_, _<_}
 use native.Mathlib.Nat.{mul-pos, zero-mul, mul-assoc}
 use native.Mathlib.Decide.{decLt}
 use native.Mathlib.Omega.{arith}
-use borrow.Author.Tests.{le-ltb, le-leb, lt-leb, eq-eqb, ne-eqb}
+use borrow.Author.Tests.{le-leb, lt-leb, eq-eqb, ne-eqb}
 use lib.Dec.{T, leb, eqb}
 use lib.Pow.{pow-pos}
 use lib.IntN.{ℤ}
-use lib.Ieee.{Float, nan, inf, fin, binary32, down, up, odd, ofFields, ofBits, toBits, nanBits, fits, ne, div}
-use lib.Ieee.Bits.{ofBits-toBits, nanBits-above}
+use lib.Ieee.{Float, nan, inf, fin, binary32, down, up, odd, ofFields, ofBits, toBits, fits, ne}
+use lib.Ieee.Bits.{ofBits-toBits}
 use lib.Ieee.Fits.{down-pos}
 use lib.Ieee.Compare.{differs-from-itself}
 use lib.Ieee.Exact.{HasValue, odd-sign}
-use Rattle.float.specs.Root.{rootUnits, rootOf}
+use Rattle.float.specs.Root.{rootOf}
 use Rattle.float.proofs.Pattern.{ofBits-is}
 
 pub root-of-nan : (x : Float) → ne x x ≡ true → x ≡ rootOf x
@@ -40,10 +40,6 @@ root-of-minus-zero = refl
 pub root-of-infinity : ofBits binary32 0x7f80_0000 ≡ rootOf (ofBits binary32 0x7f80_0000)
 unfolding rootOf ofBits
 root-of-infinity = refl
-
--- a pattern below the infinity's is no NaN's
-pub below-nan : (b : ℕ) → b < 0x7f80_0000 → T (not (nanBits binary32 b))
-below-nan b h = subst (λ (t : Bool). T (not t)) (sym (nanBits-above binary32 b ∙ le-ltb 0x7f80_0000 (b % 2147483648) (omega arith))) tt
 
 -- a NaN, -infinity, or below 0
 data Rootless : Float → Type 0 where
@@ -94,7 +90,3 @@ nan-of (negative m e) = refl
 
 pub no-root : (b : ℕ) → 0x7f80_0000 < b → b < 2 ^ 32 → (b ≡ 0x8000_0000 → ⊥) → rootOf (ofBits binary32 b) ≡ nan
 no-root b l h n = nan-of (rootless b l h n)
-
-pub zero-over-zero : div binary32 (ofBits binary32 0) (ofBits binary32 0) ≡ nan
-unfolding div ofBits
-zero-over-zero = refl

@@ -1,7 +1,7 @@
 -- Squares and products of whole numbers, and a step of Newton's iteration. Assumes nothing.
-use mathlib.Core.Path.{_≡_, refl, sym, ap, _∙_, subst}
+use mathlib.Core.Path.{_≡_, ap, _∙_, subst}
 use Prim.Native.Nat.{ℕ, zero, suc, _+_, _*_, _/_, _^_, _≤_, _<_}
-use native.Mathlib.Nat.{le-trans, le-of-eq, le-of-lt, lt-of-lt-of-le, lt-of-le-of-lt, lt-of-not-le, lt-suc-self, zero-lt-suc, le-dest, le-intro, add-comm, add-assoc, add-left-comm, mul-comm, mul-assoc, mul-add, add-mul, mul-one, one-mul, mul-le-mul-left, mul-le-mul-right, mul-le-mul, div-lt-iff-lt-mul, not-le-of-lt}
+use native.Mathlib.Nat.{le-trans, le-of-lt, lt-of-le-of-lt, lt-of-not-le, lt-suc-self, zero-lt-suc, le-dest, mul-comm, mul-assoc, mul-add, add-mul, mul-one, one-mul, mul-le-mul-left, mul-le-mul-right, div-lt-iff-lt-mul}
 use native.Mathlib.Decide.{decLe}
 use native.Mathlib.Omega.{arith}
 use lib.Pow.{shl-lt}

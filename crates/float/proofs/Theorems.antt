@@ -1,21 +1,20 @@
 -- The theorems about the root, for every f32 that is finite and above 0, and the worked examples of the specification. Assumes nothing.
 use mathlib.Core.Path.{_≡_, refl, sym, ap, _∙_, subst}
-use mathlib.Core.Bool.{Bool, true, false, _&&_}
+use mathlib.Core.Bool.{true, false}
 use Prim.Native.Nat.{ℕ, suc, _+_, _-_, _*_, _/_, _%_, _^_, _≤_, _<_}
-use native.Mathlib.Nat.{mul-assoc, mul-one, div-one, mul-div-cancel, le-of-suc-le-suc, lt-of-not-le, not-le-of-lt, mul-le-mul-right}
+use native.Mathlib.Nat.{mul-assoc, mul-one, div-one, mul-div-cancel, le-of-suc-le-suc, lt-of-not-le, not-le-of-lt}
 use native.Mathlib.Omega.{arith}
-use lib.Dec.{T, leb, ltb, eqb, ltb→lt, leb→le}
-use lib.Pow.{pow-pos, pow-add, pow-lt, shl-lt}
-use lib.Count.{leadingZeros, leading-top}
+use lib.Dec.{T}
+use lib.Pow.{pow-pos, pow-add, pow-lt}
+use lib.Count.{leadingZeros}
 use lib.IntN.{ℤ, pos, negsuc}
-use lib.Ieee.{Float, fin, binary32, up, down, fits, ofBits, ofInt, div, round}
-use lib.Ieee.Fits.{and-l, and-r}
+use lib.Ieee.{Float, fin, binary32, down, fits, ofBits, ofInt, div, round}
 use lib.Ieee.Exact.{HasValue, odd-sign}
 use Rattle.float.specs.Constants.{zero, quarter, half, one, two, four, minusOne, epsilon, negligible, lineTolerance, localTolerance, overlongRatio, globalOverlongRatio, duplicateFraction, frontierTolerance}
 use Rattle.float.specs.Root.{NearRoot, digits4, scaled, units, nearRoot, rootUnits, rootOf}
 use Rattle.float.specs.Scalar.{over30Degrees}
 use Rattle.float.proofs.Near.{Remainder, shifted, remainder, near-of-remainder, significand}
-use Rattle.float.proofs.Pattern.{scaled-is, scaled-exact}
+use Rattle.float.proofs.Pattern.{leading, held, scaled-is, scaled-exact}
 use Rattle.float.proofs.Squares.{odd-square}
 
 -- x = n / 2 ^ 150 is an f32 above 0, r the scaled number and s the significand of the root
@@ -46,23 +45,12 @@ Significant n = (m : ℕ) × (w : ℕ) × Significand n m w
 
 significant-of : (m a : ℕ) → 0 < m → m < 2 ^ 24 → Significant (2 * (m * 2 ^ a))
 significant-of m a M h =
-    let t = leading-top 24 m M h in
-    let z = leadingZeros 24 m in
-    let j = t .0 in
-    let k : j + z ≡ 23 = omega (arith, t .1) in
-    let k' : suc j + z ≡ 24 = omega (arith, t .1) in
-    let q : a + 26 ≡ z + (a + 3 + j) = omega arith in
-    let e : m * 2 ^ a * 2 ^ 26 ≡ m * 2 ^ z * 2 ^ (a + 3 + j) =
-    mul-assoc m (2 ^ a) (2 ^ 26) ∙ ap (λ (x : ℕ). m * x) (sym (pow-add 2 a 26) ∙ ap (λ (x : ℕ). 2 ^ x) q ∙ pow-add 2 z (a + 3 + j)) ∙ sym (mul-assoc m (2 ^ z) (2 ^ (a + 3 + j))) in (
-      m * 2 ^ z,
-      a + 3 + j,
-      record {
-        low = subst (λ (x : ℕ). x ≤ m * 2 ^ z) (sym (pow-add 2 j z) ∙ ap (λ (x : ℕ). 2 ^ x) k) (mul-le-mul-right (2 ^ z) (t .2));
-        high = subst (λ (x : ℕ). m * 2 ^ z < 2 ^ x) k' (shl-lt (suc j) z (t .3));
-        places = omega arith;
-        same = omega (arith, e);
-      },
-    )
+    let t = leadingZeros 32 m - 8 in
+    let l = leading m M h in
+    let q : a + 26 ≡ t + (a + 26 - t) = omega arith in
+    let e : m * 2 ^ a * 2 ^ 26 ≡ m * 2 ^ t * 2 ^ (a + 26 - t) =
+    mul-assoc m (2 ^ a) (2 ^ 26) ∙ ap (λ (x : ℕ). m * x) (sym (pow-add 2 a 26) ∙ ap (λ (x : ℕ). 2 ^ x) q ∙ pow-add 2 t (a + 26 - t)) ∙ sym (mul-assoc m (2 ^ t) (2 ^ (a + 26 - t))) in
+    (m * 2 ^ t, a + 26 - t, record { low = l .low; high = l .high; places = omega arith; same = omega (arith, e) })
 
 at-most : (i j : ℕ) → 2 ^ i ≤ 2 ^ j → i ≤ j
 at-most i j g = le-of-suc-le-suc (lt-of-not-le (λ (f : suc j ≤ i). not-le-of-lt (pow-lt f) g))
@@ -101,14 +89,10 @@ of-significand x n m w e g =
 -- every f32 that is finite and above 0
 pub rooted : (m : ℕ) (e : ℤ) → T (fits binary32 (fin false (suc m) e))
     → let n = units (suc m) e in Rooted (fin false (suc m) e) n (scaled n) (nearRoot (scaled n))
-unfolding fits rootOf
+unfolding rootOf
 rooted m e t =
-    let A = eqb (suc m % 2) 1 in
-    let B = ltb (suc m) (2 ^ 24) in
-    let C = leb (down e) (2 ^ 149) in
-    let D = ltb (suc m * up e) (2 ^ 128 * down e) in
-    let h = and-l (A && B && C) D t in
-    let g = significant m e (ltb→lt (suc m) (2 ^ 24) (and-r A B (and-l (A && B) C h))) (leb→le (down e) (2 ^ 149) (and-r (A && B) C h)) in
+    let h = held false m e t in
+    let g = significant m e (h .0) (h .1) in
     of-significand (fin false (suc m) e) (units (suc m) e) (g .0) (g .1) refl (g .2)
 
 -- "Root of 2 is 0x3FB504F3"

@@ -1,7 +1,7 @@
 // f32 functions that the language does not have: the nearest root, by whole numbers, and the small ones of Rust.
 ghost use mathlib.Core.Path.{_≡_};
 ghost use Prim.Native.Nat.{_+_, _*_, _/_, _%_, _^_, _≤_, _<_};
-ghost use lib.Ieee.{binary32, ofBits};
+ghost use lib.Ieee.{binary32, ofBits, toBits};
 ghost use Rattle.float.specs.Root.{floorRoot, nearRoot, rootOf};
 ghost use Rattle.float.specs.Scalar.{normOf, absOf, maxOf, minOf, clampOf, over30Degrees};
 
@@ -79,6 +79,26 @@ pub fn sqrt(x: f32) -> f32
         return x;
     }
     0.0 / 0.0
+}
+
+// The f32 with the bit pattern b; every NaN's pattern gives the NaN.
+pub fn from_bits(b: u32) -> f32
+    ensures { λ r. ⌜ r ≡ ofBits binary32 b ⌝ }
+{
+    if b % 0x8000_0000 > 0x7f80_0000 {
+        return 0.0 / 0.0;
+    }
+    f32::from_bits(b)
+}
+
+// The bit pattern of x, 0x7FC00000 for a NaN.
+pub fn to_bits(x: f32) -> u32
+    ensures { λ r. ⌜ r ≡ toBits binary32 x ⌝ }
+{
+    if x != x {
+        return 0x7fc0_0000;
+    }
+    f32::to_bits(x)
 }
 
 // The length of (x, y).

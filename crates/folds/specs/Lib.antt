@@ -5,3 +5,4 @@ pub mod Lists
 pub mod Column
 pub mod Marked
 pub mod Scattered
+pub mod Among

@@ -240,6 +240,7 @@ pub fn settle(r: &mut Random, s: &mut Sheet) {
             0.0
         }
     };
+    s.settings.cell_size = bound(s.settings.cell_size);
     let mut first: HashMap<u32, (f32, f32)> = HashMap::new();
     for p in &mut s.points {
         (p.x, p.y) = *first.entry(p.index).or_insert((bound(p.x), bound(p.y)));

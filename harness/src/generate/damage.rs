@@ -160,7 +160,11 @@ pub fn several(r: &mut Random, seed: u64) -> Case {
         s = whole_sheet(r);
     }
     let mut chosen: Vec<u8> = vec![r.whole(3, 9) as u8];
-    while r.one_in(2) {
+    if r.one_in(2) {
+        // The number after it, whose place in the list then shows.
+        chosen.push(if chosen[0] < 9 { chosen[0] + 1 } else { 8 });
+    }
+    while r.one_in(3) {
         chosen.push(r.whole(3, 9) as u8);
     }
     if r.one_in(60) {

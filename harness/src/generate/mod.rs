@@ -30,13 +30,17 @@ kinds! {
     Patches: "several patches and ties between them",
     Mirrored: "mirrored blocks, exact ties of votes among them",
     Repeated: "repeated indices with equal position bits at several cells",
+    Shared: "indices shared between patches, the wrong-label switch off",
     Ragged: "ragged frontiers with stretched ends",
+    Rows: "one or two rows with edges about 1.5 and 1.6 times the others",
     Close: "coincident points and points 0.2 cell sizes apart",
     Steps: "step flag with thresholds",
+    Rounding: "clean boards with tolerances so small that rounding decides",
     Gated: "edge gate with cosines inside, above 1 and below -1",
     GateLimit: "edge gate with limits beside the figures met",
     Turned: "edges turned about 30 degrees",
     Extreme: "extreme settings",
+    Perpendicular: "sides at right angles, cosines of zero of either sign",
     Degenerate: "positions on a line or on few spots",
     Tiny: "zero, negative zero, subnormal and tiny positions",
     FarCells: "cells at and beside the limits of 8,000",
@@ -109,6 +113,12 @@ pub fn sheet(kind: Kind, r: &mut Random) -> Sheet {
         Kind::Wild => small::wild(r),
         Kind::Degenerate => small::degenerate(r),
         Kind::Tiny => small::tiny(r),
+        Kind::Perpendicular => small::perpendicular(r),
+        Kind::Rows => small::rows(r),
+        Kind::Shared => small::shared(r),
+        Kind::GateLimit if r.one_in(2) => small::bent(r),
+        Kind::Steps if r.one_in(10) => small::two_steps(r),
+        Kind::Steps if r.one_in(2) => small::rows(r),
         Kind::Patches => boards::patches(r),
         Kind::Large => boards::large(r),
         Kind::Clean => boards::clean(r),
@@ -129,8 +139,18 @@ pub fn sheet(kind: Kind, r: &mut Random) -> Sheet {
         Kind::Turned => changes::turn(r, &mut s),
         Kind::Extreme => settings::extreme(r, &mut s),
         Kind::FarCells => changes::far_cells(r, &mut s),
-        Kind::Steps => {
+        Kind::Tiny if r.one_in(2) => settings::gate(r, &mut s),
+        Kind::Rounding => {
+            if r.one_in(2) {
+                changes::noise(r, &mut s);
+            }
+            settings::rounding(r, &mut s);
+        }
+        Kind::Steps if s.settings.rest.is_none() => {
             changes::stretch(r, &mut s);
+            if r.one_in(3) {
+                changes::repeat_indices(r, &mut s);
+            }
             settings::steps(r, &mut s);
         }
         Kind::Gated => {
@@ -138,15 +158,19 @@ pub fn sheet(kind: Kind, r: &mut Random) -> Sheet {
             settings::gate(r, &mut s);
         }
         Kind::GateLimit => {
-            changes::any(r, &mut s);
+            if s.points.len() > 4 {
+                changes::any(r, &mut s);
+            }
             settings::gate_at_limit(r, &mut s);
         }
         _ => {}
     }
-    if kind != Kind::Clean && r.one_in(4) {
+    let plain = matches!(kind, Kind::Clean | Kind::Shared | Kind::Perpendicular);
+    let limit = kind == Kind::GateLimit;
+    if !plain && !limit && r.one_in(4) {
         changes::any(r, &mut s);
     }
-    if r.one_in(4) {
+    if !limit && r.one_in(4) {
         settings::gate(r, &mut s);
     }
     if r.one_in(5) {

@@ -9,8 +9,17 @@ const EXTREME: [f32; 16] = [
     1e-6, 0.5, 1000.0,
 ];
 
-fn rest<'a>(s: &'a mut Sheet) -> &'a mut Rest {
+fn rest(s: &mut Sheet) -> &mut Rest {
     s.settings.rest.get_or_insert_with(Rest::defaults)
+}
+
+/// A tolerance in use, or one so small that rounding decides.
+fn tolerance(r: &mut Random) -> f32 {
+    if r.one_in(2) {
+        r.between(0.0, 0.4)
+    } else {
+        r.pick(&[0.0, 1e-7, 1e-6, 1e-5, -0.1])
+    }
 }
 
 /// The full form with some fields other than the defaults.
@@ -18,9 +27,9 @@ pub fn varied(r: &mut Random, s: &mut Sheet) {
     let cell = s.settings.cell_size;
     let rest = rest(s);
     match r.below(7) {
-        0 => rest.line_tolerance = r.between(0.0, 0.3),
+        0 => rest.line_tolerance = tolerance(r),
         1 => rest.line_minimum = r.pick(&[0, 1, 2, 3, 4, 5, 6, 7, 65535]),
-        2 => rest.local_tolerance = r.between(0.0, 0.4),
+        2 => rest.local_tolerance = tolerance(r),
         3 => rest.step_flag = 1,
         4 => rest.wrong_label = 0,
         5 => rest.largest_patch = 0,
@@ -28,9 +37,19 @@ pub fn varied(r: &mut Random, s: &mut Sheet) {
     }
 }
 
+/// Tolerances about the size of the rounding errors.
+pub fn rounding(r: &mut Random, s: &mut Sheet) {
+    let rest = rest(s);
+    rest.line_tolerance = r.pick(&[0.0, 1e-8, 1e-7, 3e-7, 1e-6]);
+    rest.local_tolerance = r.pick(&[0.0, 0.0, 1e-7, 1e-6, 1e-5]);
+    rest.line_minimum = r.pick(&[2, 3, 3, 4]);
+}
+
 pub fn steps(r: &mut Random, s: &mut Sheet) {
+    s.settings.cell_size *= r.pick(&[1.0, 1.0, 10.0, 0.1]);
     let rest = rest(s);
     rest.step_flag = 1;
+    rest.local_tolerance = r.pick(&[0.2, 0.2, 0.1, 0.03]);
     rest.step_threshold = r.pick(&[0.0, -1.0, 0.05, 0.1, 0.25, 0.5, 1.0, 16384.0, -0.5]);
     rest.line_tolerance = r.pick(&[0.15, 0.05, 0.01, 0.0]);
     rest.line_minimum = r.pick(&[2, 3, 3, 4]);

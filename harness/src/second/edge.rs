@@ -55,7 +55,7 @@ fn under(cosine: f32, least: f32, fault: Fault) -> bool {
     if fault == Fault::AnglesByAcos {
         return angles::degrees(cosine) > angles::limit(least);
     }
-    cosine < least
+    fault.above(least, cosine, Fault::CosineAtEqual)
 }
 
 /// The cells of which the corner is one, by their least corner, in the source's order.
@@ -76,7 +76,9 @@ fn adjacent_cells(board: &Board, (u, v): (i32, i32), gate: &Gate, f: &mut Figure
             };
             keep_least(&mut f.cell_cosine, cosine, fault);
             keep_largest(&mut f.cell_ratio, ratio);
-            if under(cosine, gate.least_cell, fault) || ratio > gate.largest_cell {
+            if under(cosine, gate.least_cell, fault)
+                || fault.above(ratio, gate.largest_cell, Fault::RatioAtEqual)
+            {
                 valid = false;
             }
         }
@@ -105,7 +107,7 @@ fn continuations(
         keep_least(&mut f.continuation_cosine, cosine, fault);
         keep_largest(&mut f.continuation_ratio, ratio);
         bent |= under(cosine, gate.least_continuation, fault);
-        stretched |= ratio > gate.largest_continuation;
+        stretched |= fault.above(ratio, gate.largest_continuation, Fault::RatioAtEqual);
     }
     (bent, stretched)
 }

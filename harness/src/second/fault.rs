@@ -14,6 +14,11 @@ macro_rules! faults {
         impl Fault {
             /// Every deliberate fault with what is wrong.
             pub const ALL: &'static [(Fault, &'static str)] = &[$((Fault::$name, $text),)*];
+
+            /// a above b; under the fault `wrong` also where they are equal.
+            pub fn above(self, a: f32, b: f32, wrong: Fault) -> bool {
+                a > b || (self == wrong && a == b)
+            }
         }
     };
 }
@@ -62,7 +67,17 @@ faults! {
     WindowNarrow: "an edge's window is within 1 cell",
     WindowAtFour: "four edges make a window",
     SheetAtSeven: "seven edges make the whole sheet's median",
-    SheetAngle: "edges judged by the whole sheet fail at 1.5",
+    SheetAtWindowRatio: "edges judged by the whole sheet fail at 1.5",
+    LineAtEqual: "a member at the tolerance itself is flagged",
+    ResidualAtEqual: "a residual at the tolerance itself counts as over",
+    CosineAtEqual: "a cosine at the least itself fails",
+    RatioAtEqual: "a ratio at the largest itself fails",
+    OverlongAtEqual: "an edge of 1.5 times its window's median fails",
+    EndAtEqual: "the end of a line is marked at r = 0.30 itself",
+    WindowFirstEdge: "an edge is held against its window's first edge, not the mean direction",
+    CloseByRoot: "closeness is compared as distances, not as squares",
+    PatchesByIndex: "a patch's size counts indices, not cells",
+    StepsAtEveryCell: "the median of steps is over cells, not indices",
     ThirtyWithoutSign: "over 30 degrees is 4c² < 3 alone",
     CloseAtEqual: "points at exactly 0.2 cell sizes are marked",
     EndWithGap: "the four outermost cells of a line may have a gap",

@@ -112,7 +112,7 @@ fn gate(data: &[u8]) -> Option<Gate> {
 }
 
 fn points(data: &[u8]) -> Option<Vec<Point>> {
-    (data.len() % 20 == 0).then(|| {
+    data.len().is_multiple_of(20).then(|| {
         let point = |(place, record): (usize, &[u8])| Point {
             u: u32_at(record, 0) as i32,
             v: u32_at(record, 4) as i32,

@@ -95,8 +95,9 @@ fn eliminate(rows: &mut [[f32; 9]; 8], fault: Fault) {
                 Fault::MultiplierDivided => rows[r][i] / rows[i][i],
                 _ => rows[r][i] * inverse,
             };
-            for c in i + 1..9 {
-                rows[r][c] -= multiplier * rows[i][c];
+            let pivot_row = rows[i];
+            for (entry, above) in rows[r].iter_mut().zip(pivot_row).skip(i + 1) {
+                *entry -= multiplier * above;
             }
         }
     }

@@ -4,6 +4,7 @@ use super::board::Board;
 use super::fault::Fault;
 use super::plane::{median, over_30_degrees, Vector};
 use crate::angles;
+use std::collections::HashSet;
 
 /// "A cell with neighbours at u+1 and v+1 votes by the sign of its cross product; zero casts
 /// no vote. With votes on both sides, members of the minority only are marked; on a tie,
@@ -86,7 +87,12 @@ fn window(board: &Board, of: &Edge, direction: (i32, i32), fault: Fault) -> Vec<
 
 fn off_axis(of: &Edge, window: &[Edge], fault: Fault) -> bool {
     let mut sum = Vector { x: 0.0, y: 0.0 };
-    for e in window {
+    let taken = if fault == Fault::WindowFirstEdge {
+        1
+    } else {
+        window.len()
+    };
+    for e in &window[..taken] {
         sum = sum.plus(e.vector.over(e.length));
     }
     let length = sum.length();
@@ -115,9 +121,14 @@ fn fails(
     let enough = if fault == Fault::WindowAtFour { 4 } else { 5 };
     if window.len() >= enough {
         let middle = median(window.iter().map(|e| e.length).collect(), fault);
-        return of.length > 1.5 * middle || off_axis(of, &window, fault);
+        let overlong = fault.above(of.length, 1.5 * middle, Fault::OverlongAtEqual);
+        return overlong || off_axis(of, &window, fault);
     }
-    let ratio = if fault == Fault::SheetAngle { 1.5 } else { 1.6 };
+    let ratio = if fault == Fault::SheetAtWindowRatio {
+        1.5
+    } else {
+        1.6
+    };
     whole.is_some_and(|middle| of.length > ratio * middle)
 }
 
@@ -153,7 +164,11 @@ fn mark_close(board: &Board, cell_size: f32, marked: &mut [bool], fault: Fault) 
         for b in a + 1..board.len() {
             let d = board.at(a).minus(board.at(b));
             let distance = d.dot(d);
-            if distance < square || (fault == Fault::CloseAtEqual && distance == square) {
+            let close = match fault {
+                Fault::CloseByRoot => distance.sqrt() < limit,
+                _ => fault.above(square, distance, Fault::CloseAtEqual),
+            };
+            if close {
                 marked[board.home[a]] = true;
                 marked[board.home[b]] = true;
             }
@@ -178,7 +193,7 @@ fn end_marked(board: &Board, four: [usize; 4], fault: Fault) -> bool {
         r = r.abs();
     }
     let most = if fault == Fault::EndAtDegree3 { 3 } else { 2 };
-    r > 0.30 && board.beside(cells[0]).len() <= most
+    fault.above(r, 0.30, Fault::EndAtEqual) && board.beside(cells[0]).len() <= most
 }
 
 fn mark_ends(board: &Board, marked: &mut [bool], fault: Fault) {
@@ -212,10 +227,18 @@ pub fn wrong_label(board: &Board, cell_size: f32, fault: Fault) -> Vec<bool> {
 pub fn component(board: &Board, earlier: &[bool], fault: Fault) -> (Vec<bool>, usize) {
     let survivor: Vec<bool> = board.home.iter().map(|&home| !earlier[home]).collect();
     let patches = board.patches(&survivor, fault == Fault::DiagonalPatches);
+    let size = |patch: &[usize]| match fault {
+        Fault::PatchesByIndex => patch
+            .iter()
+            .map(|&k| board.home[k])
+            .collect::<HashSet<_>>()
+            .len(),
+        _ => patch.len(),
+    };
     let mut kept = 0;
     for (p, patch) in patches.iter().enumerate() {
-        let ties = fault == Fault::TieToLarger && patch.len() == patches[kept].len();
-        if patch.len() > patches[kept].len() || ties {
+        let (new, old) = (size(patch), size(&patches[kept]));
+        if new > old || (fault == Fault::TieToLarger && new == old) {
             kept = p;
         }
     }

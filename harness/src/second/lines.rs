@@ -101,7 +101,8 @@ pub fn line_flags(board: &Board, settings: &Settings, scale: &[f32], fault: Faul
         let line = fit_line(&positions);
         for k in members {
             let counted = fault != Fault::FlagsByCell || k == board.home[k];
-            if distance(&line, board.at(k)) > settings.line_tolerance * scale[k] && counted {
+            let limit = settings.line_tolerance * scale[k];
+            if counted && fault.above(distance(&line, board.at(k)), limit, Fault::LineAtEqual) {
                 flags[board.home[k]] += 1;
             }
         }

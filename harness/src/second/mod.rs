@@ -11,12 +11,14 @@ mod fit;
 mod labels;
 mod lines;
 mod plane;
+mod root;
 mod rows;
 mod validate;
 
 pub use fault::Fault;
 pub use file::{MAX_POINTS, ROW};
 pub use plane::over_30_degrees;
+pub use root::root;
 
 use board::Board;
 use rows::Marks;

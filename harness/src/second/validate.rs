@@ -51,7 +51,7 @@ fn residuals(
         } else {
             2.0 * limit
         };
-        out.over[home] |= residual > limit;
+        out.over[home] |= fault.above(residual, limit, Fault::ResidualAtEqual);
         out.far_over[home] |= residual > limit && residual > twice;
     }
     out
@@ -77,8 +77,11 @@ fn most_flagged(board: &Board, base: &[usize], flags: &[u32], fault: Fault) -> O
 
 /// Rule 4's finding: "step outside median/(1+t) to median·(1+t), threshold t above 0, at
 /// least three steps".
-fn deviating(steps: &[Option<f32>], threshold: f32, fault: Fault) -> Vec<bool> {
-    let all: Vec<f32> = steps.iter().flatten().copied().collect();
+fn deviating(board: &Board, steps: &[Option<f32>], threshold: f32, fault: Fault) -> Vec<bool> {
+    let all: Vec<f32> = match fault {
+        Fault::StepsAtEveryCell => board.home.iter().filter_map(|&home| steps[home]).collect(),
+        _ => steps.iter().flatten().copied().collect(),
+    };
     let enough = if fault == Fault::Rule4AtTwo { 2 } else { 3 };
     if threshold <= 0.0 || all.len() < enough {
         return vec![false; steps.len()];
@@ -122,7 +125,7 @@ pub fn validate(sheet: &Sheet, board: &Board, fault: Fault) -> Findings {
         }
     }
     if s.step_flag == 1 {
-        let deviating = deviating(&steps, s.step_threshold, fault);
+        let deviating = deviating(board, &steps, s.step_threshold, fault);
         for &k in &board.homes {
             marked[k] |= deviating[k] && (flags[k] >= 1 || fault == Fault::Rule4WithoutLine);
         }

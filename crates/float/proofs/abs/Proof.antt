@@ -2,7 +2,7 @@
 use mathlib.Core.Path.{_≡_, sym, ap, _∙_, subst}
 use mathlib.Core.Bool.{Bool, not}
 use lib.Dec.{T}
-use lib.Ieee.{Float, binary32, nan, toBits, ofBits, isNan}
+use lib.Ieee.{binary32, toBits, ofBits, isNan}
 use lib.Ieee.Bits.{ofBits-toBits, nanBits-is}
 use lib.Ieee.Compare.{differs-from-itself}
 use Rattle.float.specs.Scalar.{absOf}
@@ -31,4 +31,5 @@ returns-2 : tie.Need-returns-2
 returns-2 c = abs-bits (toBits binary32 (c .before .args .x)) ∙ ap absOf (back c)
 
 pub abs-spec : {M : Type 1} → statement M
-abs-spec = tie.close (tie.spec returns float-to-bits-result float-from-bits-result returns-2)
+abs-spec = tie.close
+    (tie.spec returns float-to-bits-result float-from-bits-result returns-2)

@@ -16,4 +16,5 @@ unfolding clampOf
 returns-3 c = simp (c .before .if1 .left, c .if2 .left)
 
 pub clamp-spec : {M : Type 1} → statement M
-clamp-spec = tie.close (tie.spec returns returns-2 returns-3)
+clamp-spec = tie.close
+    (tie.spec returns returns-2 returns-3)

@@ -1,5 +1,5 @@
 -- `float::floor_root` meets its contract. The guess is never below the root, and each step from a guess whose square is above n is smaller. Assumes nothing.
-use Prim.Native.Nat.{_/_, _+_, _*_, _^_, _≤_, _<_}
+use Prim.Native.Nat.{_+_, _*_, _^_, _≤_, _<_}
 use borrow.Author.Needs.{needs}
 use native.Mathlib.Omega.{arith}
 use Rattle.float.proofs.Near.{floor-only}
@@ -15,9 +15,6 @@ abbrev μ-loop : tie.MeasureT-loop
 
 add-newton : tie.Need-add-newton Inv-loop μ-loop
 add-newton c = omega arith
-
-newton-requires : tie.Need-newton-requires Inv-loop μ-loop
-newton-requires c κs = search needs
 
 -- each of the three steps, from the first guess on
 first : (c : tie.After-newton Inv-loop μ-loop) → (0x37_ffff ≤ c .newton .result) × (c .newton .result < 2 ^ 26) × (c .before .args .n < (c .newton .result + 1) * (c .newton .result + 1))
@@ -63,4 +60,6 @@ returns : tie.Need-returns Inv-loop μ-loop
 returns c = floor-only _ _ (search needs) (c .loop-test .left, c .before .loop .inv .0)
 
 pub floor-root-spec : {M : Type 1} → statement M
-floor-root-spec = tie.close (tie.spec Inv-loop μ-loop add-newton newton-requires newton-requires-2 newton-requires-3 loop-holds mul-loop newton-requires-4 loop-less loop-again returns)
+floor-root-spec = tie.close
+    (tie.spec Inv-loop μ-loop add-newton (λ c κs. search needs) newton-requires-2 newton-requires-3 loop-holds mul-loop newton-requires-4
+    loop-less loop-again returns)

@@ -17,4 +17,5 @@ unfolding maxOf
 returns-3 c = simp (is-nan _ (c .before .if1 .left), c .if2 .left)
 
 pub max-spec : {M : Type 1} → statement M
-max-spec = tie.close (tie.spec returns returns-2 returns-3)
+max-spec = tie.close
+    (tie.spec returns returns-2 returns-3)

@@ -17,4 +17,5 @@ unfolding minOf
 returns-3 c = simp (is-nan _ (c .before .if1 .left), c .if2 .left)
 
 pub min-spec : {M : Type 1} → statement M
-min-spec = tie.close (tie.spec returns returns-2 returns-3)
+min-spec = tie.close
+    (tie.spec returns returns-2 returns-3)

@@ -2,15 +2,12 @@
 use borrow.Author.Needs.{needs}
 use borrow.Author.Tests.{lt-ltb, le-ltb}
 use native.Mathlib.Omega.{arith}
-use Prim.Native.Nat.{_*_, _+_, _<_, _^_}
+use Prim.Native.Nat.{_*_, _<_, _^_}
 use Rattle.float.specs.Root.{nearRoot}
 use Rattle.float.proofs.Near.{floor-lt}
 use Rattle.float.proofs.Squares.{product-lt}
 use Rattle.float.proofs.near_root.Statement.{statement}
 use Rattle.float.proofs.near_root.Tie as tie
-
-floor-root-requires : tie.Need-floor-root-requires
-floor-root-requires c κs = search needs
 
 -- the root is below 2 ^ 24, and so its square is below 2 ^ 48
 small : (c : tie.After-floor-root) → (c .floor-root .result < 2 ^ 24) × (c .floor-root .result * c .floor-root .result < 2 ^ 48)
@@ -24,9 +21,6 @@ mul-if1 c = omega (arith, small c)
 add-if1 : tie.Need-add-if1
 add-if1 c = omega (arith, small c)
 
-add-result : tie.Need-add-result
-add-result c = search needs
-
 returns : tie.Need-returns
 unfolding nearRoot
 returns c = simp (← c .before .floor-root .ensures, lt-ltb _ _ (c .if1 .taken))
@@ -36,4 +30,5 @@ unfolding nearRoot
 returns-2 c = simp (← c .before .floor-root .ensures, le-ltb _ _ (c .if1 .left))
 
 pub near-root-spec : {M : Type 1} → statement M
-near-root-spec = tie.close (tie.spec floor-root-requires mul-if1 add-if1 add-result returns returns-2)
+near-root-spec = tie.close
+    (tie.spec (λ c κs. search needs) mul-if1 add-if1 (λ c. search needs) returns returns-2)

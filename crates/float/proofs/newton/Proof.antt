@@ -5,14 +5,9 @@ use native.Mathlib.Omega.{arith}
 use Rattle.float.proofs.newton.Statement.{statement}
 use Rattle.float.proofs.newton.Tie as tie
 
-div-result : tie.Need-div-result
-div-result c = search needs
-
 add-result : tie.Need-add-result
 add-result c = omega (arith, div-le-self (c .args .n) (c .args .r))
 
-returns : tie.Need-returns
-returns c = search needs
-
 pub newton-spec : {M : Type 1} → statement M
-newton-spec = tie.close (tie.spec div-result add-result returns)
+newton-spec = tie.close
+    (tie.spec (λ c. search needs) add-result (λ c. search needs))

@@ -9,4 +9,5 @@ returns : tie.Need-returns
 returns c = over-30-degrees (c .args .c) (subst T (sym (c .good .0 .1)) tt)
 
 pub over-30-degrees-spec : {M : Type 1} → statement M
-over-30-degrees-spec = tie.close (tie.spec returns)
+over-30-degrees-spec = tie.close
+    (tie.spec returns)

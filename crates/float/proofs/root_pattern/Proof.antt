@@ -8,21 +8,6 @@ use Rattle.float.proofs.Near.{shifted, significand}
 use Rattle.float.proofs.root_pattern.Statement.{statement}
 use Rattle.float.proofs.root_pattern.Tie as tie
 
-add-n : tie.Need-add-n
-add-n c = search needs
-
-cast-n : tie.Need-cast-n
-cast-n c = search needs
-
-shl-n : tie.Need-shl-n
-shl-n c = search needs
-
-add-result : tie.Need-add-result
-add-result c = search needs
-
-mul-result : tie.Need-mul-result
-mul-result c = search needs
-
 -- the number whose root is taken is not cut
 whole : (c : tie.Start) → (c .args .m * 2 ^ (23 + c .args .w % 2) % 2 ^ 64 ≡ c .args .m * 2 ^ (23 + c .args .w % 2)) × (c .args .m * 2 ^ (23 + c .args .w % 2) ≤ 2 ^ 48 - 2 ^ 24)
 whole c = let h = shifted (c .args .m) (c .args .w % 2) (c .pre .0) (c .pre .1) (omega arith) in (h .0, h .2)
@@ -47,4 +32,6 @@ returns : tie.Need-returns
 returns c = ap (λ (r : ℕ). (c .before .args .w / 2 + 50) * 2 ^ 23 + r) (found c .0)
 
 pub root-pattern-spec : {M : Type 1} → statement M
-root-pattern-spec = tie.close (tie.spec add-n cast-n shl-n add-result mul-result near-root-requires cast-result add-result-2 returns)
+root-pattern-spec = tie.close
+    (tie.spec (λ c. search needs) (λ c. search needs) (λ c. search needs) (λ c. search needs) (λ c. search needs) near-root-requires
+    cast-result add-result-2 returns)

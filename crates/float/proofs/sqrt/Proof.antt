@@ -1,14 +1,13 @@
 -- `float::sqrt` meets its contract. Assumes nothing.
-use mathlib.Core.Path.{_≡_, refl, sym, ap, _∙_, subst}
-use Prim.Native.Nat.{ℕ, _<_, _^_}
+use mathlib.Core.Path.{refl, sym, ap, _∙_, subst}
 use borrow.Author.Needs.{needs}
 use native.Mathlib.Omega.{arith}
 use lib.Dec.{T}
-use lib.Ieee.{Float, binary32, fits, ofBits, toBits}
+use lib.Ieee.{binary32, fits, toBits}
 use lib.Ieee.Bits.{toBits-lt}
 use Rattle.float.specs.Root.{rootOf}
-use Rattle.float.proofs.Nan.{no-nan}
-use Rattle.float.proofs.Special.{root-of-nan, pattern, own-root, root-of-zero, root-of-minus-zero, root-of-infinity, below-nan, no-root, zero-over-zero}
+use Rattle.float.proofs.Nan.{no-nan, no-nan-pattern, zero-over-zero}
+use Rattle.float.proofs.Special.{root-of-nan, pattern, own-root, root-of-zero, root-of-minus-zero, root-of-infinity, no-root}
 use Rattle.float.proofs.sqrt.Statement.{statement}
 use Rattle.float.proofs.sqrt.Tie as tie
 
@@ -27,11 +26,8 @@ returns-2 c =
     let s = c .before .before in
     own-root (s .args .x) 0 (held s) (c .if2 .taken) root-of-zero
 
-root-bits-requires : tie.Need-root-bits-requires
-root-bits-requires c κs = search needs
-
 float-from-bits-result : tie.Need-float-from-bits-result
-float-from-bits-result c = below-nan _ (c .root-bits .ensures .0)
+float-from-bits-result c = no-nan-pattern _ (omega arith)
 
 returns-3 : tie.Need-returns-3
 returns-3 c =
@@ -56,4 +52,5 @@ returns-6 c =
     zero-over-zero ∙ sym (ap rootOf (sym (pattern x b (held s) refl)) ∙ no-root b (omega (arith, c .before .if4 .left, c .before .before .if3 .left)) (toBits-lt binary32 x (held s)) (c .if5 .left))
 
 pub sqrt-spec : {M : Type 1} → statement M
-sqrt-spec = tie.close (tie.spec returns float-to-bits-b returns-2 root-bits-requires float-from-bits-result returns-3 returns-4 returns-5 returns-6)
+sqrt-spec = tie.close
+    (tie.spec returns float-to-bits-b returns-2 (λ c κs. search needs) float-from-bits-result returns-3 returns-4 returns-5 returns-6)

@@ -1,0 +1,4 @@
+pub mod Tallies
+pub mod Whole
+pub mod Marking
+pub mod Sheets

@@ -1,0 +1,183 @@
+// How many patches there are, which is the largest, and the component mark. See specs/Components.antt.
+ghost use mathlib.Core.Path.{_≡_};
+ghost use mathlib.Core.Bool.{cond, not, _&&_};
+ghost use Prim.Native.Nat.{ℕ, _+_, _≤_, _<_};
+ghost use lib.Dec.{eqb, ltb};
+ghost use lib.ListN.{getD};
+ghost use Rattle.folds.specs.Marked.{bit};
+ghost use Rattle.view.specs.View.{maxPoints};
+ghost use Rattle.patches.specs.Patches.{at, labelsOf};
+ghost use Rattle.patches.specs.Search.{Fit};
+ghost use Rattle.components.specs.Components.{countOf, sizesOf, largestAt, winnerOf, othersBy, othersOf, placeHas, indexMarks, Ranks};
+use view::MAX_POINTS;
+use view::NEAR_SIZE;
+
+// ---- count, winner and the ranks outside it
+
+// One more than r where v is k.
+fn counted(r: usize, v: usize, k: usize) -> usize
+    requires { ⌜ r < maxPoints ⌝ }
+    ensures { λ x. ⌜ x ≡ cond (eqb v k) (r + 1) r ⌝ }
+{
+    if v == k {
+        return r + 1;
+    }
+    r
+}
+
+// How many patches there are.
+pub fn count(label: &[u16; MAX_POINTS], n: usize) -> usize
+    requires { ⌜ n ≤ maxPoints ⌝ }
+    ensures { λ r. ⌜ r ≡ countOf n (now (label .entry)) ⌝ }
+{
+    let mut r: usize = 0;
+    let mut i: usize = 0;
+    while i < n {
+        r = counted(r, view::wide(label[i]), i);
+        i += 1;
+    }
+    r
+}
+
+// How many points each label has.
+fn sizes(label: &[u16; MAX_POINTS], n: usize) -> [u16; MAX_POINTS]
+    requires { ⌜ n ≤ maxPoints ⌝ }
+    ensures { λ r. ⌜ r ≡ sizesOf n (now (label .entry)) ⌝ }
+{
+    let mut size = [0u16; MAX_POINTS];
+    let mut i: usize = 0;
+    while i < n {
+        let v = view::wide(label[i]);
+        i += 1;
+        if v < n {
+            size[v] = size[v] + 1;
+        }
+    }
+    size
+}
+
+// Place i where its number b is above a, else place r.
+fn better(a: u16, b: u16, r: usize, i: usize) -> usize
+    ensures { λ x. ⌜ x ≡ cond (ltb a b) i r ⌝ }
+{
+    if a < b {
+        return i;
+    }
+    r
+}
+
+// The first place of the largest number.
+fn largest(size: &[u16; MAX_POINTS], n: usize) -> usize
+    requires { ⌜ n ≤ maxPoints ⌝ }
+    ensures { λ r. ⌜ r ≡ largestAt (now (size .entry)) n ⌝ }
+{
+    let mut r: usize = 0;
+    let mut i: usize = 0;
+    while i < n {
+        r = better(size[r], size[i], r, i);
+        i += 1;
+    }
+    r
+}
+
+// The label of the patch that is kept: most points, and of equals the one with the smaller least cell.
+pub fn winner(label: &[u16; MAX_POINTS], n: usize) -> usize
+    requires { ⌜ n ≤ maxPoints ⌝ }
+    ensures { λ r. ⌜ r ≡ winnerOf n (now (label .entry)) ⌝ }
+{
+    let size = sizes(label, n);
+    largest(&size, n)
+}
+
+fn other(v: usize, n: usize, w: usize) -> u8
+    ensures { λ r. ⌜ r ≡ bit (ltb v n && not (eqb v w)) ⌝ }
+{
+    if n <= v {
+        return 0;
+    }
+    if v == w {
+        return 0;
+    }
+    1
+}
+
+// 1 for each rank that survives and is in another patch than w.
+pub fn others(label: &[u16; MAX_POINTS], n: usize, w: usize) -> [u8; MAX_POINTS]
+    requires { ⌜ n ≤ maxPoints ⌝ }
+    ensures { λ r. ⌜ r ≡ othersBy n (now (label .entry)) w ⌝ }
+{
+    let mut out = [0u8; MAX_POINTS];
+    let mut i: usize = 0;
+    while i < n {
+        out[i] = other(view::wide(label[i]), n, w);
+        i += 1;
+    }
+    out
+}
+
+// ---- marks of indices
+
+// 1 at the place of each index that has a marked cell.
+fn gathered(by_idx: &[u16; MAX_POINTS], marks: &[u8; MAX_POINTS], n: usize) -> [u8; MAX_POINTS]
+    requires { ⌜ (n ≤ maxPoints) × Ranks n (now «by_idx») ⌝ }
+    ensures { λ r. ⌜ ((m : ℕ) → m < maxPoints → getD r m 0 ≡ bit (placeHas n (at (now («by_idx» .entry))) (now (marks .entry)) m)) ⌝ }
+{
+    let mut hit = [0u8; MAX_POINTS];
+    let mut i: usize = 0;
+    while i < n {
+        let v = view::wide(by_idx[i]);
+        let mark = marks[i];
+        i += 1;
+        if mark == 1 {
+            hit[v] = 1;
+        }
+    }
+    hit
+}
+
+// The marks of cells as marks of indices: an index with a marked cell is marked at each of its cells.
+pub fn index_marks(
+    by_idx: &[u16; MAX_POINTS],
+    marks: &[u8; MAX_POINTS],
+    n: usize,
+) -> [u8; MAX_POINTS]
+    requires { ⌜ (n ≤ maxPoints) × Ranks n (now «by_idx») ⌝ }
+    ensures { λ r. ⌜ r ≡ indexMarks n (at (now («by_idx» .entry))) (now (marks .entry)) ⌝ }
+{
+    let hit = gathered(by_idx, marks, n);
+    let mut out = [0u8; MAX_POINTS];
+    let mut i: usize = 0;
+    while i < n {
+        out[i] = hit[view::wide(by_idx[i])];
+        i += 1;
+    }
+    out
+}
+
+// The component mark of each rank, and how many patches there are.
+pub struct ComponentFilter {
+    pub marks: [u8; MAX_POINTS],
+    pub components_seen: usize,
+}
+
+// The component mark: an index with a cell outside the winner is marked at each of its cells.
+pub fn largest_component_filter(
+    near: &[u16; NEAR_SIZE],
+    by_idx: &[u16; MAX_POINTS],
+    dropped: &[u8; MAX_POINTS],
+    sides: &[u8],
+    n: usize,
+) -> ComponentFilter
+    requires { ⌜ Fit n (now sides) × Ranks n (now «by_idx») ⌝ }
+    ensures { λ r. ⌜ (r .marks ≡ indexMarks n (at (now («by_idx» .entry))) (othersOf n (labelsOf n (at (now (near .entry))) (now (sides .entry)) (now (dropped .entry))))) × (r .«components_seen» ≡ countOf n (labelsOf n (at (now (near .entry))) (now (sides .entry)) (now (dropped .entry)))) ⌝ }
+{
+    let label = patches::labels(near, dropped, sides, n);
+    let w = winner(&label, n);
+    let out = others(&label, n, w);
+    let marks = index_marks(by_idx, &out, n);
+    let c = count(&label, n);
+    ComponentFilter {
+        marks: marks,
+        components_seen: c,
+    }
+}

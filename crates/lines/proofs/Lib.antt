@@ -1,0 +1,2 @@
+pub mod Walking
+pub mod Marking

@@ -1,0 +1,284 @@
+// Rows and columns of points: the line fitted to each, and the points that lie off it.
+ghost use mathlib.Core.Path.{_≡_};
+ghost use mathlib.Core.Bool.{Bool, true};
+ghost use Prim.Native.Nat.{ℕ, _+_, _≤_, _<_};
+ghost use lib.ListN.{length, getD, take, replicate};
+ghost use mathlib.Core.List.{[]};
+ghost use Rattle.folds.specs.Below.{first};
+ghost use Rattle.folds.specs.Lists.{Gathered, over};
+ghost use Rattle.folds.specs.Marked.{bit};
+ghost use Rattle.folds.specs.Column.{column as columnOf};
+ghost use Rattle.folds.specs.Scattered.{Scattered, oneMore};
+ghost use Rattle.view.specs.View.{maxPoints, viewAt};
+ghost use Rattle.lines.specs.Fit.{valueAt, largerEigenvalue, directionOf, lineThrough, centreOf, lineAround, fitOf, distanceOf};
+ghost use Rattle.lines.specs.Flags.{ruleBy, isFar, flaggedBy, isFlagged, flagsAt};
+ghost use Rattle.lines.specs.Lines.{Members, Lined, OfLine, Chained, Onward, Linked, markIf, isCounted};
+use view::MAX_POINTS;
+use view::wide;
+
+// A line: its centre and its unit direction.
+pub struct Line {
+    pub cx: f32,
+    pub cy: f32,
+    pub ux: f32,
+    pub uy: f32,
+}
+
+pub struct Vector {
+    pub x: f32,
+    pub y: f32,
+}
+
+fn larger_eigenvalue(sxx: f32, sxy: f32, syy: f32) -> f32
+    ensures { λ r. ⌜ r ≡ largerEigenvalue sxx sxy syy ⌝ }
+{
+    let trace = sxx + syy;
+    let det = sxx * syy - sxy * sxy;
+    let disc = float::sqrt(float::max(trace * trace * 0.25 - det, 0.0));
+    trace * 0.5 + disc
+}
+
+// The direction of the largest spread.
+fn direction(sxx: f32, sxy: f32, syy: f32) -> Vector
+    ensures { λ r. ⌜ r ≡ directionOf sxx sxy syy ⌝ }
+{
+    if float::abs(sxy) > float::constants::EPSILON {
+        let y = larger_eigenvalue(sxx, sxy, syy) - sxx;
+        return Vector { x: sxy, y: y };
+    }
+    if sxx >= syy {
+        return Vector { x: 1.0, y: 0.0 };
+    }
+    Vector { x: 0.0, y: 1.0 }
+}
+
+// The line through c in the direction of v.
+fn line_through(c: Vector, v: Vector) -> Line
+    ensures { λ r. ⌜ r ≡ lineThrough c v ⌝ }
+{
+    let length = float::max(float::norm(v.x, v.y), float::constants::EPSILON);
+    Line {
+        cx: c.x,
+        cy: c.y,
+        ux: v.x / length,
+        uy: v.y / length,
+    }
+}
+
+fn distance(line: Line, x: f32, y: f32) -> f32
+    ensures { λ r. ⌜ r ≡ distanceOf line x y ⌝ }
+{
+    let dx = x - line.cx;
+    let dy = y - line.cy;
+    float::abs(dx * (-line.uy) + dy * line.ux)
+}
+
+// The centre of the points whose ranks are the first c of l.
+fn centre(x: &[f32; MAX_POINTS], y: &[f32; MAX_POINTS], l: &[u16; MAX_POINTS], c: usize) -> Vector
+    requires { ⌜ Members (now l) c ⌝ }
+    ensures { λ r. ⌜ r ≡ centreOf (valueAt (now (x .entry))) (valueAt (now (y .entry))) (take c (now (l .entry))) ⌝ }
+{
+    let mut cx = 0.0;
+    let mut cy = 0.0;
+    let mut i: usize = 0;
+    while i < c {
+        let j = wide(l[i]);
+        cx = cx + x[j];
+        cy = cy + y[j];
+        i += 1;
+    }
+    let n = c as f32;
+    Vector {
+        x: cx / n,
+        y: cy / n,
+    }
+}
+
+// The line through v fitted to the points whose ranks are the first c of l.
+fn line_around(
+    x: &[f32; MAX_POINTS],
+    y: &[f32; MAX_POINTS],
+    v: Vector,
+    l: &[u16; MAX_POINTS],
+    c: usize,
+) -> Line
+    requires { ⌜ Members (now l) c ⌝ }
+    ensures { λ r. ⌜ r ≡ lineAround (valueAt (now (x .entry))) (valueAt (now (y .entry))) v (take c (now (l .entry))) ⌝ }
+{
+    let cx = v.x;
+    let cy = v.y;
+    let mut sxx = 0.0;
+    let mut sxy = 0.0;
+    let mut syy = 0.0;
+    let mut i: usize = 0;
+    while i < c {
+        let j = wide(l[i]);
+        let dx = x[j] - cx;
+        let dy = y[j] - cy;
+        sxx = sxx + dx * dx;
+        sxy = sxy + dx * dy;
+        syy = syy + dy * dy;
+        i += 1;
+    }
+    line_through(v, direction(sxx, sxy, syy))
+}
+
+// The line fitted to the points whose ranks are the first c of l.
+fn fit(x: &[f32; MAX_POINTS], y: &[f32; MAX_POINTS], l: &[u16; MAX_POINTS], c: usize) -> Line
+    requires { ⌜ Members (now l) c ⌝ }
+    ensures { λ r. ⌜ r ≡ fitOf (valueAt (now (x .entry))) (valueAt (now (y .entry))) (take c (now (l .entry))) ⌝ }
+{
+    let v = centre(x, y, l, c);
+    line_around(x, y, v, l, c)
+}
+
+// Whether rank j is too far from a line.
+fn is_far(
+    x: &[f32; MAX_POINTS],
+    y: &[f32; MAX_POINTS],
+    scale: &[f32; MAX_POINTS],
+    tolerance: f32,
+    line: Line,
+    j: usize,
+) -> bool
+    requires { ⌜ j < maxPoints ⌝ }
+    ensures { λ r. ⌜ r ≡ isFar (ruleBy (now (x .entry)) (now (y .entry)) (now (scale .entry)) tolerance) line j ⌝ }
+{
+    let limit = tolerance * scale[j];
+    distance(line, x[j], y[j]) > limit
+}
+
+// Sets the marks of those members of a line that it flags; its members are the first c ranks of l.
+fn mark_flagged(
+    x: &[f32; MAX_POINTS],
+    y: &[f32; MAX_POINTS],
+    scale: &[f32; MAX_POINTS],
+    tolerance: f32,
+    minimum: u16,
+    l: &[u16; MAX_POINTS],
+    c: usize,
+    out: &mut [u8; MAX_POINTS],
+)
+    requires { ⌜ Members (now l) c × (length (now out) ≡ maxPoints) ⌝ }
+    ensures { λ r. ⌜ now (out .exit) ≡ over (markIf (flaggedBy (ruleBy (now (x .entry)) (now (y .entry)) (now (scale .entry)) tolerance) minimum (take c (now (l .entry))))) (now (out .entry)) (take c (now (l .entry))) ⌝ }
+{
+    if c == 0 {
+        return;
+    }
+    if c < wide(minimum) {
+        return;
+    }
+    let line = fit(x, y, l, c);
+    let mut i: usize = 0;
+    while i < c {
+        let j = wide(l[i]);
+        i += 1;
+        if is_far(x, y, scale, tolerance, line, j) {
+            out[j] = 1;
+        }
+    }
+}
+
+// The next rank on the same line, for each rank, or n where there is none; and in `head` the first rank of each line.
+fn chain(line: &[u16; MAX_POINTS], n: usize, head: &mut [u16; MAX_POINTS]) -> [u16; MAX_POINTS]
+    requires { ⌜ OfLine n (now line) × (now head ≡ replicate maxPoints n) ⌝ }
+    ensures { λ r. ⌜ Chained n (now (line .entry)) 0 (now (head .exit)) r ⌝ }
+{
+    let mut next = [0u16; MAX_POINTS];
+    let mut i = n;
+    while 0 < i {
+        i -= 1;
+        let number = wide(line[i]);
+        next[i] = head[number];
+        head[number] = i as u16;
+    }
+    next
+}
+
+// Writes the ranks from `from` on along the chain, and returns how many they are.
+fn members(next: &[u16; MAX_POINTS], n: usize, from: usize, out: &mut [u16; MAX_POINTS]) -> usize
+    requires { ⌜ (n ≤ maxPoints) × Onward n (now next) × (from ≤ n) × (length (now out) ≡ maxPoints) ⌝ }
+    ensures { λ r. ⌜ (length (now (out .exit)) ≡ maxPoints) × ((p : ℕ → Bool) → Linked p n (now (next .entry)) → first p 0 n ≡ from → Gathered p n (now (out .exit)) r) ⌝ }
+{
+    let mut c: usize = 0;
+    let mut k = from;
+    while k < n {
+        out[c] = k as u16;
+        c += 1;
+        k = wide(next[k]);
+    }
+    c
+}
+
+// 1 for each rank that its line flags, else 0.
+fn flagged(
+    line: &[u16; MAX_POINTS],
+    x: &[f32; MAX_POINTS],
+    y: &[f32; MAX_POINTS],
+    scale: &[f32; MAX_POINTS],
+    n: usize,
+    tolerance: f32,
+    minimum: u16,
+) -> [u8; MAX_POINTS]
+    requires { ⌜ OfLine n (now line) ⌝ }
+    ensures { λ r. ⌜ r ≡ columnOf maxPoints 0 n (λ (k : ℕ). bit (isFlagged (ruleBy (now (x .entry)) (now (y .entry)) (now (scale .entry)) tolerance) minimum (λ (j : ℕ). getD (now (line .entry)) j 0) n k)) ⌝ }
+{
+    let mut head = [n as u16; MAX_POINTS];
+    let next = chain(line, n, &mut head);
+    let mut l = [0u16; MAX_POINTS];
+    let mut out = [0u8; MAX_POINTS];
+    let mut number: usize = 0;
+    while number < n {
+        let from = wide(head[number]);
+        let c = members(&next, n, from, &mut l);
+        mark_flagged(x, y, scale, tolerance, minimum, &l, c, &mut out);
+        number += 1;
+    }
+    out
+}
+
+// Adds to the count of each index its ranks with a mark.
+fn count(
+    marks: &[u8; MAX_POINTS],
+    by_idx: &[u16; MAX_POINTS],
+    n: usize,
+    flags: &mut [u16; MAX_POINTS],
+)
+    requires { ⌜ (n ≤ maxPoints) × (length (now flags) ≡ maxPoints) × ((m : ℕ) → m < maxPoints → getD (now flags) m 0 ≤ maxPoints) ⌝ }
+    ensures { λ r. ⌜ Scattered 0 (λ (k : ℕ). getD (now («by_idx» .entry)) k 0) (isCounted n (now («by_idx» .entry)) (now (marks .entry))) oneMore (now (flags .entry)) n (now (flags .exit)) ⌝ }
+{
+    let mut i: usize = 0;
+    while i < n {
+        let k = i;
+        i += 1;
+        let m = wide(by_idx[k]);
+        if m < n {
+            if marks[k] == 1 {
+                flags[m] = flags[m] + 1;
+            }
+        }
+    }
+}
+
+// How many flags each index has from the rows and columns of its cells, at the last of its ranks. Nothing here goes by `near`.
+pub fn line_flags(
+    row: &[u16; MAX_POINTS],
+    column: &[u16; MAX_POINTS],
+    by_idx: &[u16; MAX_POINTS],
+    x: &[f32; MAX_POINTS],
+    y: &[f32; MAX_POINTS],
+    scale: &[f32; MAX_POINTS],
+    n: usize,
+    tolerance: f32,
+    minimum: u16,
+) -> [u16; MAX_POINTS]
+    requires { ⌜ Lined n (now row) (now column) ⌝ }
+    ensures { λ r. ⌜ r ≡ columnOf maxPoints 0 n (flagsAt (viewAt n [] (now (row .entry)) (now (column .entry)) (now («by_idx» .entry)) (now (x .entry)) (now (y .entry))) (valueAt (now (scale .entry))) tolerance minimum) ⌝ }
+{
+    let rows = flagged(row, x, y, scale, n, tolerance, minimum);
+    let columns = flagged(column, x, y, scale, n, tolerance, minimum);
+    let mut flags = [0u16; MAX_POINTS];
+    count(&rows, by_idx, n, &mut flags);
+    count(&columns, by_idx, n, &mut flags);
+    flags
+}

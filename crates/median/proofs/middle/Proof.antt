@@ -1,0 +1,61 @@
+use Rattle.median.proofs.Steps.{Ok, value, value-ok}
+use Rattle.median.specs.Packed.{positive, positives}
+use Rattle.median.specs.Bits.{bits-top, below-nan}
+use Rattle.median.specs.Median.{medianOf}
+use Rattle.folds.specs.Below.{tally, tally-le}
+use Rattle.folds.specs.Lists.{listed, listed-length}
+use lib.Ieee.Bits.{ofBits-toBits}
+use lib.Ieee.{Float, binary32, nan, lt, toBits, ofBits, div}
+use lib.ListN.{length, getD}
+use native.Mathlib.Omega.{arith}
+use Prim.Native.Nat.{_/_, _≤_, _<_}
+use mathlib.Core.List.{List, [], _∷_}
+use mathlib.Core.Path.{_≡_, refl, sym, ap, _∙_}
+use Rattle.sort.specs.Sorted.{sort}
+use borrow.Author.Needs.{needs}
+use Rattle.median.proofs.middle.Statement.{statement}
+use Rattle.median.proofs.middle.Tie as tie
+
+few : (c : tie.After-pack) → c .pack .result ≤ 2048
+few c = omega (arith, c .pack .ensures .count, tally-le (positive (c .before .before .args .v .now)) (c .before .before .args .n))
+
+module _ (c : tie.After-sort) where
+  found : getD (c .sort .last .0) (c .before .before .before .pack .result / 2) 0 ≡ toBits binary32 (medianOf (positives (c .before .before .before .before .before .args .v .now) (c .before .before .before .before .before .args .n)))
+  found = value _ _ _ _ _ (c .before .before .before .pack .ensures) (omega arith) (c .sort .ensures)
+
+  found-ok : Ok (medianOf (positives (c .before .before .before .before .before .args .v .now) (c .before .before .before .before .before .args .n)))
+  found-ok = value-ok _ _ _ _ _ (c .before .before .before .pack .ensures) (omega arith) (c .sort .ensures)
+
+-- no positive number, no median
+nothing : (l : List Float) → length l ≡ 0 → medianOf l ≡ nan
+unfolding medianOf sort
+nothing [] h = refl
+nothing (a ∷ l) h = absurd (omega arith)
+
+returns : tie.Need-returns
+unfolding div ofBits positives
+returns c = let a = c .before .before .before .args in sym (nothing (positives (a .v .now) (a .n)) (listed-length (positive (c .before .before .before .args .v .now)) (λ k. getD (c .before .before .before .args .v .now) k nan) (c .before .before .before .args .n) ∙ sym (c .before .pack .ensures .count) ∙ c .if1 .taken))
+
+sort-requires : tie.Need-sort-requires
+sort-requires c κs = (few (c .before .before), c .before .before .pack .ensures .size)
+
+mul-narrow : tie.Need-mul-narrow
+mul-narrow c = omega (arith, few (c .before .before .before))
+
+array-read-narrow : tie.Need-array-read-narrow
+array-read-narrow c = omega (arith, few (c .before .before .before))
+
+narrow-requires : tie.Need-narrow-requires
+narrow-requires c κs = rw (found c) (bits-top _ (found-ok c .0) (found-ok c .1))
+
+float-from-bits-result : tie.Need-float-from-bits-result
+float-from-bits-result c = below-nan (c .narrow .result) (rw (c .narrow .ensures, found (c .before)) (bits-top _ (found-ok (c .before) .0) (found-ok (c .before) .1)))
+
+returns-2 : tie.Need-returns-2
+returns-2 c = ap (ofBits binary32) (c .narrow .ensures ∙ found (c .before)) ∙ ofBits-toBits binary32 _ (found-ok (c .before) .1)
+
+pub middle-spec : {M : Type 1} → statement M
+middle-spec =
+    tie.close
+    (tie.spec (λ c κs. search needs) returns sort-requires mul-narrow array-read-narrow narrow-requires float-from-bits-result
+    returns-2)

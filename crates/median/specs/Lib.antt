@@ -1,0 +1,4 @@
+pub mod Order
+pub mod Bits
+pub mod Median
+pub mod Packed

@@ -1,0 +1,45 @@
+-- `points::coordinates` meets its contract: the column is filled from its front. Assumes nothing.
+use Rattle.sheet_file.specs.Refusals.{floatAt}
+use lib.Ieee.{nan, div, ofBits}
+use Rattle.folds.specs.Column.{Filling, fill-start, fill-more, filled}
+use native.Mathlib.Omega.{arith}
+use lib.ListN.{getD, length-replicate}
+use Prim.Native.Nat.{ℕ, _+_, _-_, _*_, _%_, _≤_}
+use mathlib.Core.Path.{_≡_}
+use borrow.Author.Needs.{needs}
+use Rattle.points.proofs.coordinates.Statement.{statement}
+use Rattle.points.proofs.coordinates.Tie as tie
+
+abbrev Inv-loop : tie.InvT-loop
+Inv-loop file at field n rows none out₀ i₀ out i = (i ≤ n) × Filling out₀ nan (λ (k : ℕ). floatAt file (at + 20 * (getD rows k 0 % 4096) + field)) i out
+
+abbrev μ-loop : tie.MeasureT-loop
+μ-loop file at field n rows none out₀ i₀ out i = n - i
+
+loop-holds : tie.Need-loop-holds Inv-loop μ-loop
+loop-holds c = (search needs, fill-start _ nan _)
+
+mul-float-at : tie.Need-mul-float-at Inv-loop μ-loop
+mul-float-at c = omega (arith, c .before .before .before .before .pre .1 .0 (c .before .before .loop .i) (c .before .loop-test .taken))
+
+add-float-at : tie.Need-add-float-at Inv-loop μ-loop
+add-float-at c = omega (arith, c .before .before .before .before .pre .0 .0 .fit, c .before .before .before .before .pre .0 .1, c .before .before .before .before .pre .1 .0 (c .before .before .loop .i) (c .before .loop-test .taken))
+
+add-float-at-2 : tie.Need-add-float-at-2 Inv-loop μ-loop
+add-float-at-2 c = omega (arith, c .before .before .before .before .pre .0 .0 .fit, c .before .before .before .before .pre .0 .1, c .before .before .before .before .pre .1 .0 (c .before .before .loop .i) (c .before .loop-test .taken))
+
+float-at-requires : tie.Need-float-at-requires Inv-loop μ-loop
+float-at-requires c κs = let s = c .before .before .before .before .pre in let h = s .1 .0 (c .before .before .loop .i) (c .before .loop-test .taken) in (omega (arith, s .0 .0 .fit, s .0 .1, h), s .1 .1 _ h)
+
+loop-again : tie.Need-loop-again Inv-loop μ-loop
+loop-again c = (omega arith, fill-more _ nan _ _ (simp length-replicate (omega (arith, c .before .before .before .before .before .pre .0 .0 .few))) (c .float-at .ensures) (c .before .before .before .loop .inv .1))
+
+returns : tie.Need-returns Inv-loop μ-loop
+unfolding div ofBits
+returns c = let a = c .before .before .before .args in let e : c .before .loop .i ≡ a .n = omega arith in filled (a .n) (c .before .before .before .pre .0 .0 .few) (rw e at (c .before .loop .inv .1))
+
+pub coordinates-spec : {M : Type 1} → statement M
+coordinates-spec =
+    tie.close
+    (tie.spec Inv-loop μ-loop loop-holds (λ c. search needs) (λ c. search needs) mul-float-at add-float-at add-float-at-2 float-at-requires
+    (λ c. search needs) (λ c. search needs) (λ c. search needs) (λ c. search needs) loop-again returns)

@@ -1,0 +1,6 @@
+pub mod Records
+pub mod Refusals
+pub mod Rows
+pub mod Neighbours
+pub mod Pairs
+pub mod Table

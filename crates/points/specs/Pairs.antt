@@ -1,0 +1,116 @@
+-- The conditions of numbers 8 and 9 on the rows in the order of the cells, and of the indices. Assumes nothing.
+use mathlib.Core.Path.{_≡_, refl, sym, ap, _∙_}
+use mathlib.Core.Bool.{Bool, true, false, not, cond, _&&_, _||_, true≢false, false≢true}
+use mathlib.Core.List.{List}
+use Prim.{Dec, yes, no}
+use Prim.Native.Nat.{ℕ, _+_, _-_, _*_, _/_, _%_, _^_, _≤_, _<_}
+use native.Mathlib.Decide.{ℕ-discrete}
+use native.Mathlib.Omega.{arith}
+use lib.Dec.{eqb, leb}
+use lib.ListN.{getD}
+use borrow.Author.Tests.{eqb-true, eq-eqb, ne-eqb, leb-true}
+use Rattle.folds.specs.Among.{anyIn, pairIn, any-list, pair-ext}
+use Rattle.folds.specs.Below.{some, some-ext, some-fails, and-left, and-right, and-both, both-ways, and-true}
+use Rattle.folds.specs.Lists.{listOf}
+use Rattle.view.specs.View.{maxPoints}
+use Rattle.cells.specs.Points.{Point, biased, keyOf}
+use Rattle.cells.specs.Cell.{signed, within, cellOf, InRange, range-is}
+use Rattle.sheet_file.specs.Bytes.{Bytes, le32, le32-small}
+use Rattle.sort.specs.Packed.{inOrder, placed}
+use Rattle.points.specs.Records.{pointAt, recordOf, pointsIn}
+use Rattle.points.specs.Refusals.{offRange, sameCell, samePosition, twoPositions, entryOf, together}
+use Rattle.points.specs.Rows.{entriesOf, rowsOf, pointOf, rowsClash, row-at, row-key}
+use Rattle.points.specs.Neighbours.{clash, eqb-swap, sorted-neighbours}
+
+-- ---- rows and pairs
+
+same-through : (p q r : Point) → samePosition p q ≡ true → samePosition q r ≡ true → samePosition p r ≡ true
+same-through p q r a b =
+    let x : p .x ≡ r .x = eqb-true (p .x) (q .x) (and-left (eqb (p .x) (q .x)) (eqb (p .y) (q .y)) a) ∙ eqb-true (q .x) (r .x) (and-left (eqb (q .x) (r .x)) (eqb (q .y) (r .y)) b) in
+    let y : p .y ≡ r .y = eqb-true (p .y) (q .y) (and-right (eqb (p .x) (q .x)) (eqb (p .y) (q .y)) a) ∙ eqb-true (q .y) (r .y) (and-right (eqb (q .x) (r .x)) (eqb (q .y) (r .y)) b) in
+    and-both (eqb (p .x) (r .x)) (eqb (p .y) (r .y)) (eq-eqb (p .x) (r .x) x) (eq-eqb (p .y) (r .y) y)
+
+through : (b : Bool) (p q r : Point) → together b p q ≡ true → together b q r ≡ true → together b p r ≡ true
+through true p q r a c = same-through p q r a c
+through false p q r a c = a
+
+back : (b : Bool) (p q : Point) → together b p q ≡ together b q p
+back b p q = rw (eqb-swap (p .x) (q .x), eqb-swap (p .y) (q .y))
+
+module _ (s : List ℕ) (at n : ℕ) (few : n ≤ maxPoints) where
+  -- two neighbouring rows clash just where two points do
+  pub rows-and-pairs : (b : Bool)
+      → some (λ (i : ℕ). rowsClash s at b (getD (rowsOf s at n b) i 0) (getD (rowsOf s at n b) (i + 1) 0)) (n - 1)
+      ≡ pairIn (clash (entryOf b) (together b)) (pointsIn s at n)
+  unfolding pointsIn rowsClash
+  rows-and-pairs b =
+      some-ext (λ (i : ℕ). rowsClash s at b (getD (rowsOf s at n b) i 0) (getD (rowsOf s at n b) (i + 1) 0))
+      (λ (r : ℕ). clash (entryOf b) (together b) (recordOf s at (placed (entriesOf s at b) n r)) (recordOf s at (placed (entriesOf s at b) n (r + 1)))) (n - 1)
+      (λ i h. rw (row-key s at n b few i (omega arith), row-key s at n b few (i + 1) (omega arith), row-at s at n b few i (omega arith), row-at s at n b few (i + 1) (omega arith)))
+      ∙ sym (sorted-neighbours (entryOf b) (together b) (through b) (back b) (recordOf s at) n (omega arith))
+
+-- ---- cells in range
+
+-- a point in range, by its patterns
+pub record Ranged (p : Point) : Type 0 where
+  pub cell : InRange p
+  pub u : (3 ≤ biased (p .u)) × (biased (p .u) ≤ 16003)
+  pub v : (3 ≤ biased (p .v)) × (biased (p .v) ≤ 16003)
+
+one-range : (b : ℕ) → b < 2 ^ 32 → within (signed b) ≡ true → (3 ≤ biased b) × (biased b ≤ 16003)
+one-range b h e =
+    let t = sym (range-is b h) ∙ e in
+    (leb-true 3 (biased b) (and-left (leb 3 (biased b)) (leb (biased b) 16003) t), leb-true (biased b) 16003 (and-right (leb 3 (biased b)) (leb (biased b) 16003) t))
+
+pub ranged : (p : Point) → p .u < 2 ^ 32 → p .v < 2 ^ 32 → offRange p ≡ false → Ranged p
+ranged p hu hv e = go (within (signed (p .u))) (within (signed (p .v))) refl refl e
+  where
+    go : (a b : Bool) → within (signed (p .u)) ≡ a → within (signed (p .v)) ≡ b → not a || not b ≡ false → Ranged p
+    go true true f g h = record { cell = record { fits-u = hu; fits-v = hv; u = f; v = g }; u = one-range (p .u) hu f; v = one-range (p .v) hv g }
+    go true false f g h = absurd (true≢false h)
+    go false b f g h = absurd (true≢false h)
+
+-- one key, one cell
+cells-by-key : (p q : Point) → Ranged p → Ranged q → sameCell p q ≡ clash (entryOf false) (together false) p q
+cells-by-key p q r t = both-ways (sameCell p q) (eqb (keyOf p) (keyOf q) && true) to from ∙ refl
+  where
+    to : sameCell p q ≡ true → eqb (keyOf p) (keyOf q) && true ≡ true
+    to e =
+        let u : p .u ≡ q .u = eqb-true (p .u) (q .u) (and-left (eqb (p .u) (q .u)) (eqb (p .v) (q .v)) e) in
+        let v : p .v ≡ q .v = eqb-true (p .v) (q .v) (and-right (eqb (p .u) (q .u)) (eqb (p .v) (q .v)) e) in
+        rw (u, v, eq-eqb (keyOf q) (keyOf q) refl)
+
+    from : eqb (keyOf p) (keyOf q) && true ≡ true → sameCell p q ≡ true
+    from e =
+        let k : keyOf p ≡ keyOf q = eqb-true (keyOf p) (keyOf q) (and-left (eqb (keyOf p) (keyOf q)) true e) in
+        let u : p .u ≡ q .u = omega (arith, k, r .cell .fits-u, t .cell .fits-u, r .u, t .u, r .v, t .v) in
+        let v : p .v ≡ q .v = omega (arith, k, r .cell .fits-v, t .cell .fits-v, r .u, t .u, r .v, t .v) in
+        and-both (eqb (p .u) (q .u)) (eqb (p .v) (q .v)) (eq-eqb (p .u) (q .u) u) (eq-eqb (p .v) (q .v) v)
+
+module _ (s : List ℕ) (at n : ℕ) where
+  -- no point has a fault
+  pub none-off : (t : Point → Bool) → anyIn t (pointsIn s at n) ≡ false → (i : ℕ) → i < n → t (recordOf s at i) ≡ false
+  unfolding pointsIn
+  none-off t e i h = some-fails (λ (k : ℕ). t (recordOf s at k)) n (sym (any-list (recordOf s at) n t) ∙ e) i h
+
+  pub all-ranged : Bytes s → anyIn offRange (pointsIn s at n) ≡ false → (i : ℕ) → i < n → Ranged (recordOf s at i)
+  all-ranged b e i h = ranged (recordOf s at i) (le32-small s b (at + 20 * i)) (le32-small s b (at + 20 * i + 4)) (none-off offRange e i h)
+
+  pub same-cells : Bytes s → anyIn offRange (pointsIn s at n) ≡ false → pairIn sameCell (pointsIn s at n) ≡ pairIn (clash (entryOf false) (together false)) (pointsIn s at n)
+  unfolding pointsIn
+  same-cells b e =
+      pair-ext (recordOf s at) n sameCell (clash (entryOf false) (together false))
+      (λ i j ij jn. cells-by-key (recordOf s at i) (recordOf s at j) (all-ranged b e i (omega arith)) (all-ranged b e j jn))
+
+-- ---- what the search for clashing rows finds
+
+module _ (s : List ℕ) (at n : ℕ) (few : n ≤ maxPoints) (rows : List ℕ) where
+  clashes : (b : Bool) → rows ≡ rowsOf s at n b → {r : Bool} → r ≡ some (λ (i : ℕ). rowsClash s at b (getD rows i 0) (getD rows (i + 1) 0)) (n - 1) → pairIn (clash (entryOf b) (together b)) (pointsIn s at n) ≡ r
+  clashes b e h = sym (h ∙ rw e (rows-and-pairs s at n few b))
+
+  pub cells-found : Bytes s → anyIn offRange (pointsIn s at n) ≡ false → rows ≡ rowsOf s at n false
+      → {r : Bool} → r ≡ some (λ (i : ℕ). rowsClash s at false (getD rows i 0) (getD rows (i + 1) 0)) (n - 1) → pairIn sameCell (pointsIn s at n) ≡ r
+  cells-found b f e h = same-cells s at n b f ∙ clashes false e h
+
+  pub positions-found : rows ≡ rowsOf s at n true → {r : Bool} → r ≡ some (λ (i : ℕ). rowsClash s at true (getD rows i 0) (getD rows (i + 1) 0)) (n - 1) → pairIn twoPositions (pointsIn s at n) ≡ r
+  positions-found e h = clashes true e h

@@ -1,0 +1,68 @@
+-- The conditions of the numbers 6 to 9 on the points of a file, in the order in which it lists them, and the points in cell order.
+-- Assumes nothing.
+use mathlib.Core.Bool.{Bool, true, false, cond, not, _&&_, _||_}
+use mathlib.Core.List.{List, []}
+use Prim.Native.Nat.{ℕ}
+use lib.Dec.{eqb, ltb}
+use Rattle.folds.specs.Among.{anyIn, pairIn}
+use Rattle.folds.specs.Arith.{f32}
+use Rattle.sort.specs.Sorted.{sort}
+use Rattle.cells.specs.Points.{Point, keyOf}
+use Rattle.cells.specs.Cell.{signed, within}
+use Rattle.sheet_file.specs.Limit.{outside}
+
+-- "6. A u or v lies outside −8,000 to 8,000."
+abbrev pub offRange : Point → Bool
+offRange p = not (within (signed (p .u))) || not (within (signed (p .v)))
+
+-- "7. A position is not finite or exceeds 16,384 in magnitude."
+abbrev pub offLimit : Point → Bool
+offLimit p = outside (f32 (p .x)) || outside (f32 (p .y))
+
+-- "8. Two points have the same cell."
+abbrev pub sameCell : Point → Point → Bool
+sameCell p q = eqb (p .u) (q .u) && eqb (p .v) (q .v)
+
+-- positions with the same bits
+abbrev pub samePosition : Point → Point → Bool
+samePosition p q = eqb (p .x) (q .x) && eqb (p .y) (q .y)
+
+-- "9. One index stands at positions with different bits."
+abbrev pub twoPositions : Point → Point → Bool
+twoPositions p q = eqb (p .index) (q .index) && not (samePosition p q)
+
+-- "A call returns the first number that applies": 6 to 9, or 0 where none does
+unfoldable pub numberFor : List Point → ℕ
+numberFor ps =
+    cond (anyIn offRange ps) 6
+    (cond (anyIn offLimit ps) 7
+    (cond (pairIn sameCell ps) 8
+    (cond (pairIn twoPositions ps) 9 0)))
+
+-- one point comes before another in cell order (that this is the order by u, then v, is `cells`' key-order)
+abbrev pub ahead : Point → Point → Bool
+ahead p q = ltb (keyOf p) (keyOf q)
+
+-- "Rows come in cell order, by u, then v."
+abbrev pub cellOrder : List Point → List Point
+cellOrder ps = sort ahead ps
+
+-- the points in cell order, and none where a number applies
+unfoldable pub acceptedOf : List Point → List Point
+acceptedOf ps = cond (eqb (numberFor ps) 0) (cellOrder ps) []
+
+-- ---- how the code goes about it
+
+-- the condition of number 7 on one point, or that of number 6
+abbrev pub off : Bool → Point → Bool
+off byLimit p = cond byLimit (offLimit p) (offRange p)
+
+-- Pairs are found by a key, of which the neighbours in its order are compared.
+
+-- the key: the index, or the cell
+abbrev pub entryOf : Bool → Point → ℕ
+entryOf byIndex p = cond byIndex (p .index) (keyOf p)
+
+-- two points with one key that may stand together: of one index where their positions are the same, of one cell never
+abbrev pub together : Bool → Point → Point → Bool
+together byIndex p q = byIndex && samePosition p q

@@ -1,0 +1,60 @@
+// The ruling on a sheet file: a number from 1 to 9, or the settings and the points in cell order.
+use points::Table;
+use sheet_file::EdgeGate;
+use sheet_file::Header;
+use sheet_file::Reading;
+use sheet_file::Settings;
+ghost use mathlib.Core.Path.{_≡_};
+ghost use Rattle.points.specs.Records.{pointsIn, Room};
+ghost use Rattle.points.specs.Table.{Tabled};
+ghost use Rattle.points.specs.Refusals.{numberFor, acceptedOf};
+ghost use Rattle.ruling.specs.Ruling.{refused, rulingOf};
+ghost use Rattle.ruling.specs.Sheet.{Ruled};
+ghost use Rattle.ruling.specs.Parts.{rulingFor};
+ghost use mathlib.Core.List.{[]};
+
+// The settings, how many points there are, and the points in cell order. The number of a refusal is the table's; it is 0 for none.
+pub struct Sheet {
+    pub settings: Settings,
+    pub count: usize,
+    pub table: Table,
+}
+
+fn refused_with(table: Table) -> Sheet
+    requires { ⌜ Tabled (table .number) [] table ⌝ }
+    ensures { λ r. ⌜ Ruled (refused (table .number)) r ⌝ }
+{
+    Sheet {
+        settings: Settings::new(0.0, EdgeGate::Off),
+        count: 0,
+        table,
+    }
+}
+
+fn read_points(file: &[u8], h: Header) -> Sheet
+    requires { ⌜ Room (now file) (h .points) (h .count) ⌝ }
+    ensures { λ r. ⌜ Ruled (rulingFor (h .settings) (pointsIn (now (file .entry)) (h .points) (h .count))) r ⌝ }
+{
+    let at = h.points;
+    let n = h.count;
+    let settings = h.settings;
+    let table = points::read(file, at, n);
+    if table.number == 0 {
+        return Sheet {
+            settings,
+            count: n,
+            table,
+        };
+    }
+    refused_with(table)
+}
+
+// The ruling on any bytes; `room` is the length of the result buffer.
+pub fn read(file: &[u8], room: usize) -> Sheet
+    ensures { λ r. ⌜ Ruled (rulingOf (now (file .entry)) room) r ⌝ }
+{
+    match sheet_file::read(file, room) {
+        Reading::Refused(k) => refused_with(points::refused(k)),
+        Reading::Accepted(h) => read_points(file, h),
+    }
+}

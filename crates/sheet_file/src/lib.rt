@@ -1,0 +1,384 @@
+// The sheet file: its fields, the refusals 1 to 5 and the settings. Any bytes are read.
+use view::MAX_POINTS;
+ghost use mathlib.Core.Path.{_≡_};
+ghost use mathlib.Core.Bool.{true, false, cond};
+ghost use Prim.Native.Nat.{_+_, _≤_, _<_};
+ghost use lib.ListN.{length};
+ghost use lib.Ieee.{ofBits, binary32};
+ghost use Rattle.folds.specs.Among.{anyIn};
+ghost use Rattle.sheet_file.specs.Bytes.{le16, le32};
+ghost use Rattle.sheet_file.specs.Limit.{bounded, outside};
+ghost use Rattle.sheet_file.specs.Frame.{fieldAt, pointsFrom, gateFrom, framingOf, gateStart, Held};
+ghost use Rattle.sheet_file.specs.Refusals.{floatAt, defaultsFor, gateIn, edgeShapeOf, settingsOf, noFlag, badFlag, settingsFloats, gateFloats, badFloat, readingIn, readingOf};
+
+// ---- numbers in the file
+
+fn wide(x: u8) -> u32
+    ensures { λ r. ⌜ (r ≡ x) × (r < 256) ⌝ }
+{
+    x as u32
+}
+
+fn long(x: u8) -> u16
+    ensures { λ r. ⌜ (r ≡ x) × (r < 256) ⌝ }
+{
+    x as u16
+}
+
+// The u16 in the two bytes from `at` on.
+fn u16_at(file: &[u8], at: usize) -> u16
+    requires { ⌜ at + 2 ≤ length (now file) ⌝ }
+    ensures { λ r. ⌜ r ≡ le16 (now (file .entry)) at ⌝ }
+{
+    long(file[at]) + 256 * long(file[at + 1])
+}
+
+// The u32 in the four bytes from `at` on.
+pub fn u32_at(file: &[u8], at: usize) -> u32
+    requires { ⌜ at + 4 ≤ length (now file) ⌝ }
+    ensures { λ r. ⌜ r ≡ le32 (now (file .entry)) at ⌝ }
+{
+    wide(file[at])
+        + 256 * wide(file[at + 1])
+        + 65536 * wide(file[at + 2])
+        + 16777216 * wide(file[at + 3])
+}
+
+// Whether the pattern is that of a float which is finite and at most 16,384 in magnitude.
+pub fn is_bounded(bits: u32) -> bool
+    ensures { λ r. ⌜ r ≡ bounded bits ⌝ }
+{
+    bits % 0x8000_0000 <= 0x4680_0000
+}
+
+// Whether the float in the four bytes from `at` on is not finite or exceeds 16,384 in magnitude.
+pub fn is_outside(file: &[u8], at: usize) -> bool
+    requires { ⌜ at + 4 ≤ length (now file) ⌝ }
+    ensures { λ r. ⌜ r ≡ outside (floatAt (now (file .entry)) at) ⌝ }
+{
+    !is_bounded(u32_at(file, at))
+}
+
+// The f32 in the four bytes from `at` on, which is finite and at most 16,384 in magnitude.
+pub fn float_at(file: &[u8], at: usize) -> f32
+    requires { ⌜ (at + 4 ≤ length (now file)) × (outside (floatAt (now file) at) ≡ false) ⌝ }
+    ensures { λ r. ⌜ r ≡ floatAt (now (file .entry)) at ⌝ }
+{
+    f32::from_bits(u32_at(file, at))
+}
+
+// ---- the settings
+
+// The tolerances of the edge-shape gate, as tag 2 gives them.
+pub struct EdgeShapeParams {
+    pub min_cardinal_degree: u8,
+    pub continuation_cos_min: f32,
+    pub continuation_length_ratio_max: f32,
+    pub cell_opposite_cos_min: f32,
+    pub cell_opposite_length_ratio_max: f32,
+}
+
+pub enum EdgeGate {
+    Off,
+    On(EdgeShapeParams),
+}
+
+pub struct Settings {
+    pub cell_size: f32,
+    pub line_tol_rel: f32,
+    pub line_min_members: u16,
+    pub local_h_tol_rel: f32,
+    pub use_step_aware: bool,
+    pub step_deviation_thresh_rel: f32,
+    pub apply_wrong_label_drops: bool,
+    pub apply_largest_component: bool,
+    pub edge_shape: EdgeGate,
+}
+
+impl Settings {
+    pub const LINE_TOL_REL: f32 = 0.15;
+
+    pub const LINE_MIN_MEMBERS: u16 = 3;
+
+    pub const LOCAL_H_TOL_REL: f32 = 0.20;
+
+    pub const USE_STEP_AWARE: bool = false;
+
+    pub const STEP_DEVIATION_THRESH_REL: f32 = 0.0;
+
+    pub const APPLY_WRONG_LABEL_DROPS: bool = true;
+
+    pub const APPLY_LARGEST_COMPONENT: bool = true;
+
+    // The defaults for a cell size, with or without an edge-shape gate.
+    pub fn new(cell_size: f32, edge_shape: EdgeGate) -> Self
+        ensures { λ r. ⌜ r ≡ defaultsFor «cell_size» «edge_shape» ⌝ }
+    {
+        Self {
+            cell_size,
+            line_tol_rel: Self::LINE_TOL_REL,
+            line_min_members: Self::LINE_MIN_MEMBERS,
+            local_h_tol_rel: Self::LOCAL_H_TOL_REL,
+            use_step_aware: Self::USE_STEP_AWARE,
+            step_deviation_thresh_rel: Self::STEP_DEVIATION_THRESH_REL,
+            apply_wrong_label_drops: Self::APPLY_WRONG_LABEL_DROPS,
+            apply_largest_component: Self::APPLY_LARGEST_COMPONENT,
+            edge_shape,
+        }
+    }
+}
+
+// ---- the fields
+
+// Where the fields stand: whether tag 1 has length 21, whether there is a tag 2, where the points begin and how many there are.
+pub struct Layout {
+    pub full: bool,
+    pub gated: bool,
+    pub points: usize,
+    pub count: usize,
+}
+
+pub enum Framing {
+    Framed(Layout),
+    Misframed,
+}
+
+// Whether the field with this tag and `len` bytes of data stands at `at`.
+fn field_at(file: &[u8], at: usize, tag: u8, len: usize) -> bool
+    requires { ⌜ at ≤ length (now file) ⌝ }
+    ensures { λ r. ⌜ r ≡ fieldAt (now (file .entry)) at tag len ⌝ }
+{
+    if file.len() - at < 3 {
+        return false;
+    }
+    if file.len() - at - 3 < len {
+        return false;
+    }
+    if file[at] == tag {
+        return view::wide(u16_at(file, at + 1)) == len;
+    }
+    false
+}
+
+// Tag 3 from `at` to the end of the file.
+fn points_from(file: &[u8], at: usize, full: bool, gated: bool) -> Framing
+    requires { ⌜ at ≤ length (now file) ⌝ }
+    ensures { λ r. ⌜ r ≡ pointsFrom (now (file .entry)) at full gated ⌝ }
+{
+    if file.len() - at < 3 {
+        return Framing::Misframed;
+    }
+    let n = file.len() - (at + 3);
+    if field_at(file, at, 3, n) {
+        if n % 20 == 0 {
+            return Framing::Framed(Layout {
+                full,
+                gated,
+                points: at + 3,
+                count: n / 20,
+            });
+        }
+        return Framing::Misframed;
+    }
+    Framing::Misframed
+}
+
+// Tag 2, if it stands at `at`, and then tag 3.
+fn gate_from(file: &[u8], at: usize, full: bool) -> Framing
+    requires { ⌜ at ≤ length (now file) ⌝ }
+    ensures { λ r. ⌜ r ≡ gateFrom (now (file .entry)) at full ⌝ }
+{
+    if field_at(file, at, 2, 17) {
+        return points_from(file, at + 20, full, true);
+    }
+    points_from(file, at, full, false)
+}
+
+// The fields of the whole file.
+pub fn frame(file: &[u8]) -> Framing
+    ensures { λ r. ⌜ r ≡ framingOf (now (file .entry)) ⌝ }
+{
+    if field_at(file, 0, 1, 21) {
+        return gate_from(file, 24, true);
+    }
+    if field_at(file, 0, 1, 4) {
+        return gate_from(file, 7, false);
+    }
+    Framing::Misframed
+}
+
+// ---- what is read
+
+// The settings, where the points begin and how many there are.
+pub struct Header {
+    pub settings: Settings,
+    pub points: usize,
+    pub count: usize,
+}
+
+pub enum Reading {
+    Refused(u8),
+    Accepted(Header),
+}
+
+fn is_no_flag(b: u8) -> bool
+    ensures { λ r. ⌜ r ≡ noFlag b ⌝ }
+{
+    1 < b
+}
+
+// Whether the step flag or a switch is neither 0 nor 1.
+fn has_bad_flag(file: &[u8], f: Layout) -> bool
+    requires { ⌜ Held (now file) f ⌝ }
+    ensures { λ r. ⌜ r ≡ badFlag (now (file .entry)) f ⌝ }
+{
+    if f.full {
+        if is_no_flag(file[17]) {
+            return true;
+        }
+        if is_no_flag(file[22]) {
+            return true;
+        }
+        return is_no_flag(file[23]);
+    }
+    false
+}
+
+// Whether a float of tag 1 is outside the limit.
+fn settings_outside(file: &[u8], f: Layout) -> bool
+    requires { ⌜ Held (now file) f ⌝ }
+    ensures { λ r. ⌜ r ≡ anyIn outside (settingsFloats (now (file .entry)) (f .full)) ⌝ }
+{
+    if is_outside(file, 3) {
+        return true;
+    }
+    if f.full {
+        if is_outside(file, 7) {
+            return true;
+        }
+        if is_outside(file, 13) {
+            return true;
+        }
+        return is_outside(file, 18);
+    }
+    false
+}
+
+// Whether a float of tag 2, whose data begin at `at`, is outside the limit.
+fn gate_outside(file: &[u8], at: usize) -> bool
+    requires { ⌜ at + 17 ≤ length (now file) ⌝ }
+    ensures { λ r. ⌜ r ≡ anyIn outside (gateFloats (now (file .entry)) at) ⌝ }
+{
+    if is_outside(file, at + 1) {
+        return true;
+    }
+    if is_outside(file, at + 5) {
+        return true;
+    }
+    if is_outside(file, at + 9) {
+        return true;
+    }
+    is_outside(file, at + 13)
+}
+
+// Where the data of tag 2 begin.
+fn gate_start(full: bool) -> usize
+    ensures { λ r. ⌜ r ≡ gateStart full ⌝ }
+{
+    if full {
+        return 27;
+    }
+    10
+}
+
+fn has_bad_float(file: &[u8], f: Layout) -> bool
+    requires { ⌜ Held (now file) f ⌝ }
+    ensures { λ r. ⌜ r ≡ badFloat (now (file .entry)) f ⌝ }
+{
+    if settings_outside(file, f) {
+        return true;
+    }
+    if f.gated {
+        return gate_outside(file, gate_start(f.full));
+    }
+    false
+}
+
+// The edge-shape gate in the data of tag 2 from `at` on.
+fn gate_in(file: &[u8], at: usize) -> EdgeShapeParams
+    requires { ⌜ (at + 17 ≤ length (now file)) × (anyIn outside (gateFloats (now file) at) ≡ false) ⌝ }
+    ensures { λ r. ⌜ r ≡ gateIn (now (file .entry)) at ⌝ }
+{
+    EdgeShapeParams {
+        min_cardinal_degree: file[at],
+        continuation_cos_min: float_at(file, at + 1),
+        continuation_length_ratio_max: float_at(file, at + 5),
+        cell_opposite_cos_min: float_at(file, at + 9),
+        cell_opposite_length_ratio_max: float_at(file, at + 13),
+    }
+}
+
+fn edge_shape_of(file: &[u8], f: Layout) -> EdgeGate
+    requires { ⌜ Held (now file) f × (badFloat (now file) f ≡ false) ⌝ }
+    ensures { λ r. ⌜ r ≡ edgeShapeOf (now (file .entry)) f ⌝ }
+{
+    if f.gated {
+        return EdgeGate::On(gate_in(file, gate_start(f.full)));
+    }
+    EdgeGate::Off
+}
+
+fn settings_of(file: &[u8], f: Layout) -> Settings
+    requires { ⌜ Held (now file) f × (badFloat (now file) f ≡ false) ⌝ }
+    ensures { λ r. ⌜ r ≡ settingsOf (now (file .entry)) f ⌝ }
+{
+    let gate = edge_shape_of(file, f);
+    if f.full {
+        return Settings {
+            cell_size: float_at(file, 3),
+            line_tol_rel: float_at(file, 7),
+            line_min_members: u16_at(file, 11),
+            local_h_tol_rel: float_at(file, 13),
+            use_step_aware: file[17] == 1,
+            step_deviation_thresh_rel: float_at(file, 18),
+            apply_wrong_label_drops: file[22] == 1,
+            apply_largest_component: file[23] == 1,
+            edge_shape: gate,
+        };
+    }
+    Settings::new(float_at(file, 3), gate)
+}
+
+// Refusals 2 to 5 of a file with this layout.
+fn read_framed(file: &[u8], room: usize, f: Layout) -> Reading
+    requires { ⌜ Held (now file) f ⌝ }
+    ensures { λ r. ⌜ r ≡ readingIn (now (file .entry)) room f ⌝ }
+{
+    if MAX_POINTS < f.count {
+        return Reading::Refused(2);
+    }
+    if room < 28 * f.count {
+        return Reading::Refused(3);
+    }
+    if has_bad_flag(file, f) {
+        return Reading::Refused(4);
+    }
+    if has_bad_float(file, f) {
+        return Reading::Refused(5);
+    }
+    Reading::Accepted(Header {
+        settings: settings_of(file, f),
+        points: f.points,
+        count: f.count,
+    })
+}
+
+// The settings of a file and where its points stand, or a number from 1 to 5; `room` is the length of the result buffer.
+pub fn read(file: &[u8], room: usize) -> Reading
+    ensures { λ r. ⌜ r ≡ readingOf (now (file .entry)) room ⌝ }
+{
+    match frame(file) {
+        Framing::Framed(f) => read_framed(file, room, f),
+        Framing::Misframed => Reading::Refused(1),
+    }
+}
