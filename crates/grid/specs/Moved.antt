@@ -1,23 +1,25 @@
 -- Points whose cells are all moved by one offset have the same view; only their keys move. Assumes nothing.
-use mathlib.Core.Path.{_≡_, refl, sym, ap, _∙_, fun-ext}
-use mathlib.Core.Bool.{Bool, true, false}
+use mathlib.Core.Path.{_≡_, sym, ap}
 use mathlib.Core.List.{List}
-use Prim.Native.Nat.{ℕ, _+_, _-_, _*_, _/_, _%_, _≤_, _<_}
+use Prim.Native.Nat.{ℕ, _+_, _-_, _*_, _/_, _%_, _<_}
 use native.Mathlib.Omega.{arith}
-use lib.Dec.{eqb}
+use lib.Dec.{eqb, ltb}
 use lib.IntN.{ℤ}
-use lib.Ieee.{Float, nan}
+use lib.Ieee.{nan}
 use lib.ListN.{length, getD}
+use borrow.Author.Tests.{lt-ltb, ltb-true}
 use Rattle.folds.specs.Arith.{f32}
-use Rattle.folds.specs.Below.{first-ext}
-use Rattle.folds.specs.Lists.{listOf, list-at, list-ext}
-use Rattle.folds.specs.Column.{column, column-at}
-use Rattle.view.specs.View.{View, viewAt, maxPoints}
+use Rattle.folds.specs.Below.{first-ext, both-ways}
+use Rattle.folds.specs.Lists.{list-ext}
+use Rattle.folds.specs.Column.{column-at}
+use Rattle.view.specs.View.{maxPoints}
 use Rattle.cells.specs.Points.{Point, nowhere, keyOf, keysOf}
 use Rattle.cells.specs.Cell.{InRange, cellOf, moved, upOf, downOf, keyUp, keyDown, u-moved, v-moved, key-moved}
-use Rattle.grid.specs.Tables.{nearEntry, rowAt, columnAt, byIdxAt, at}
+use Rattle.sort.specs.Sorted.{sort}
+use Rattle.sort.specs.Along.{Along, along-length, along-at, sort-along}
+use Rattle.grid.specs.Tables.{nearEntry, rowAt, columnAt, at}
 use Rattle.grid.specs.Standing.{same-test, near-shift}
-use Rattle.grid.specs.Views.{viewOf, keyList, indexList}
+use Rattle.grid.specs.Views.{viewOf, keyList, indexList, key-read}
 
 -- "An offset is one whole number added to every u and one to every v, of either sign; index, position .. stay": q is p, moved, and both are in range
 pub record Moved (a b : ℤ) (p q : Point) : Type 0 where
@@ -39,20 +41,14 @@ module _ (a b : ℤ) (ps qs : List Point) (size : length qs ≡ length ps) (all 
       rw (column-at maxPoints 0 (length qs) (λ (k : ℕ). keyOf (getD qs k nowhere)) k (omega arith), column-at maxPoints 0 (length ps) (λ (k : ℕ). keyOf (getD ps k nowhere)) k h)
       (key-moves k h)
 
-  old-key : (k : ℕ) → k < length ps → at (keyList (length ps) ps) k ≡ keyOf (getD ps k nowhere)
-  old-key k h = list-at (length ps) (λ (k : ℕ). keyOf (getD ps k nowhere)) k 0 h
-
-  new-key : (k : ℕ) → k < length ps → at (keyList (length ps) qs) k ≡ keyOf (getD qs k nowhere)
-  new-key k h = list-at (length ps) (λ (k : ℕ). keyOf (getD qs k nowhere)) k 0 h
-
   shifted : (k : ℕ) → k < length ps → at (keyList (length ps) qs) k + keyDown a b ≡ at (keyList (length ps) ps) k + keyUp a b
-  shifted k h = rw (old-key k h, new-key k h) (key-moves k h)
+  shifted k h = rw (key-read (length ps) ps k h, key-read (length ps) qs k h) (key-moves k h)
 
   u-shifted : (k : ℕ) → k < length ps → at (keyList (length ps) qs) k / 16384 + downOf a ≡ at (keyList (length ps) ps) k / 16384 + upOf a
-  u-shifted k h = let m = all k h in rw (old-key k h, new-key k h) (u-moved a b (getD ps k nowhere) (getD qs k nowhere) (m .old) (m .new) (m .cell))
+  u-shifted k h = let m = all k h in rw (key-read (length ps) ps k h, key-read (length ps) qs k h) (u-moved a b (getD ps k nowhere) (getD qs k nowhere) (m .old) (m .new) (m .cell))
 
   v-shifted : (k : ℕ) → k < length ps → at (keyList (length ps) qs) k % 16384 + downOf b ≡ at (keyList (length ps) ps) k % 16384 + upOf b
-  v-shifted k h = let m = all k h in rw (old-key k h, new-key k h) (v-moved a b (getD ps k nowhere) (getD qs k nowhere) (m .old) (m .new) (m .cell))
+  v-shifted k h = let m = all k h in rw (key-read (length ps) ps k h, key-read (length ps) qs k h) (v-moved a b (getD ps k nowhere) (getD qs k nowhere) (m .old) (m .new) (m .cell))
 
   row-same : (k : ℕ) → k < length ps → rowAt (length ps) (at (keyList (length ps) qs)) k ≡ rowAt (length ps) (at (keyList (length ps) ps)) k
   unfolding rowAt
@@ -83,3 +79,17 @@ module _ (a b : ℤ) (ps qs : List Point) (size : length qs ≡ length ps) (all 
         list-ext nan n (λ (k : ℕ). f32 (getD qs k nowhere .x)) (λ (k : ℕ). f32 (getD ps k nowhere .x)) (λ k h. ap f32 (all k h .x)),
         list-ext nan n (λ (k : ℕ). f32 (getD qs k nowhere .y)) (λ (k : ℕ). f32 (getD ps k nowhere .y)) (λ k h. ap f32 (all k h .y)),
       )
+
+-- a move of all points of a listing: their order stays, and what the filters see of them
+module _ (a b : ℤ) where
+  less-moved : (p r q w : Point) → Moved a b p q → Moved a b r w → ltb (keyOf p) (keyOf r) ≡ ltb (keyOf q) (keyOf w)
+  less-moved p r q w m n =
+      let e = key-moved a b p q (m .old) (m .new) (m .cell) in
+      let f = key-moved a b r w (n .old) (n .new) (n .cell) in
+      both-ways (ltb (keyOf p) (keyOf r)) (ltb (keyOf q) (keyOf w)) (λ t. lt-ltb (keyOf q) (keyOf w) (omega (arith, e, f, ltb-true (keyOf p) (keyOf r) t))) (λ t. lt-ltb (keyOf p) (keyOf r) (omega (arith, e, f, ltb-true (keyOf q) (keyOf w) t)))
+
+  pub order-moved : {ps qs : List Point} → Along (Moved a b) ps qs → Along (Moved a b) (sort (λ (p q : Point). ltb (keyOf p) (keyOf q)) ps) (sort (λ (p q : Point). ltb (keyOf p) (keyOf q)) qs)
+  order-moved r = sort-along (λ (p q : Point). ltb (keyOf p) (keyOf q)) (λ (p q : Point). ltb (keyOf p) (keyOf q)) less-moved r
+
+  pub view-along : {ps qs : List Point} → Along (Moved a b) ps qs → viewOf qs ≡ viewOf ps
+  view-along {ps} {qs} r = view-moved a b ps qs (sym (along-length r)) (along-at nowhere nowhere r)

@@ -1,4 +1,5 @@
 pub mod Sorted
 pub mod Numbers
 pub mod Packed
+pub mod Along
 pub mod Parts
