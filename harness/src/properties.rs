@@ -34,6 +34,47 @@ fn any_switches(sheet: &Sheet, case: &Case, right: &Answer) -> bool {
         .all(|(w, l)| with(w, l) == right)
 }
 
+/// A row without what a whole move may change: the validate and component marks and the
+/// residual, since the fit is from cell numbers.
+fn unmoved(row: &[u8]) -> Vec<u8> {
+    let mut out = row.to_vec();
+    out[0] &= 6;
+    out[2] &= 30;
+    out[8..12].fill(0);
+    out
+}
+
+/// A whole move changes no more than that, and neither marks nor count if it leaves the
+/// validate marks alone.
+fn any_move(sheet: &Sheet, case: &Case, right: &Answer) -> bool {
+    let mut r = Random::new(case.seed);
+    let (du, dv) = (r.whole(-4000, 4000), r.whole(-4000, 4000));
+    let mut other = sheet.clone();
+    for p in &mut other.points {
+        (p.u, p.v) = (p.u.wrapping_add(du), p.v.wrapping_add(dv));
+    }
+    let marks =
+        |rows: &[u8], bits: u8| -> Vec<u8> { rows.chunks(ROW).map(|row| row[0] & bits).collect() };
+    let parts = |rows: &[u8]| -> Vec<Vec<u8>> { rows.chunks(ROW).map(unmoved).collect() };
+    match (right, &answer(&other, case.buffer)) {
+        (
+            Answer::Accepted {
+                rows, components, ..
+            },
+            Answer::Accepted {
+                rows: moved,
+                components: count,
+                ..
+            },
+        ) => {
+            let same_marks = marks(rows, 15) == marks(moved, 15) && components == count;
+            parts(rows) == parts(moved) && (marks(rows, 1) != marks(moved, 1) || same_marks)
+        }
+        // Moved out of range, or refused before.
+        _ => true,
+    }
+}
+
 /// The first of the cases on which one of these fails.
 pub fn first_failure(sheets: usize, seed: u64) -> Option<String> {
     for i in 0..sheets {
@@ -45,6 +86,9 @@ pub fn first_failure(sheets: usize, seed: u64) -> Option<String> {
         let name = format!("{:?} {}", case.kind, case.seed);
         if !any_order(&sheet, &case, &right) {
             return Some(format!("another order: {name}"));
+        }
+        if !any_move(&sheet, &case, &right) {
+            return Some(format!("a whole move: {name}"));
         }
         if case.expected == Expected::Accepted && !any_switches(&sheet, &case, &right) {
             return Some(format!("other switches: {name}"));

@@ -59,7 +59,7 @@ pub fn run() -> bool {
     checks.extend(faults());
     let failure = properties::first_failure(810, 2);
     checks.push((
-        format!("order and switches: {failure:?}"),
+        format!("order, move and switches: {failure:?}"),
         failure.is_none(),
     ));
     checks.push(("text and back".into(), text_and_back()));

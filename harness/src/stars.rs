@@ -1,4 +1,5 @@
-//! The sheets that document 01 names, with what it says of them.
+//! The sheets that document 01 names, with what it says of them, and one on which the Rust's
+//! acos differs.
 
 use crate::second::{self, over_30_degrees, Answer, Fault};
 use crate::text;
@@ -71,6 +72,15 @@ const SHEETS: &[(&str, &str, Says)] = &[
         "index 7 twice",
         "cell 100\n0 0 7 3 3\n1 0 7 3 3",
         Says::Marks(&["--W-", "--W-"]),
+    ),
+    // The Rust gives no reason here: its acos cannot tell the cosine from the least one.
+    (
+        "a cosine one float under the least",
+        "cell 1\ngate 1 0.6 16384 -2 16384\n0 0 0 0 0\n1 0 1 3 -14\n2 0 2 16 -20",
+        Says::Listing(
+            "points 3 components 2\n0 0 0 ---- - -\n1 0 1 V--- 2 -\n2 0 2 ---C - -\n\
+             kept 1 validate 1 orientation 0 wrong 0 component 1\n",
+        ),
     ),
 ];
 

@@ -1,7 +1,3 @@
-pub mod Surviving
-pub mod Searching
-pub mod Closure
-pub mod Labelling
 pub mod Tallies
 pub mod Whole
 pub mod Marking

@@ -1,19 +1,19 @@
 -- What the component mark says, and what labels and marks depend on. Assumes nothing.
-use mathlib.Core.Path.{_≡_, refl, sym, ap, _∙_, fun-ext}
+use mathlib.Core.Path.{_≡_, refl, ap, _∙_}
 use mathlib.Core.Bool.{Bool, true, false, not, _&&_}
 use mathlib.Core.List.{List}
 use Prim.Native.Nat.{ℕ, _<_}
-use native.Mathlib.Omega.{arith}
-use borrow.Author.Tests.{eq-eqb, eqb-true, lt-ltb, ltb-true}
-use lib.Dec.{eqb, ltb}
-use Rattle.folds.specs.Below.{some, some-ext, some-one, and-under, and-left, and-right, both-ways}
-use Rattle.folds.specs.Column.{column, column-at, column-ext}
+use borrow.Author.Tests.{eq-eqb, eqb-true, lt-ltb}
+use lib.Dec.{eqb}
+use Rattle.folds.specs.Below.{some-ext, some-one, and-under, both-ways}
+use Rattle.folds.specs.Column.{column-at, column-ext}
 use Rattle.folds.specs.Marked.{bit}
 use Rattle.view.specs.View.{View, maxPoints, indexHas}
-use Rattle.components.specs.Patches.{at, survives, touches, linked, via, labelsBy, labelsOf, winnerOf, inPatch, isOther, othersBy, othersOf, placeHas, indexMarks, patchLabels, componentMark}
-use Rattle.components.proofs.Surviving.{survives-lt}
-use Rattle.components.proofs.Closure.{reach-from}
-use Rattle.components.proofs.Labelling.{joins, label-none, label-some}
+use Rattle.patches.specs.Patches.{at, survives, linked, labelsOf, patchLabels}
+use Rattle.components.specs.Components.{winnerOf, inPatch, isOther, othersBy, othersOf, placeHas, indexMarks, componentMark}
+use Rattle.patches.proofs.Surviving.{survives-lt}
+use Rattle.patches.proofs.Closure.{reach-from}
+use Rattle.patches.proofs.Labelling.{joins, label-some}
 
 -- ---- the mark is of indices
 
@@ -55,24 +55,7 @@ other-not n near sides dropped s k e =
     let v = survives-lt n dropped (at (labelsOf n near sides dropped) k) (reach-from n (survives n dropped) (linked n near sides dropped) (joins n near sides dropped) (label-some n near sides dropped k e .reached)) in
     rw (lt-ltb (at (labelsOf n near sides dropped) k) n v, lt-ltb k n (survives-lt n dropped k e)) refl
 
--- ---- labels and marks depend on the survivors and on the neighbours of points alone
-
-pub labels-depend : (n : ℕ) (near near′ : ℕ → ℕ) (sides sides′ dropped dropped′ : List ℕ) → ((k : ℕ) → k < n → survives n dropped k ≡ survives n dropped′ k)
-    → ((a b : ℕ) → a < n → b < n → touches near sides a b ≡ touches near′ sides′ a b) → labelsOf n near sides dropped ≡ labelsOf n near′ sides′ dropped′
-unfolding labelsOf
-labels-depend n near near′ sides sides′ dropped dropped′ s t =
-    let p = fun-ext alike in
-    let q = fun-ext (λ (a : ℕ). fun-ext (joined a)) in
-    ap (λ (f : ℕ → Bool). labelsBy n (via n f (linked n near sides dropped) n)) p ∙ ap (λ (f : ℕ → ℕ → Bool). labelsBy n (via n (survives n dropped′) f n)) q
-  where
-    alike : (k : ℕ) → survives n dropped k ≡ survives n dropped′ k
-    alike k = both-ways (survives n dropped k) (survives n dropped′ k) (λ e. sym (s k (survives-lt n dropped k e)) ∙ e) (λ e. s k (survives-lt n dropped′ k e) ∙ e)
-
-    joined : (a b : ℕ) → linked n near sides dropped a b ≡ linked n near′ sides′ dropped′ a b
-    joined a b =
-        and-under (survives n dropped a) (λ e. and-under (survives n dropped b) (λ f. t a b (survives-lt n dropped a e) (survives-lt n dropped b f)))
-        ∙ rw (alike a, alike b) refl
-
+-- marks depend on the places of the indices of points alone
 pub marks-depend : (n : ℕ) (byIdx byIdx′ : ℕ → ℕ) (marks : List ℕ) → ((k : ℕ) → k < n → byIdx k ≡ byIdx′ k) → indexMarks n byIdx marks ≡ indexMarks n byIdx′ marks
 unfolding indexMarks
 marks-depend n byIdx byIdx′ marks e =

@@ -1,26 +1,16 @@
 -- Small sheets by computation. With a repeated index the kept patch may be empty although there are survivors, or in pieces. Assumes nothing.
 use mathlib.Core.Path.{_≡_, refl}
-use mathlib.Core.Bool.{Bool, true, false, _&&_}
+use mathlib.Core.Bool.{_&&_}
 use mathlib.Core.List.{List, [], _∷_}
-use Prim.Native.Nat.{ℕ, zero, suc, _+_, _*_, _/_, _%_}
+use Prim.Native.Nat.{ℕ, _+_, _*_, _/_, _%_}
 use lib.Dec.{eqb}
 use lib.ListN.{length, getD, take}
-use Rattle.folds.specs.Below.{some, every, tally, first, firstIn}
+use Rattle.folds.specs.Below.{some, tally, first, firstIn}
 use Rattle.folds.specs.Lists.{upFrom, listOf}
 use Rattle.folds.specs.Column.{column}
 use Rattle.view.specs.View.{View, squareSides, viewAt}
-use Rattle.components.specs.Patches.{square, via, labelsBy, labelsOf, countOf, sizesOf, largestAt, winnerOf, othersBy, othersOf, indexMarks, patchLabels, componentCount, componentMark}
-use Rattle.components.specs.Reach.{paired}
-
--- the square lattice has each offset's opposite
-pub square-paired : paired squareSides ≡ true
-unfolding paired every some
-square-paired = refl
-
--- and so has the honeycomb, at offsets (1, 0), (0, 1), (-1, 1) and their opposites
-pub hex-paired : paired (17 ∷ 7 ∷ 13 ∷ 11 ∷ 8 ∷ 16 ∷ []) ≡ true
-unfolding paired every some
-hex-paired = refl
+use Rattle.patches.specs.Patches.{square, via, labelsBy, labelsOf, patchLabels}
+use Rattle.components.specs.Components.{countOf, sizesOf, largestAt, winnerOf, othersBy, othersOf, indexMarks, componentCount, componentMark}
 
 -- the view of cells in order, u and v from 2 on, with the place of each cell's index: entry 25 * k + d is the place of the cell at offset d
 unfoldable sheet : List ℕ → List ℕ → List ℕ → View

@@ -1,27 +1,29 @@
 -- The theorems on patches: labels agree just where one survivor is reached from the other; the count is how many whole patches there are;
 -- the winner is the largest of them, with the smallest least cell of equals. They ask that the table of neighbours is mirrored and that
 -- the list has each offset's opposite. Assumes nothing.
-use mathlib.Core.Path.{_≡_, refl, sym, ap, _∙_, subst}
-use mathlib.Core.Bool.{Bool, true, false, cond, not, _&&_, true≢false, false≢true}
+use mathlib.Core.Path.{_≡_, refl, sym, ap, _∙_}
+use mathlib.Core.Bool.{Bool, true, false, cond, false≢true}
 use mathlib.Core.Logic.{_⊎_, inl, inr, ⊎-elim}
 use mathlib.Core.List.{List}
-use Prim.{Dec, yes, no}
-use Prim.Native.Nat.{ℕ, zero, suc, _+_, _-_, _*_, _≤_, _<_}
-use native.Mathlib.Decide.{ℕ-discrete, decLt}
-use native.Mathlib.Nat.{le-antisymm, eq-or-lt-of-le}
+use Prim.{yes, no}
+use Prim.Native.Nat.{ℕ, zero, suc, _+_, _-_, _≤_, _<_}
+use native.Mathlib.Decide.{decLt}
+use native.Mathlib.Nat.{eq-or-lt-of-le}
 use native.Mathlib.Omega.{arith}
 use borrow.Author.Tests.{eq-eqb, eqb-true, lt-ltb, ltb-true, ltb-false}
 use lib.Dec.{eqb, ltb}
-use lib.ListN.{length, getD}
-use Rattle.folds.specs.Below.{some, some-at, some-yes, every, every-at, tally, tally-ext, tally-some, and-left, and-right, and-both, both-ways, not-true}
-use Rattle.folds.specs.Column.{column, column-at}
+use Rattle.folds.specs.Below.{some-yes, tally, tally-ext, tally-some, and-left, and-right, and-both, both-ways, not-true}
+use Rattle.folds.specs.Column.{column-at}
 use Rattle.view.specs.View.{maxPoints}
-use Rattle.components.specs.Patches.{at, survives, linked, labelsOf, countOf, sizesOf, largestAt, winnerOf, inPatch}
-use Rattle.components.specs.Reach.{Reach, here, step, Labelled, WholePatch, Smallest, Kept, Counted, Mirrored, paired}
-use Rattle.components.specs.Search.{Fit}
-use Rattle.components.proofs.Surviving.{survives-lt, link-from, link-to, link-side, link-by}
-use Rattle.components.proofs.Closure.{reach-trans, reach-from, reach-to}
-use Rattle.components.proofs.Labelling.{joins, label-none, label-some}
+use Rattle.patches.specs.Patches.{at, survives, linked, labelsOf}
+use Rattle.components.specs.Components.{sizesOf, largestAt, winnerOf, inPatch}
+use Rattle.patches.specs.Reach.{Reach, Mirrored, paired}
+use Rattle.components.specs.Kept.{WholePatch, Smallest, Kept, Counted}
+use Rattle.patches.specs.Search.{Fit}
+use Rattle.patches.proofs.Surviving.{survives-lt}
+use Rattle.patches.proofs.Closure.{reach-from, reach-to}
+use Rattle.patches.proofs.Labelling.{joins, label-none, label-some, label-le, label-lives}
+use Rattle.patches.proofs.Agreeing.{same-label}
 use Rattle.components.proofs.Tallies.{largest-le}
 
 -- a count above 0 counts something
@@ -79,48 +81,6 @@ module _ (n : ℕ) (near : ℕ → ℕ) (sides dropped : List ℕ) where
   label k = at labels k
 
   module _ (fit : Fit n sides) (pairs : paired sides ≡ true) (mirror : Mirrored n near) where
-    -- ---- shared edges lead both ways
-
-    pub link-back : (a b : ℕ) → link a b ≡ true → link b a ≡ true
-    unfolding paired
-    link-back a b e =
-        let p = link-from n near sides dropped a b e in
-        let q = link-to n near sides dropped a b e in
-        let w = link-side n near sides dropped a b e in
-        let o = every-at (λ (i : ℕ). some (λ (j : ℕ). eqb (at sides j) (24 - at sides i)) (length sides)) (length sides) pairs (w .0) (w .1) in
-        let j = some-at (λ (j : ℕ). eqb (at sides j) (24 - at sides (w .0))) (length sides) o in
-        let f = eqb-true (at sides (j .0)) (24 - at sides (w .0)) (j .2) in
-        link-by n near sides dropped b a q p (j .0) (j .1)
-        (ap (λ (d : ℕ). near (25 * b + d)) f ∙ mirror .back a b (at sides (w .0)) (survives-lt n dropped a p) (survives-lt n dropped b q) (fit .offsets (w .0) (w .1)) (w .2))
-
-    pub reach-back : {a b : ℕ} → Reach alive link a b → Reach alive link b a
-    reach-back (here e) = here e
-    reach-back {b = c} (step {b} r e) = reach-trans (step (here (link-to n near sides dropped b c e)) (link-back b c e)) (reach-back r)
-
-    -- ---- labels
-
-    lower : {a b : ℕ} → Reach alive link a b → label b ≤ label a
-    lower {a} {b} r =
-        label-some n near sides dropped b (reach-to n alive link (joins n near sides dropped) r) .least (label a) (reach-trans (label-some n near sides dropped a (reach-from n alive link (joins n near sides dropped) r) .reached) r)
-
-    -- two survivors have the same label exactly when one is reached from the other
-    pub same-label : (a b : ℕ) → alive a ≡ true → alive b ≡ true → (label a ≡ label b → Reach alive link a b) × (Reach alive link a b → label a ≡ label b)
-    same-label a b p q = (
-      (λ e. reach-trans (reach-back (label-some n near sides dropped a p .reached)) (rw e (label-some n near sides dropped b q .reached))),
-      λ r. le-antisymm (lower (reach-back r)) (lower r),
-    )
-
-    label-le : (k : ℕ) → alive k ≡ true → label k ≤ k
-    label-le k e = label-some n near sides dropped k e .least k (here e)
-
-    -- a rank with a label below n survives
-    labelled : (k : ℕ) → k < n → label k < n → alive k ≡ true
-    labelled k h l = go (alive k) refl
-      where
-        go : (b : Bool) → alive k ≡ b → alive k ≡ true
-        go true e = e
-        go false e = absurd (omega (arith, l, label-none n near sides dropped k h (λ t. false≢true (sym e ∙ t))))
-
     -- ---- patches by their labels
 
     patch-of : (s k : ℕ) → inPatch n labels s k ≡ true → (k < n) × (label k ≡ s)
@@ -131,10 +91,10 @@ module _ (n : ℕ) (near : ℕ → ℕ) (sides dropped : List ℕ) where
 
     -- a survivor's patch is what has its label
     patch-in : (a k : ℕ) → alive a ≡ true → inPatch n labels (label a) k ≡ true → Reach alive link a k
-    patch-in a k e t = let w = patch-of (label a) k t in same-label a k e (labelled k (w .0) (omega (arith, w .1, label-le a e, survives-lt n dropped a e))) .0 (sym (w .1))
+    patch-in a k e t = let w = patch-of (label a) k t in same-label n near sides dropped fit pairs mirror a k e (label-lives n near sides dropped k (w .0) (omega (arith, w .1, label-le n near sides dropped a e, survives-lt n dropped a e))) .0 (sym (w .1))
 
     patch-out : (a k : ℕ) → alive a ≡ true → Reach alive link a k → inPatch n labels (label a) k ≡ true
-    patch-out a k e r = let b = reach-to n alive link (joins n near sides dropped) r in patch-is (label a) k b (sym (same-label a k e b .1 r))
+    patch-out a k e r = let b = reach-to n alive link (joins n near sides dropped) r in patch-is (label a) k b (sym (same-label n near sides dropped fit pairs mirror a k e b .1 r))
 
     with-label : (a : ℕ) → alive a ≡ true → WholePatch alive link (inPatch n labels (label a))
     with-label a e = record { seed = a; survives = e; inner = λ k. patch-in a k e; outer = λ k. patch-out a k e }
@@ -150,15 +110,15 @@ module _ (n : ℕ) (near : ℕ → ℕ) (sides dropped : List ℕ) where
     own-label a e =
         let r = label-some n near sides dropped a e .reached in
         let b = reach-from n alive link (joins n near sides dropped) r in
-        (b, same-label (label a) a b e .1 r)
+        (b, same-label n near sides dropped fit pairs mirror (label a) a b e .1 r)
 
     root : (s : ℕ) → s < n → eqb (label s) s ≡ true → (alive s ≡ true) × (label s ≡ s)
-    root s h e = let q = eqb-true (label s) s e in (labelled s h (omega (arith, q)), q)
+    root s h e = let q = eqb-true (label s) s e in (label-lives n near sides dropped s h (omega (arith, q)), q)
 
     first-of : (s : ℕ) → s < n → eqb (label s) s ≡ true → Smallest (inPatch n labels s) s
     first-of s h e =
         let w = root s h e in
-        record { member = patch-is s s (w .0) (w .1); first = λ k t. let v = patch-of s k t in omega (arith, v .1, label-le k (labelled k (v .0) (omega (arith, v .1)))) }
+        record { member = patch-is s s (w .0) (w .1); first = λ k t. let v = patch-of s k t in omega (arith, v .1, label-le n near sides dropped k (label-lives n near sides dropped k (v .0) (omega (arith, v .1)))) }
 
     -- the count: one rank for each whole patch
     pub counted : Counted alive link n (λ (s : ℕ). eqb (label s) s) (inPatch n labels)
@@ -186,13 +146,13 @@ module _ (n : ℕ) (near : ℕ → ℕ) (sides dropped : List ℕ) where
     unfolding winnerOf
     won a e =
         let h = survives-lt n dropped a e in
-        let l = label-le a e in
+        let l = label-le n near sides dropped a e in
         let w = largest-lt (sizesOf n labels) n (omega arith) in
         let m = largest-most (sizesOf n labels) n (label a) (omega arith) in
         let p = tally-some (inPatch n labels (label a)) n (some-yes (inPatch n labels (label a)) n a h (patch-is (label a) a e refl)) in
         let f = tally-at (inPatch n labels (largestAt (sizesOf n labels) n)) n (omega (arith, m, p, size-of (label a) (omega arith), size-of (largestAt (sizesOf n labels) n) w)) in
         let v = patch-of (largestAt (sizesOf n labels) n) (f .0) (f .2) in
-        let o = own-label (f .0) (labelled (f .0) (v .0) (omega (arith, v .1))) in
+        let o = own-label (f .0) (label-lives n near sides dropped (f .0) (v .0) (omega (arith, v .1))) in
         (w, eq-eqb (label win) win (rw (v .1) at (o .1)))
 
     -- what is kept

@@ -1,3 +1,2 @@
-pub mod Patches
-pub mod Reach
-pub mod Search
+pub mod Components
+pub mod Kept

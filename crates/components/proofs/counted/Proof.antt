@@ -1,29 +1,17 @@
--- Assumes nothing.
-use mathlib.Core.Path.{_≡_, refl, sym, ap, _∙_}
-use mathlib.Core.Bool.{Bool, true, false, cond, not, _&&_}
-use Prim.Native.Nat.{ℕ, _+_, _-_, _≤_, _<_, zero-le}
-use native.Mathlib.Omega.{arith}
+-- `components::counted` meets its contract. Assumes nothing.
+use mathlib.Core.Path.{refl}
+use Prim.Native.Nat.{_-_}
 use borrow.Author.Needs.{needs}
-use borrow.Author.Tests.{lt-ltb, le-ltb, eq-eqb, ne-eqb}
-use lib.Dec.{eqb, ltb}
-use lib.ListN.{length, getD, replicate, length-replicate}
-use Rattle.view.specs.View.{maxPoints}
+use borrow.Author.Tests.{eq-eqb, ne-eqb}
 use Rattle.components.proofs.counted.Statement.{statement}
 use Rattle.components.proofs.counted.Tie as tie
-use Rattle.components.proofs.counted.Reads as reads
-use Rattle.components.proofs.counted.Lts as lts
 
--- src/lib.rt:165:16
-add-result : tie.Need-add-result
-add-result c = search needs
-
--- src/lib.rt:165:9
 returns : tie.Need-returns
 returns c = rw (eq-eqb _ _ (c .if1 .taken)) refl
 
--- src/lib.rt:160:1
 returns-2 : tie.Need-returns-2
 returns-2 c = rw (ne-eqb _ _ (c .if1 .left)) refl
 
 pub counted-spec : {M : Type 1} → statement M
-counted-spec = tie.close (tie.spec add-result returns returns-2)
+counted-spec = tie.close
+    (tie.spec (λ c. search needs) returns returns-2)

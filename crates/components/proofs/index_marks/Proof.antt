@@ -1,19 +1,16 @@
--- Assumes nothing.
-use mathlib.Core.Path.{_≡_, refl, sym, ap, _∙_}
-use Prim.Native.Nat.{ℕ, _+_, _-_, _≤_, _<_, zero-le}
+-- `components::index_marks` meets its contract. Assumes nothing.
+use mathlib.Core.Path.{_≡_, ap, _∙_}
+use Prim.Native.Nat.{ℕ, _-_, _≤_, _<_, zero-le}
 use native.Mathlib.Omega.{arith}
 use borrow.Author.Needs.{needs}
-use lib.ListN.{length, getD, replicate, length-replicate}
+use lib.ListN.{replicate, length-replicate}
 use Rattle.view.specs.View.{maxPoints}
 use Rattle.folds.specs.Column.{Filling, fill-start, fill-more, filled}
 use Rattle.folds.specs.Marked.{bit}
-use Rattle.components.specs.Patches.{at, placeHas, indexMarks}
+use Rattle.patches.specs.Patches.{at}
+use Rattle.components.specs.Components.{placeHas, indexMarks}
 use Rattle.components.proofs.index_marks.Statement.{statement}
 use Rattle.components.proofs.index_marks.Tie as tie
-use Rattle.components.proofs.index_marks.Reads as reads
-use Rattle.components.proofs.index_marks.Lts as lts
-use Rattle.components.proofs.gathered.Reads as gathered-reads
-use Rattle.view.proofs.wide.Reads as wide-reads
 
 abbrev Inv-loop : tie.InvT-loop
 Inv-loop by-idx marks n hit out₀ i₀ out i = (i ≤ n) × Filling (replicate maxPoints 0) 0 (λ (k : ℕ). bit (placeHas n (at by-idx) marks (at by-idx k))) i out
@@ -21,27 +18,9 @@ Inv-loop by-idx marks n hit out₀ i₀ out i = (i ≤ n) × Filling (replicate 
 abbrev μ-loop : tie.MeasureT-loop
 μ-loop by-idx marks n hit out₀ i₀ out i = n - i
 
--- src/lib.rt:285:15
-gathered-requires : tie.Need-gathered-requires Inv-loop μ-loop
-gathered-requires c κs = search needs
-
--- src/lib.rt:288:5
 loop-holds : tie.Need-loop-holds Inv-loop μ-loop
 loop-holds c = (zero-le, fill-start _ _ _)
 
--- src/lib.rt:289:33
-mul-wide : tie.Need-mul-wide Inv-loop μ-loop
-mul-wide c = search needs
-
--- src/lib.rt:289:33
-element-copy-out-wide : tie.Need-element-copy-out-wide Inv-loop μ-loop
-element-copy-out-wide c = search needs
-
--- src/lib.rt:289:22
-wide-requires : tie.Need-wide-requires Inv-loop μ-loop
-wide-requires c κs = search needs
-
--- src/lib.rt:289:18
 place : (c : tie.After-wide Inv-loop μ-loop) → c .wide .result < maxPoints
 place c =
     let l = c .before .before .before in
@@ -50,19 +29,6 @@ place c =
 array-read-out : tie.Need-array-read-out Inv-loop μ-loop
 array-read-out c = omega (arith, place c)
 
--- src/lib.rt:289:9
-array-write-out : tie.Need-array-write-out Inv-loop μ-loop
-array-write-out c = search needs
-
--- src/lib.rt:290:9
-add-i : tie.Need-add-i Inv-loop μ-loop
-add-i c = search needs
-
--- src/lib.rt:288:5
-loop-less : tie.Need-loop-less Inv-loop μ-loop
-loop-less c = search needs
-
--- src/lib.rt:288:5
 loop-again : tie.Need-loop-again Inv-loop μ-loop
 loop-again c =
     let l = c .before .before .before in
@@ -72,7 +38,6 @@ loop-again c =
           (l .before .gathered .ensures (c .wide .result) (place c) ∙ ap (λ (v : ℕ). bit (placeHas (a .n) (at (a .by-idx .now)) (a .marks .now) v)) (c .wide .ensures)) (l .loop .inv .1),
     )
 
--- src/lib.rt:281:1
 returns : tie.Need-returns Inv-loop μ-loop
 unfolding indexMarks
 returns c = let e : c .before .loop .i ≡ c .before .before .before .args .n = omega arith in filled _ (omega arith) (rw e at (c .before .loop .inv .1))
@@ -80,17 +45,5 @@ returns c = let e : c .before .loop .i ≡ c .before .before .before .args .n = 
 pub index-marks-spec : {M : Type 1} → statement M
 index-marks-spec =
     tie.close
-    (tie.spec
-    Inv-loop
-    μ-loop
-    gathered-requires
-    loop-holds
-    mul-wide
-    element-copy-out-wide
-    wide-requires
-    array-read-out
-    array-write-out
-    add-i
-    loop-less
-    loop-again
-    returns)
+    (tie.spec Inv-loop μ-loop (λ c κs. search needs) loop-holds (λ c. search needs) (λ c. search needs) (λ c κs. search needs)
+    array-read-out (λ c. search needs) (λ c. search needs) (λ c. search needs) loop-again returns)

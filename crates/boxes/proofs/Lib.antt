@@ -1,0 +1,2 @@
+pub mod Extents
+pub mod Sheets

@@ -1,0 +1,2 @@
+pub mod Pivot
+pub mod Worked

@@ -1,0 +1,110 @@
+-- The pivot is the first entry of largest magnitude at or below the diagonal. Assumes nothing.
+use mathlib.Core.Bool.{Bool, true, false, cond, _&&_, _||_, false≢true, true≢false}
+use mathlib.Core.List.{List}
+use mathlib.Core.Logic.{⊎-elim}
+use mathlib.Core.Path.{_≡_, refl, sym, _∙_}
+use Prim.Native.Nat.{ℕ, _+_, _*_, _≤_, _<_}
+use native.Mathlib.Nat.{eq-or-lt-of-le, le-refl, mul-right-comm, mul-le-mul-right, mul-lt-mul-of-pos-right, lt-of-mul-lt-mul-right}
+use native.Mathlib.Omega.{arith}
+use lib.Dec.{eqb, ltb}
+use lib.Ieee.{Float, nan, inf, fin, up, down, lt, eq, le}
+use lib.Ieee.Fits.{down-pos}
+use borrow.Author.Tests.{ltb-true, eqb-true, lt-ltb, le-ltb}
+use Rattle.folds.specs.Below.{not-true, and-left}
+use Rattle.folds.specs.Run.{run, run-keeps}
+use Rattle.float.specs.Scalar.{absOf}
+use Rattle.homography.specs.Matrix.{entry}
+use Rattle.homography.specs.Linear.{betterRow, pivotRow}
+
+-- ---- the order of magnitudes; nothing is below a NaN, and a NaN is below nothing
+
+-- x / p < y / q ≤ z / r
+between : (x y z p q r : ℕ) → 0 < r → x * q < y * p → y * r ≤ z * q → x * r < z * p
+between x y z p q r R h k =
+    let a : x * q * r < y * p * r = mul-lt-mul-of-pos-right h R in
+    let b : y * r * p ≤ z * q * p = mul-le-mul-right p k in
+    lt-of-mul-lt-mul-right q (omega (arith, a, b, mul-right-comm x q r, mul-right-comm y p r, mul-right-comm z q p))
+
+at-most : (a b : ℕ) (c : Bool) → ltb a b || (eqb a b && c) ≡ true → a ≤ b
+at-most a b c h = go (ltb a b) refl h
+  where
+    go : (t : Bool) → ltb a b ≡ t → t || (eqb a b && c) ≡ true → a ≤ b
+    go true e h = omega (arith, ltb-true a b e)
+    go false e h = omega (arith, eqb-true a b (and-left (eqb a b) c h))
+
+below-through : (x y z : Float) → lt (absOf x) (absOf y) ≡ true → le (absOf y) (absOf z) ≡ true → lt (absOf x) (absOf z) ≡ true
+unfolding absOf lt eq le
+below-through nan y z h k = absurd (false≢true h)
+below-through (inf s) nan z h k = absurd (false≢true h)
+below-through (inf s) (inf t) z h k = absurd (false≢true h)
+below-through (inf s) (fin t n d) z h k = absurd (false≢true h)
+below-through (fin s m e) nan z h k = absurd (false≢true h)
+below-through (fin s m e) (inf t) nan h k = absurd (false≢true k)
+below-through (fin s m e) (inf t) (inf r) h k = refl
+below-through (fin s m e) (inf t) (fin r o g) h k = absurd (false≢true k)
+below-through (fin s m e) (fin t n d) nan h k = absurd (false≢true k)
+below-through (fin s m e) (fin t n d) (inf r) h k = refl
+below-through (fin s m e) (fin t n d) (fin r o g) h k =
+    lt-ltb (m * up e * down g) (o * up g * down e)
+    (between (m * up e) (n * up d) (o * up g) (down e) (down d) (down g) (down-pos g) (ltb-true (m * up e * down d) (n * up d * down e) h)
+    (at-most (n * up d * down g) (o * up g * down d) true k))
+
+not-below-itself : (x : Float) → lt (absOf x) (absOf x) ≡ false
+unfolding absOf lt
+not-below-itself nan = refl
+not-below-itself (inf s) = refl
+not-below-itself (fin s m e) = le-ltb (m * up e * down e) (m * up e * down e) (le-refl (m * up e * down e))
+
+below-at-most : (x y : Float) → lt x y ≡ true → le x y ≡ true
+unfolding le
+below-at-most x y h = rw h
+
+-- ---- the search
+
+-- of the places from i on and below n, p is the first whose value has the largest magnitude: none is larger, and none before it is as large
+pub record FirstLargest (value : ℕ → Float) (i n p : ℕ) : Type 0 where
+  pub start : i ≤ p
+  pub inside : p < n
+  pub largest : (k : ℕ) → i ≤ k → k < n → lt (absOf (value p)) (absOf (value k)) ≡ false
+  pub earliest : (k : ℕ) → i ≤ k → k < p → le (absOf (value p)) (absOf (value k)) ≡ false
+
+module _ (value : ℕ → Float) (i : ℕ) where
+  alone : FirstLargest value i (i + 1) i
+  alone = record { start = le-refl i; inside = omega arith; largest = λ k a b. let e : k ≡ i = omega arith in rw e (not-below-itself (value i)); earliest = λ k a b. absurd (omega arith) }
+
+  stays : (k p : ℕ) → FirstLargest value i k p → lt (absOf (value p)) (absOf (value k)) ≡ false → FirstLargest value i (k + 1) p
+  stays k p f e = record {
+    start = f .start;
+    inside = omega (arith, f .inside);
+    largest = λ j a b. ⊎-elim (λ (q : j ≡ k). rw q e) (λ (q : j < k). f .largest j a q) (eq-or-lt-of-le (omega arith));
+    earliest = f .earliest;
+  }
+
+  -- what is at least as large as k's would be larger than p's
+  moves : (k p : ℕ) → FirstLargest value i k p → lt (absOf (value p)) (absOf (value k)) ≡ true → FirstLargest value i (k + 1) k
+  moves k p f e = record {
+    start = omega (arith, f .start, f .inside);
+    inside = omega arith;
+    largest = λ j a b.
+        ⊎-elim (λ (q : j ≡ k). rw q (not-below-itself (value k)))
+        (λ (q : j < k). not-true (lt (absOf (value k)) (absOf (value j))) (λ t. smaller j a q (below-at-most (absOf (value k)) (absOf (value j)) t)))
+        (eq-or-lt-of-le (omega arith));
+    earliest = λ j a q. not-true (le (absOf (value k)) (absOf (value j))) (smaller j a q);
+  }
+    where
+      smaller : (j : ℕ) → i ≤ j → j < k → le (absOf (value k)) (absOf (value j)) ≡ true → ⊥
+      smaller j a q t = true≢false (sym (below-through (value p) (value k) (value j) e t) ∙ f .largest j a q)
+
+-- "pivot of largest magnitude, first of equals"
+pub pivot-first-largest : (m : List (List Float)) (i : ℕ) → i < 8 → FirstLargest (λ (k : ℕ). entry m k i) i 8 (pivotRow m i)
+unfolding pivotRow betterRow
+pivot-first-largest m i h =
+    run-keeps (FirstLargest value i) (betterRow m i) (i + 1) 8 i (omega arith) (alone value i)
+    (λ k a b p f. go k p f (lt (absOf (value p)) (absOf (value k))) refl)
+  where
+    value : ℕ → Float
+    value k = entry m k i
+
+    go : (k p : ℕ) → FirstLargest value i k p → (t : Bool) → lt (absOf (value p)) (absOf (value k)) ≡ t → FirstLargest value i (k + 1) (cond t k p)
+    go k p f true e = moves value i k p f e
+    go k p f false e = stays value i k p f e

@@ -1,0 +1,18 @@
+use Rattle.homography.specs.Matrix.{determinantOf}
+use borrow.Author.Needs.{needs}
+use Rattle.homography.proofs.matrix.determinant.Statement.{statement}
+use Rattle.homography.proofs.matrix.determinant.Tie as tie
+
+returns : tie.Need-returns
+unfolding determinantOf
+returns c = rw (c .minor-of3 .ensures, c .before .before .before .before .before .before .minor-of2 .ensures, c .before .before .before .before .before .before .before .before .before .before .before .before .minor-of .ensures)
+
+pub determinant-spec : {M : Type 1} → statement M
+determinant-spec =
+    tie.close
+    (tie.spec (λ c. search needs) (λ c. search needs) (λ c. search needs) (λ c. search needs) (λ c. search needs) (λ c. search needs)
+    (λ c. search needs) (λ c. search needs) (λ c. search needs) (λ c. search needs) (λ c κs. search needs) (λ c. search needs)
+    (λ c. search needs) (λ c. search needs) (λ c. search needs) (λ c. search needs) (λ c. search needs) (λ c. search needs)
+    (λ c. search needs) (λ c. search needs) (λ c. search needs) (λ c κs. search needs) (λ c. search needs) (λ c. search needs)
+    (λ c. search needs) (λ c. search needs) (λ c. search needs) (λ c. search needs) (λ c. search needs) (λ c. search needs)
+    (λ c. search needs) (λ c. search needs) (λ c κs. search needs) returns)

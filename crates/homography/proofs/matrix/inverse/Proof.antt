@@ -1,0 +1,15 @@
+use Rattle.homography.specs.Matrix.{inverseOf}
+use borrow.Author.Needs.{needs}
+use Rattle.homography.proofs.matrix.inverse.Statement.{statement}
+use Rattle.homography.proofs.matrix.inverse.Tie as tie
+
+returns : tie.Need-returns
+unfolding inverseOf
+returns c = search needs
+
+pub inverse-spec : {M : Type 1} → statement M
+inverse-spec =
+    tie.close
+    (tie.spec (λ c. search needs) (λ c. search needs) (λ c. search needs) (λ c. search needs) (λ c. search needs) (λ c. search needs)
+    (λ c. search needs) (λ c. search needs) (λ c. search needs) (λ c. search needs) (λ c. search needs) (λ c. search needs)
+    (λ c. search needs) (λ c. search needs) (λ c. search needs) (λ c. search needs) (λ c. search needs) (λ c. search needs) returns)

@@ -1,0 +1,16 @@
+use Rattle.homography.specs.Fit.{scaleOf}
+use borrow.Author.Needs.{needs}
+use Rattle.homography.proofs.scale.Statement.{statement}
+use Rattle.homography.proofs.scale.Tie as tie
+
+returns : tie.Need-returns
+unfolding scaleOf
+returns c = rw (c .before .if1 .taken, c .sqrt .ensures)
+
+returns-2 : tie.Need-returns-2
+unfolding scaleOf
+returns-2 c = rw (c .if1 .left)
+
+pub scale-spec : {M : Type 1} → statement M
+scale-spec = tie.close
+    (tie.spec (λ c κs. search needs) returns returns-2)

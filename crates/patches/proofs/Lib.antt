@@ -1,0 +1,6 @@
+pub mod Surviving
+pub mod Searching
+pub mod Closure
+pub mod Labelling
+pub mod Agreeing
+pub mod Gathering

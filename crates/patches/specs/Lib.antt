@@ -1,0 +1,3 @@
+pub mod Patches
+pub mod Reach
+pub mod Search

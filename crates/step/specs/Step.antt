@@ -1,0 +1,64 @@
+-- The local step of an index and its scale: the formulas of `local_step_per_corner` in step.rs and of `scale_at` in mod.rs, with their
+-- operations in their order. Assumes nothing.
+use mathlib.Core.Bool.{Bool, cond, _&&_}
+use mathlib.Core.List.{List, []}
+use mathlib.Core.Path.{_≡_, refl}
+use Prim.Native.Nat.{ℕ}
+use lib.ListN.{getD}
+use lib.Dec.{eqb}
+use lib.Ieee.{Float, lt, add, sub, mul}
+use lib.Ieee.Scale.{finite}
+use Rattle.float.specs.Constants.{zero, half}
+use Rattle.float.specs.Scalar.{normOf}
+use Rattle.folds.specs.Arith.{_⊕_, _⊖_, _⊗_}
+use Rattle.view.specs.View.{View, viewAt, rankAt, present, nextU, prevU, nextV, prevV}
+use Rattle.step.specs.declared.Step.{Step}
+use Rattle.step.specs.declared.Step.the-variants.{Of, Absent}
+
+-- the distance from rank p to rank q
+unfoldable pub between : (ℕ → Float) → (ℕ → Float) → ℕ → ℕ → Float
+unfolding normOf sub
+between x y p q = normOf (x q ⊖ x p) (y q ⊖ y p)
+
+-- The step of rank m along an axis, whose neighbours are at the offsets `before` and `after`: by a central difference where both are
+-- present, by a one-sided one where one is.
+unfoldable pub axisStep : View → ℕ → ℕ → ℕ → Step
+unfolding between mul
+axisStep w before after m =
+    cond (present w m before)
+    (cond (present w m after) (Of (between (w .x) (w .y) (rankAt w m before) (rankAt w m after) ⊗ half)) (Of (between (w .x) (w .y) (rankAt w m before) m)))
+    (cond (present w m after) (Of (between (w .x) (w .y) m (rankAt w m after))) Absent)
+
+-- the mean of the steps along both axes, or the only one
+unfoldable pub meanStep : Step → Step → Step
+unfolding add mul
+meanStep (Of a) (Of b) = Of ((a ⊕ b) ⊗ half)
+meanStep (Of a) Absent = Of a
+meanStep Absent b = b
+
+-- "the local step where it is finite and positive", else 0, which stands for no step
+unfoldable pub keptStep : Step → Float
+unfolding lt
+keptStep (Of s) = cond (lt zero s && finite s) s zero
+keptStep Absent = zero
+
+unfoldable pub localStep : View → ℕ → Float
+unfolding axisStep meanStep keptStep
+localStep w m = keptStep (meanStep (axisStep w prevU nextU m) (axisStep w prevV nextV m))
+
+-- With the step flag, the step of the index at place m: "For a repeated index the larger cell's entry wins", and an index stands at the
+-- last of its ranks.
+unfoldable pub stepAt : View → Bool → ℕ → Float
+unfolding localStep
+stepAt w aware m = cond (aware && eqb (w .byIdx m) m) (localStep w m) zero
+
+-- "Scale is the cell size, or with the step flag the local step where it is finite and positive": the scale of rank k's index, where
+-- `steps` has the steps of the indices at their places
+unfoldable pub scaleAt : (ℕ → ℕ) → (ℕ → Float) → Float → ℕ → Float
+unfolding lt
+scaleAt byIdx steps cell k = let s = steps (byIdx k) in cond (lt zero s) s cell
+
+-- neither the lines nor the indices count for the local step
+pub step-of : (n : ℕ) (near row column byIdx : List ℕ) (xs ys : List Float) (aware : Bool) (m : ℕ) → stepAt (viewAt n near row column byIdx xs ys) aware m ≡ cond (aware && eqb (getD byIdx m 0) m) (localStep (viewAt n near [] [] [] xs ys) m) zero
+unfolding stepAt
+step-of n near row column byIdx xs ys aware m = refl

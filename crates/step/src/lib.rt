@@ -1,0 +1,245 @@
+// The local step of each index, its scale, and the steps that lie too far from their median.
+ghost use mathlib.Core.Path.{_≡_};
+ghost use mathlib.Core.Bool.{_&&_};
+ghost use mathlib.Core.List.{[]};
+ghost use Prim.Native.Nat.{ℕ, _≤_, _<_};
+ghost use lib.ListN.{getD};
+ghost use lib.Ieee.{nan, lt};
+ghost use lib.Ieee.Scale.{finite};
+ghost use Rattle.float.specs.Constants.{zero};
+ghost use Rattle.folds.specs.Below.{tally};
+ghost use Rattle.folds.specs.Column.{column};
+ghost use Rattle.folds.specs.Marked.{bit};
+ghost use Rattle.view.specs.View.{maxPoints, viewAt};
+ghost use Rattle.step.specs.Step.{between, axisStep, meanStep, keptStep, localStep, stepAt, scaleAt};
+ghost use Rattle.step.specs.Deviation.{isOutside, deviates};
+use view::MAX_POINTS;
+use view::NEAR_SIZE;
+use view::rank_at;
+use view::wide;
+
+// A step, or none.
+pub enum Step {
+    Of(f32),
+    Absent,
+}
+
+// The distance from rank p to rank q.
+fn between(x: &[f32; MAX_POINTS], y: &[f32; MAX_POINTS], p: usize, q: usize) -> f32
+    requires { ⌜ (p < maxPoints) × (q < maxPoints) ⌝ }
+    ensures { λ r. ⌜ r ≡ between (λ (k : ℕ). getD (now (x .entry)) k nan) (λ (k : ℕ). getD (now (y .entry)) k nan) p q ⌝ }
+{
+    float::norm(x[q] - x[p], y[q] - y[p])
+}
+
+// The step of rank m along the axis with the neighbours at the two offsets.
+fn axis_step(
+    near: &[u16; NEAR_SIZE],
+    x: &[f32; MAX_POINTS],
+    y: &[f32; MAX_POINTS],
+    n: usize,
+    m: usize,
+    before: usize,
+    after: usize,
+) -> Step
+    requires { ⌜ (n ≤ maxPoints) × (m < maxPoints) × (before < 25) × (after < 25) ⌝ }
+    ensures { λ r. ⌜ r ≡ axisStep (viewAt n (now (near .entry)) [] [] [] (now (x .entry)) (now (y .entry))) before after m ⌝ }
+{
+    let l = rank_at(near, m, before);
+    let r = rank_at(near, m, after);
+    if l < n {
+        if r < n {
+            return Step::Of(between(x, y, l, r) * 0.5);
+        }
+        return Step::Of(between(x, y, l, m));
+    }
+    if r < n {
+        return Step::Of(between(x, y, m, r));
+    }
+    Step::Absent
+}
+
+fn mean_step(a: Step, b: Step) -> Step
+    ensures { λ r. ⌜ r ≡ meanStep a b ⌝ }
+{
+    match a {
+        Step::Of(s) => match b {
+            Step::Of(t) => Step::Of((s + t) * 0.5),
+            Step::Absent => Step::Of(s),
+        },
+        Step::Absent => b,
+    }
+}
+
+// Whether a step counts.
+fn is_positive(s: f32) -> bool
+    ensures { λ r. ⌜ r ≡ lt zero s && finite s ⌝ }
+{
+    if 0.0 < s {
+        return s < f32::from_bits(0x7f80_0000);
+    }
+    false
+}
+
+fn kept_step(a: Step) -> f32
+    ensures { λ r. ⌜ r ≡ keptStep a ⌝ }
+{
+    match a {
+        Step::Of(s) => if is_positive(s) { s } else { 0.0 },
+        Step::Absent => 0.0,
+    }
+}
+
+fn local_step(
+    near: &[u16; NEAR_SIZE],
+    x: &[f32; MAX_POINTS],
+    y: &[f32; MAX_POINTS],
+    n: usize,
+    m: usize,
+) -> f32
+    requires { ⌜ (n ≤ maxPoints) × (m < maxPoints) ⌝ }
+    ensures { λ r. ⌜ r ≡ localStep (viewAt n (now (near .entry)) [] [] [] (now (x .entry)) (now (y .entry))) m ⌝ }
+{
+    let u = axis_step(near, x, y, n, m, 7, 17);
+    let v = axis_step(near, x, y, n, m, 11, 13);
+    kept_step(mean_step(u, v))
+}
+
+// The step at place m, or 0.
+fn step_at(
+    near: &[u16; NEAR_SIZE],
+    by_idx: &[u16; MAX_POINTS],
+    x: &[f32; MAX_POINTS],
+    y: &[f32; MAX_POINTS],
+    n: usize,
+    aware: bool,
+    m: usize,
+) -> f32
+    requires { ⌜ (n ≤ maxPoints) × (m < maxPoints) ⌝ }
+    ensures { λ r. ⌜ r ≡ stepAt (viewAt n (now (near .entry)) [] [] (now («by_idx» .entry)) (now (x .entry)) (now (y .entry))) aware m ⌝ }
+{
+    if aware {
+        if wide(by_idx[m]) == m {
+            return local_step(near, x, y, n, m);
+        }
+    }
+    0.0
+}
+
+// The step of each index, at the last of its ranks; 0 where there is none, and everywhere without the step flag.
+pub fn steps(
+    near: &[u16; NEAR_SIZE],
+    by_idx: &[u16; MAX_POINTS],
+    x: &[f32; MAX_POINTS],
+    y: &[f32; MAX_POINTS],
+    n: usize,
+    aware: bool,
+) -> [f32; MAX_POINTS]
+    requires { ⌜ n ≤ maxPoints ⌝ }
+    ensures { λ r. ⌜ r ≡ column maxPoints nan n (stepAt (viewAt n (now (near .entry)) [] [] (now («by_idx» .entry)) (now (x .entry)) (now (y .entry))) aware) ⌝ }
+{
+    let none: f32 = 0.0 / 0.0;
+    let mut out = [none; MAX_POINTS];
+    let mut m: usize = 0;
+    while m < n {
+        out[m] = step_at(near, by_idx, x, y, n, aware, m);
+        m += 1;
+    }
+    out
+}
+
+// The scale of rank k's index, from the steps of the indices.
+fn scale_at(by_idx: &[u16; MAX_POINTS], steps: &[f32; MAX_POINTS], cell: f32, k: usize) -> f32
+    requires { ⌜ (k < maxPoints) × (getD (now «by_idx») k 0 < maxPoints) ⌝ }
+    ensures { λ r. ⌜ r ≡ scaleAt (λ (j : ℕ). getD (now («by_idx» .entry)) j 0) (λ (m : ℕ). getD (now (steps .entry)) m nan) cell k ⌝ }
+{
+    let s = steps[wide(by_idx[k])];
+    if 0.0 < s { s } else { cell }
+}
+
+// The scale of each rank's index.
+pub fn scales(
+    by_idx: &[u16; MAX_POINTS],
+    steps: &[f32; MAX_POINTS],
+    n: usize,
+    cell: f32,
+) -> [f32; MAX_POINTS]
+    requires { ⌜ (n ≤ maxPoints) × ((k : ℕ) → k < n → getD (now «by_idx») k 0 < maxPoints) ⌝ }
+    ensures { λ r. ⌜ r ≡ column maxPoints nan n (scaleAt (λ (j : ℕ). getD (now («by_idx» .entry)) j 0) (λ (m : ℕ). getD (now (steps .entry)) m nan) cell) ⌝ }
+{
+    let none: f32 = 0.0 / 0.0;
+    let mut out = [none; MAX_POINTS];
+    let mut k: usize = 0;
+    while k < n {
+        out[k] = scale_at(by_idx, steps, cell, k);
+        k += 1;
+    }
+    out
+}
+
+// How many steps there are.
+fn how_many(steps: &[f32; MAX_POINTS], n: usize) -> usize
+    requires { ⌜ n ≤ maxPoints ⌝ }
+    ensures { λ r. ⌜ r ≡ tally (λ (k : ℕ). lt zero (getD (now (steps .entry)) k nan)) n ⌝ }
+{
+    let mut c: usize = 0;
+    let mut i: usize = 0;
+    while i < n {
+        let k = i;
+        i += 1;
+        if 0.0 < steps[k] {
+            c += 1;
+        }
+    }
+    c
+}
+
+fn is_outside(median: f32, t: f32, s: f32) -> bool
+    ensures { λ r. ⌜ r ≡ isOutside median t s ⌝ }
+{
+    let lo = median / (1.0 + t);
+    let hi = median * (1.0 + t);
+    if s < lo {
+        return true;
+    }
+    s > hi
+}
+
+// 1 for a step outside the limits, else 0.
+fn outside(median: f32, t: f32, s: f32) -> u8
+    ensures { λ r. ⌜ r ≡ bit (lt zero s && isOutside median t s) ⌝ }
+{
+    if 0.0 < s {
+        if is_outside(median, t, s) {
+            return 1;
+        }
+    }
+    0
+}
+
+// 1 for each step outside the limits, else 0.
+fn mark_outside(steps: &[f32; MAX_POINTS], n: usize, median: f32, t: f32) -> [u8; MAX_POINTS]
+    requires { ⌜ n ≤ maxPoints ⌝ }
+    ensures { λ r. ⌜ r ≡ column maxPoints 0 n (λ (m : ℕ). bit (lt zero (getD (now (steps .entry)) m nan) && isOutside median t (getD (now (steps .entry)) m nan))) ⌝ }
+{
+    let mut out = [0u8; MAX_POINTS];
+    let mut m: usize = 0;
+    while m < n {
+        out[m] = outside(median, t, steps[m]);
+        m += 1;
+    }
+    out
+}
+
+// 1 for each index whose step lies too far from the median of all steps, at its place, else 0. A threshold of 0 or less marks none.
+pub fn deviations(steps: &[f32; MAX_POINTS], n: usize, t: f32) -> [u8; MAX_POINTS]
+    requires { ⌜ n ≤ maxPoints ⌝ }
+    ensures { λ r. ⌜ r ≡ column maxPoints 0 n (λ (m : ℕ). bit (deviates (λ (k : ℕ). getD (now (steps .entry)) k nan) n t m)) ⌝ }
+{
+    if 0.0 < t {
+        if how_many(steps, n) >= 3 {
+            return mark_outside(steps, n, median::middle(steps, n), t);
+        }
+    }
+    [0u8; MAX_POINTS]
+}
