@@ -1,7 +1,6 @@
 -- `sheet_file_vectors::main` is safe and ends. Assumes nothing.
 use lib.ListN.{length}
 use mathlib.Core.Path.{_≡_}
-use Prim.Native.Nat.{_-_}
 use borrow.Author.Needs.{needs}
 use Rattle.sheet_file_vectors.proofs.main.Statement.{statement}
 use Rattle.sheet_file_vectors.proofs.main.Tie as tie
