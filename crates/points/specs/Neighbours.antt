@@ -1,21 +1,19 @@
 -- In a list in the order of a key, two elements with one key clash somewhere just where two neighbours do. Assumes nothing.
-use mathlib.Core.Path.{_≡_, refl, sym, ap, _∙_}
+use mathlib.Core.Path.{_≡_, refl, sym, _∙_}
 use mathlib.Core.Bool.{Bool, true, false, not, _&&_, true≢false}
-use mathlib.Core.List.{List}
 use Prim.{Dec, yes, no}
-use Prim.Native.Nat.{ℕ, zero, suc, _+_, _-_, _*_, _/_, _%_, _≤_, _<_}
+use Prim.Native.Nat.{ℕ, zero, suc, _+_, _-_, _≤_, _<_}
 use native.Mathlib.Decide.{ℕ-discrete}
 use native.Mathlib.Nat.{eq-or-lt-of-le}
 use native.Mathlib.Omega.{arith}
 use mathlib.Core.Logic.{_⊎_, inl, inr}
 use lib.Dec.{eqb, ltb}
-use lib.ListN.{getD}
 use borrow.Author.Tests.{eq-eqb, ne-eqb}
 use Rattle.folds.specs.Among.{pairIn, pair-yes, pair-no, pair-order}
-use Rattle.folds.specs.Below.{some, some-at, some-fails, not-true}
+use Rattle.folds.specs.Below.{some, some-at, some-fails}
 use Rattle.folds.specs.Lists.{listOf}
-use Rattle.sort.specs.Sorted.{sort, sort-perm}
-use Rattle.sort.specs.Packed.{inOrder, placed, placed-key, placed-rises, things-in-order}
+use Rattle.sort.specs.Sorted.{sort-perm}
+use Rattle.sort.specs.Packed.{placed, placed-key, placed-rises, things-in-order}
 
 pub eqb-swap : (a b : ℕ) → eqb a b ≡ eqb b a
 eqb-swap a b = go (ℕ-discrete a b)

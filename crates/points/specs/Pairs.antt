@@ -1,25 +1,22 @@
 -- The conditions of numbers 8 and 9 on the rows in the order of the cells, and of the indices. Assumes nothing.
-use mathlib.Core.Path.{_≡_, refl, sym, ap, _∙_}
-use mathlib.Core.Bool.{Bool, true, false, not, cond, _&&_, _||_, true≢false, false≢true}
+use mathlib.Core.Path.{_≡_, refl, sym, _∙_}
+use mathlib.Core.Bool.{Bool, true, false, not, _&&_, _||_, true≢false}
 use mathlib.Core.List.{List}
-use Prim.{Dec, yes, no}
-use Prim.Native.Nat.{ℕ, _+_, _-_, _*_, _/_, _%_, _^_, _≤_, _<_}
-use native.Mathlib.Decide.{ℕ-discrete}
+use Prim.Native.Nat.{ℕ, _+_, _-_, _*_, _^_, _≤_, _<_}
 use native.Mathlib.Omega.{arith}
 use lib.Dec.{eqb, leb}
 use lib.ListN.{getD}
-use borrow.Author.Tests.{eqb-true, eq-eqb, ne-eqb, leb-true}
+use borrow.Author.Tests.{eqb-true, eq-eqb, leb-true}
 use Rattle.folds.specs.Among.{anyIn, pairIn, any-list, pair-ext}
-use Rattle.folds.specs.Below.{some, some-ext, some-fails, and-left, and-right, and-both, both-ways, and-true}
-use Rattle.folds.specs.Lists.{listOf}
+use Rattle.folds.specs.Below.{some, some-ext, some-fails, and-left, and-right, and-both, both-ways}
 use Rattle.view.specs.View.{maxPoints}
 use Rattle.cells.specs.Points.{Point, biased, keyOf}
-use Rattle.cells.specs.Cell.{signed, within, cellOf, InRange, range-is}
-use Rattle.sheet_file.specs.Bytes.{Bytes, le32, le32-small}
-use Rattle.sort.specs.Packed.{inOrder, placed}
-use Rattle.points.specs.Records.{pointAt, recordOf, pointsIn}
+use Rattle.cells.specs.Cell.{signed, within, InRange, range-is}
+use Rattle.sheet_file.specs.Bytes.{Bytes, le32-small}
+use Rattle.sort.specs.Packed.{placed}
+use Rattle.points.specs.Records.{recordOf, pointsIn}
 use Rattle.points.specs.Refusals.{offRange, sameCell, samePosition, twoPositions, entryOf, together}
-use Rattle.points.specs.Rows.{entriesOf, rowsOf, pointOf, rowsClash, row-at, row-key}
+use Rattle.points.specs.Rows.{entriesOf, rowsOf, rowsClash, row-at, row-key}
 use Rattle.points.specs.Neighbours.{clash, eqb-swap, sorted-neighbours}
 
 -- ---- rows and pairs

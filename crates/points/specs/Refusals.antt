@@ -1,6 +1,6 @@
 -- The conditions of the numbers 6 to 9 on the points of a file, in the order in which it lists them, and the points in cell order.
 -- Assumes nothing.
-use mathlib.Core.Bool.{Bool, true, false, cond, not, _&&_, _||_}
+use mathlib.Core.Bool.{Bool, cond, not, _&&_, _||_}
 use mathlib.Core.List.{List, []}
 use Prim.Native.Nat.{ℕ}
 use lib.Dec.{eqb, ltb}

@@ -1,11 +1,11 @@
 -- The table of the points in cell order: a number, and one column a field. Assumes nothing.
 use mathlib.Core.Path.{_≡_, refl, sym, ap, _∙_}
-use mathlib.Core.Bool.{Bool, true, false, not, _||_, true≢false}
+use mathlib.Core.Bool.{Bool, true, false, _||_, true≢false}
 use mathlib.Core.List.{List, []}
 use Prim.Native.Nat.{ℕ, suc, _+_, _*_, _/_, _%_, _≤_, _<_}
 use native.Mathlib.Omega.{arith}
 use lib.ListN.{length, getD}
-use lib.Ieee.{Float, nan}
+use lib.Ieee.{nan}
 use borrow.Author.Tests.{ne-eqb}
 use Rattle.folds.specs.Among.{anyIn, pairIn}
 use Rattle.folds.specs.Arith.{f32}

@@ -1,6 +1,6 @@
 -- What is read of a file before its points depends on its length and on the bytes before the points alone. Assumes nothing.
 use mathlib.Core.Path.{_≡_, refl, sym, ap, _∙_}
-use mathlib.Core.Bool.{Bool, true, false, cond, _&&_, _||_, true≢false, false≢true}
+use mathlib.Core.Bool.{Bool, true, false, cond, _&&_, _||_, false≢true}
 use mathlib.Core.List.{List, [], _∷_}
 use Prim.Native.Nat.{ℕ, _+_, _-_, _≤_, _<_}
 use native.Mathlib.Omega.{arith}
@@ -8,15 +8,13 @@ use lib.Ieee.{Float}
 use lib.ListN.{length, getD}
 use Rattle.folds.specs.Among.{anyIn}
 use Rattle.folds.specs.Below.{and-under}
-use Rattle.sheet_file.specs.Bytes.{byteAt, le16, le32}
+use Rattle.sheet_file.specs.Bytes.{le16, le32}
 use Rattle.sheet_file.specs.Limit.{outside}
 use Rattle.sheet_file.specs.Frame.{fieldAt, pointsFrom, gateFrom, framingOf, gateStart, GateAt, gate-there, gate-absent, Fields, full-settings, short-settings, fields-of, points-in}
 use Rattle.sheet_file.specs.Refusals.{floatAt, defaultsFor, settingsIn, gateIn, edgeShapeOf, settingsOf, badFlag, settingsFloats, gateFloats, badFloat}
 use Rattle.sheet_file.specs.declared.Layout.{Layout}
-use Rattle.sheet_file.specs.declared.Settings.{Settings}
 use Rattle.sheet_file.specs.declared.EdgeGate.{EdgeGate}
 use Rattle.sheet_file.specs.declared.EdgeGate.the-variants.{Off, On}
-use Rattle.sheet_file.specs.declared.Framing.{Framing}
 use Rattle.sheet_file.specs.declared.Framing.the-variants.{Framed, Misframed}
 
 -- t is as long as s, and has its first n bytes

@@ -2,6 +2,7 @@ pub mod Ruling
 pub mod Sheet
 pub mod Parts
 pub mod Header
+pub mod Numbered
 pub mod Standing
 pub mod Order
 pub mod Offset

@@ -2,36 +2,34 @@
 -- length stay": an accepted file, its cells staying in range, is accepted with the same settings, and its points in cell order are the
 -- old ones moved. Assumes nothing.
 use mathlib.Core.Path.{_≡_, refl, sym, ap, _∙_}
-use mathlib.Core.Bool.{Bool, true, false, cond, not, _&&_, _||_}
-use mathlib.Core.List.{List, [], _∷_, map}
+use mathlib.Core.Bool.{Bool, false}
+use mathlib.Core.List.{List, map}
 use Prim.{Dec, yes, no}
 use Prim.Native.Nat.{ℕ, _+_, _*_, _≤_, _<_}
 use native.Mathlib.Decide.{decLt}
 use native.Mathlib.Omega.{arith}
-use lib.Dec.{eqb, ltb}
+use lib.Dec.{ltb}
 use lib.IntN.{ℤ}
 use lib.ListN.{length, getD, length-map, List·getD-map}
 use borrow.Author.Tests.{lt-ltb, le-ltb}
-use Rattle.folds.specs.Among.{anyIn, pairIn, any-list, pair-ext}
-use Rattle.folds.specs.Below.{some, some-ext}
-use Rattle.folds.specs.Lists.{All, listOf, length-list, list-at, is-list, getD-any}
+use Rattle.folds.specs.Among.{anyIn, pairIn}
+use Rattle.folds.specs.Lists.{All, getD-any}
 use Rattle.cells.specs.Points.{Point, nowhere, keyOf}
-use Rattle.cells.specs.Cell.{Cell, cellOf, moved, keyUp, keyDown, key-moved}
-use Rattle.sort.specs.Sorted.{sort, sort-length, sort-all, at-all, all-at, Agree, sort-map}
+use Rattle.cells.specs.Cell.{cellOf, moved, keyUp, keyDown, key-moved}
+use Rattle.sort.specs.Sorted.{sort, sort-all, all-at}
 use Rattle.grid.specs.Moved.{Moved}
 use Rattle.grid.specs.Standing.{same-test}
 use Rattle.sheet_file.specs.Bytes.{Bytes, le32}
-use Rattle.sheet_file.specs.Frame.{framingOf, layoutOf}
-use Rattle.sheet_file.specs.Refusals.{settingsOf, tooMany, tooShort, badFlag, badFloat}
-use Rattle.sheet_file.specs.declared.Framing.the-variants.{Framed}
+use Rattle.sheet_file.specs.Frame.{layoutOf}
 use Rattle.sheet_file.specs.declared.Layout.{Layout}
 use Rattle.sheet_file.specs.declared.Settings.{Settings}
 use Rattle.points.specs.Records.{recordOf, pointsIn}
 use Rattle.points.specs.Refusals.{offRange, offLimit, sameCell, twoPositions, cellOrder, ahead, entryOf, together}
 use Rattle.points.specs.Neighbours.{clash}
 use Rattle.points.specs.Pairs.{same-cells, all-ranged}
-use Rattle.ruling.specs.Ruling.{Ruling, refused, accepted, rulingOf, applies, none-applies}
+use Rattle.ruling.specs.Ruling.{accepted, rulingOf, applies, none-applies}
 use Rattle.ruling.specs.Header.{Headed, frame-same, flags-same, floats-same, settings-same}
+use Rattle.ruling.specs.Numbered.{numbers, below, any-same, pair-same, sorted-by-number}
 use Rattle.ruling.specs.Standing.{taken}
 
 -- t is s with a added to every u and b to every v, and nothing else changed
@@ -39,48 +37,6 @@ pub record Offset (s t : List ℕ) (f : Layout) (a b : ℤ) : Type 0 where
   pub head : Headed s t (f .points)
   pub cell : (i : ℕ) → i < f .count → cellOf (recordOf t (f .points) i) ≡ moved a b (cellOf (recordOf s (f .points) i))
   pub rest : (i j : ℕ) → i < f .count → 8 ≤ j → j < 20 → getD t (f .points + 20 * i + j) 0 ≡ getD s (f .points + 20 * i + j) 0
-
--- ---- tests and orders by number
-
-module _ {A B : Type 0} (g : A → B) where
-  any-map : (t : B → Bool) (l : List A) → anyIn t (map g l) ≡ anyIn (λ (i : A). t (g i)) l
-  any-map t [] = refl
-  any-map t (i ∷ l) = rw (any-map t l)
-
-  pair-map : (t : B → B → Bool) (l : List A) → pairIn t (map g l) ≡ pairIn (λ (i j : A). t (g i) (g j)) l
-  pair-map t [] = refl
-  pair-map t (i ∷ l) = rw (any-map (t (g i)) l, pair-map t l)
-
-  all-map : {P Q : A → Type 0} → ((i : A) → P i → Q i) → (l : List A) → All P l → All Q l
-  all-map f [] h = tt
-  all-map f (i ∷ l) h = (f i (h .0), all-map f l (h .1))
-
-  agree-all : (first : A → A → Bool) (second : B → B → Bool) {P : A → Type 0} → ((i j : A) → P i → P j → first j i ≡ second (g j) (g i)) → (l : List A) → All P l → Agree g first second l
-  agree-all first second f [] h = tt
-  agree-all first second f (i ∷ l) h = (all-map (λ j p. f i j (h .0) p) l (h .1), agree-all first second f l (h .1))
-
-numbers : ℕ → List ℕ
-numbers n = listOf n (λ (i : ℕ). i)
-
-by-number : {B : Type 0} (g : ℕ → B) (n : ℕ) → map g (numbers n) ≡ listOf n g
-unfolding numbers
-by-number g n =
-    is-list (g 0) n g (map g (listOf n (λ (i : ℕ). i))) (length-map (listOf n (λ (i : ℕ). i)) g ∙ length-list n (λ (i : ℕ). i))
-    (λ k h. List·getD-map g (listOf n (λ (i : ℕ). i)) k 0 ∙ ap g (list-at n (λ (i : ℕ). i) k 0 h))
-
-below : (n : ℕ) → All (λ (i : ℕ). i < n) (numbers n)
-unfolding numbers
-below n = at-all (λ (i : ℕ). i < n) 0 (listOf n (λ (i : ℕ). i)) (λ k h. let l : k < n = omega (arith, length-list n (λ (i : ℕ). i)) in rw (list-at n (λ (i : ℕ). i) k 0 l) l)
-
-any-same : {B : Type 0} (t : B → Bool) (f g : ℕ → B) (n : ℕ) → ((i : ℕ) → i < n → t (f i) ≡ t (g i)) → anyIn t (listOf n f) ≡ anyIn t (listOf n g)
-any-same t f g n h = any-list f n t ∙ some-ext (λ (i : ℕ). t (f i)) (λ (i : ℕ). t (g i)) n h ∙ sym (any-list g n t)
-
-pair-same : {B : Type 0} (t : B → B → Bool) (f g : ℕ → B) (n : ℕ) → ((i j : ℕ) → i < n → j < n → t (f i) (f j) ≡ t (g i) (g j)) → pairIn t (listOf n f) ≡ pairIn t (listOf n g)
-unfolding numbers
-pair-same t f g n h =
-    ap (pairIn t) (sym (by-number f n)) ∙ pair-map f t (numbers n)
-    ∙ pair-ext (λ (i : ℕ). i) n (λ (i j : ℕ). t (f i) (f j)) (λ (i j : ℕ). t (g i) (g j)) (λ i j ij jn. h i j (omega arith) jn)
-    ∙ sym (pair-map g t (numbers n)) ∙ ap (pairIn t) (by-number g n)
 
 -- ---- the points of the two files
 
@@ -146,14 +102,11 @@ module _ (s t : List ℕ) (f : Layout) (a b : ℤ) (o : Offset s t f a b) (bs : 
 
   old-order : cellOrder (pointsIn s (f .points) (f .count)) ≡ map old places
   unfolding pointsIn places
-  old-order = ap cellOrder (sym (by-number old (f .count))) ∙ sort-map old first ahead (numbers (f .count)) (agree-all old first ahead (λ i j h l. refl) (numbers (f .count)) (below (f .count)))
+  old-order = sorted-by-number old (f .count) first ahead (λ i j h l. refl)
 
   new-order : cellOrder (pointsIn t (f .points) (f .count)) ≡ map new places
   unfolding pointsIn places
-  new-order =
-      ap cellOrder (sym (by-number new (f .count)))
-      ∙ sort-map new first ahead (numbers (f .count))
-      (agree-all new first ahead (λ i j h l. less-moved (keyOf (old j)) (keyOf (old i)) (keyOf (new j)) (keyOf (new i)) (keyUp a b) (keyDown a b) (key-is-moved j l) (key-is-moved i h)) (numbers (f .count)) (below (f .count)))
+  new-order = sorted-by-number new (f .count) first ahead (λ i j h l. less-moved (keyOf (old j)) (keyOf (old i)) (keyOf (new j)) (keyOf (new i)) (keyUp a b) (keyDown a b) (key-is-moved j l) (key-is-moved i h))
 
   places-below : All (λ (i : ℕ). i < f .count) places
   unfolding places

@@ -1,24 +1,23 @@
 -- "Another order is any rearrangement of the points in tag 3, all else and the result buffer's length unchanged": it leaves the ruling the
 -- same. Assumes nothing.
-use mathlib.Core.Path.{_≡_, refl, sym, ap, _∙_}
-use mathlib.Core.Bool.{Bool, true, false, cond, not, _&&_}
-use mathlib.Core.List.{List, [], _∷_, map, List·Permᴰ, List·Permᴰ·nil, List·Permᴰ·cons, List·Permᴰ·swap, List·Permᴰ·trans}
+use mathlib.Core.Path.{_≡_, refl, ap, _∙_}
+use mathlib.Core.Bool.{Bool, true, false, cond}
+use mathlib.Core.List.{List, [], map, List·Permᴰ, List·Permᴰ·nil, List·Permᴰ·cons, List·Permᴰ·swap, List·Permᴰ·trans}
 use Prim.Native.Nat.{ℕ, _+_, _*_, _≤_, _<_}
 use native.Mathlib.Omega.{arith}
-use lib.Dec.{eqb}
-use lib.ListN.{length, getD, take, drop, length-map, List·getD-map}
+use lib.ListN.{getD, take, drop, length-map, List·getD-map}
 use lib.Seq.{getD-take, getD-drop}
 use Rattle.folds.specs.Among.{anyIn, pairIn, any-order, pair-order}
 use Rattle.folds.specs.Lists.{listOf, length-list, list-at, is-list}
-use Rattle.cells.specs.Points.{Point, nowhere}
-use Rattle.sheet_file.specs.Bytes.{Bytes, byteAt, le32}
+use Rattle.cells.specs.Points.{Point}
+use Rattle.sheet_file.specs.Bytes.{Bytes, le32}
 use Rattle.sheet_file.specs.Frame.{framingOf}
 use Rattle.sheet_file.specs.Refusals.{settingsOf, tooMany, tooShort, badFlag, badFloat}
 use Rattle.sheet_file.specs.declared.Framing.the-variants.{Framed}
 use Rattle.sheet_file.specs.declared.Layout.{Layout}
 use Rattle.sheet_file.specs.declared.Settings.{Settings}
 use Rattle.points.specs.Records.{pointAt, recordOf, pointsIn}
-use Rattle.points.specs.Refusals.{offRange, offLimit, sameCell, samePosition, twoPositions, cellOrder}
+use Rattle.points.specs.Refusals.{offRange, offLimit, sameCell, twoPositions, cellOrder}
 use Rattle.points.specs.Neighbours.{eqb-swap}
 use Rattle.ruling.specs.Ruling.{Ruling, refused, accepted, rulingOf}
 use Rattle.ruling.specs.Header.{Headed, frame-same, flags-same, floats-same, settings-same}

@@ -1,11 +1,10 @@
 -- The ruling in two parts, as the code makes it: the header of a file, and then its points. Assumes nothing.
-use mathlib.Core.Path.{_≡_, refl, sym, ap, _∙_}
-use mathlib.Core.Bool.{Bool, true, false, cond, true≢false}
-use mathlib.Core.List.{List, []}
-use Prim.Native.Nat.{ℕ, _≤_, _<_, _+_, _*_}
+use mathlib.Core.Path.{_≡_, refl, ap}
+use mathlib.Core.Bool.{Bool, true, false, cond}
+use mathlib.Core.List.{List}
+use Prim.Native.Nat.{ℕ}
 use native.Mathlib.Omega.{arith}
-use lib.Dec.{eqb, ltb}
-use lib.ListN.{length}
+use lib.Dec.{eqb}
 use borrow.Author.Tests.{ltb-false}
 use Rattle.folds.specs.Among.{anyIn, pairIn}
 use Rattle.view.specs.View.{maxPoints}

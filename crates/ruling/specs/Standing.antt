@@ -1,37 +1,37 @@
 -- The points of an accepted file stand in cell order: all in range, no two in one cell. Assumes nothing.
 use mathlib.Core.Path.{_≡_, refl, sym, ap, _∙_}
-use mathlib.Core.Bool.{Bool, true, false, cond, _&&_, true≢false}
+use mathlib.Core.Bool.{true, false, true≢false}
 use mathlib.Core.List.{List, List·Permᴰ}
 use mathlib.Core.Logic.{_⊎_, inl, inr}
 use Prim.{Dec, yes, no}
-use Prim.Native.Nat.{ℕ, _+_, _*_, _/_, _%_, _≤_, _<_}
+use Prim.Native.Nat.{ℕ, _+_, _*_, _≤_, _<_}
 use native.Mathlib.Decide.{decLt}
 use native.Mathlib.Omega.{arith}
-use lib.Dec.{eqb, ltb}
-use lib.ListN.{length, getD}
+use lib.ListN.{getD}
 use borrow.Author.Tests.{eq-eqb, ltb-false}
 use Rattle.folds.specs.Among.{anyIn, pairIn, pair-yes}
-use Rattle.folds.specs.Below.{and-both, not-true}
 use Rattle.folds.specs.Lists.{All, listOf, length-list, list-at}
 use Rattle.view.specs.View.{maxPoints}
 use Rattle.cells.specs.Points.{Point, nowhere, keyOf}
+use Rattle.cells.specs.Cell.{cellOf, before, InRange, key-order}
 use Rattle.sort.specs.Sorted.{sort, at-all, by-key, order-free}
 use Rattle.sort.specs.Packed.{inOrder, placed, placed-is, placed-below, placed-rises}
 use Rattle.grid.specs.InOrder.{CellOrder}
 use Rattle.sheet_file.specs.Bytes.{Bytes}
-use Rattle.sheet_file.specs.Frame.{framingOf, layoutOf, layoutIn, framed-held}
-use Rattle.sheet_file.specs.Refusals.{settingsOf, misframing, misframed, tooMany}
+use Rattle.sheet_file.specs.Frame.{framingOf, layoutOf, layoutIn}
+use Rattle.sheet_file.specs.Refusals.{settingsOf, misframing}
 use Rattle.sheet_file.specs.declared.Framing.{Framing}
 use Rattle.sheet_file.specs.declared.Framing.the-variants.{Framed, Misframed}
 use Rattle.sheet_file.specs.declared.Layout.{Layout}
 use Rattle.sheet_file.specs.declared.Settings.{Settings}
-use Rattle.points.specs.Records.{recordOf, pointsIn, Room}
+use Rattle.points.specs.Records.{recordOf, pointsIn}
 use Rattle.points.specs.Refusals.{offRange, sameCell, cellOrder, ahead, entryOf, together}
 use Rattle.points.specs.Neighbours.{clash}
 use Rattle.points.specs.Pairs.{same-cells, all-ranged}
-use Rattle.points.specs.Rows.{entriesOf, rowsOf, pointOf, row-at, row-key, rows-placed}
+use Rattle.points.specs.Rows.{entriesOf, pointOf, row-at}
 use Rattle.points.specs.Table.{points-length, point-at}
-use Rattle.ruling.specs.Ruling.{Ruling, refused, accepted, rulingOf, pointsOf, applies, none-given, none-applies}
+use Rattle.ruling.specs.Numbered.{sorted-by-number}
+use Rattle.ruling.specs.Ruling.{accepted, rulingOf, pointsOf, applies, none-given, none-applies}
 
 order-of : (i j : ℕ) → (i ≡ j) ⊎ ((i < j) ⊎ (j < i))
 order-of i j = go (decLt i j) (decLt j i)
@@ -78,6 +78,15 @@ module _ (s : List ℕ) (at n : ℕ) (h : Apart s at n) where
   -- "Another order is any rearrangement of the points": they have one cell order
   pub one-order : (qs : List Point) → List·Permᴰ (pointsIn s at n) qs → cellOrder (pointsIn s at n) ≡ cellOrder qs
   one-order qs p = order-free ahead Listed (by-key keyOf Listed one-point) p all-listed
+
+  -- "in cell order, by u, then v"
+  pub by-u-then-v : cellOrder (pointsIn s at n) ≡ sort (λ (p q : Point). before (cellOf p) (cellOf q)) (pointsIn s at n)
+  unfolding pointsIn
+  by-u-then-v =
+      let g = recordOf s at in
+      let in-range : (i : ℕ) → i < n → InRange (g i) = λ i l. all-ranged s at n (h .bytes) (h .in-range) i l .cell in
+      sorted-by-number g n (λ (i j : ℕ). ahead (g i) (g j)) ahead (λ i j a b. refl)
+      ∙ sym (sorted-by-number g n (λ (i j : ℕ). ahead (g i) (g j)) (λ (p q : Point). before (cellOf p) (cellOf q)) (λ i j a b. key-order (g j) (g i) (in-range j b) (in-range i a)))
 
   module _ (few : n ≤ maxPoints) where
     abbrev key : ℕ → ℕ

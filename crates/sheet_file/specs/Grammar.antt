@@ -1,19 +1,19 @@
 -- "well framed if the condition of number 1 fails for it": which lists of bytes are the fields of the list, in their order, and that these
 -- are exactly the files that are not refused with 1. Assumes nothing.
 use mathlib.Core.Path.{_≡_, refl, sym, ap, _∙_}
-use mathlib.Core.Bool.{Bool, true, false, cond, _&&_, true≢false, false≢true}
+use mathlib.Core.Bool.{Bool, true, false, _&&_, true≢false}
 use mathlib.Core.Logic.{_⊎_, inl, inr}
 use mathlib.Core.List.{List, [], _∷_, _++_, append-nil, append-assoc}
-use Prim.Native.Nat.{ℕ, zero, suc, _+_, _-_, _*_, _/_, _%_, _≤_, _<_}
+use Prim.Native.Nat.{ℕ, _+_, _-_, _*_, _/_, _%_, _≤_}
 use native.Mathlib.Omega.{arith}
 use native.Mathlib.Numerals.{add-one}
 use lib.Dec.{eqb, leb}
-use lib.ListN.{length, getD, take, drop, length-append, length-drop, take-append-drop}
+use lib.ListN.{length, take, drop, length-append, length-drop, take-append-drop}
 use lib.Seq.{drop-cons, drop-drop, drop-length, getD-append-add, length-take-le}
 use borrow.Author.Tests.{le-leb, eqb-true, eq-eqb, ne-eqb}
 use Rattle.folds.specs.Below.{and-left, and-right, and-false}
 use Rattle.sheet_file.specs.Bytes.{Bytes, byteAt, le16}
-use Rattle.sheet_file.specs.Frame.{fieldAt, pointsFrom, gateFrom, framingOf, layoutOf, field-held, GateAt, gate-there, gate-absent, Fields, full-settings, short-settings, fields-of, points-in}
+use Rattle.sheet_file.specs.Frame.{fieldAt, pointsFrom, gateFrom, framingOf, field-held, GateAt, gate-there, gate-absent, Fields, full-settings, short-settings, fields-of, points-in}
 use Rattle.sheet_file.specs.Refusals.{misframing, misframed}
 use Rattle.sheet_file.specs.declared.Layout.{Layout}
 use Rattle.sheet_file.specs.declared.Framing.{Framing}

@@ -1,7 +1,7 @@
 -- "not finite or exceeds 16,384 in magnitude", on the value of a float, and the test on its pattern that the code makes instead. That
 -- the two agree is `Value.outside-pattern`. Assumes nothing.
 use Prim.Native.Nat.{ℕ, _*_, _%_}
-use mathlib.Core.Bool.{Bool, true, not}
+use mathlib.Core.Bool.{Bool, true}
 use lib.Dec.{leb, ltb}
 use lib.Ieee.{Float, nan, inf, fin, up, down}
 

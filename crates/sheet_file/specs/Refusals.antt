@@ -18,7 +18,6 @@ use Rattle.sheet_file.specs.declared.EdgeShapeParams.{EdgeShapeParams}
 use Rattle.sheet_file.specs.declared.EdgeGate.{EdgeGate}
 use Rattle.sheet_file.specs.declared.EdgeGate.the-variants.{Off, On}
 use Rattle.sheet_file.specs.declared.Settings.{Settings}
-use Rattle.sheet_file.specs.declared.Header.{Header}
 use Rattle.sheet_file.specs.declared.Reading.{Reading}
 use Rattle.sheet_file.specs.declared.Reading.the-variants.{Refused, Accepted}
 

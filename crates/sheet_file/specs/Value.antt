@@ -1,22 +1,21 @@
 -- The float of a pattern is not finite or exceeds 16,384 in magnitude just where the pattern, without its sign, is above that of 16,384.
 -- Assumes nothing.
-use mathlib.Core.Path.{_≡_, refl, sym, ap, _∙_}
+use mathlib.Core.Path.{_≡_, refl, sym, _∙_}
 use mathlib.Core.Bool.{Bool, true, false, cond, not, true≢false}
-use Prim.Native.Nat.{ℕ, zero, suc, _+_, _-_, _*_, _/_, _%_, _^_, _≤_, _<_}
+use Prim.Native.Nat.{ℕ, zero, suc, _+_, _*_, _/_, _%_, _^_, _≤_, _<_}
 use native.Mathlib.Omega.{arith}
 use native.Mathlib.Nat.{mul-le-mul-right, le-of-mul-le-mul-right, mul-right-comm, le-trans, le-of-lt, lt-of-lt-of-le, not-le-of-lt}
 use native.Mathlib.Decide.{decLt}
 use Prim.{Dec, yes, no}
-use lib.Dec.{T, leb, ltb, eqb, leb→le}
+use lib.Dec.{T, leb, eqb, leb→le}
 use lib.Arith.{le→nltb}
-use borrow.Author.Tests.{eqb-true, ltb-true, ltb-false, le-ltb, leb-true, leb-false}
+use borrow.Author.Tests.{eqb-true, ltb-false, le-ltb, leb-true, leb-false}
 use lib.Pow.{pow-pos, pow-mono, shl-lt, pow-add}
 use lib.Ieee.{Float, nan, inf, fin, binary32, up, down, odd, ofFields, ofBits, nanBits}
 use lib.Ieee.Bits.{nanBits-above}
 use lib.Ieee.Digits.{Equals, odd-val}
 use lib.Ieee.Fits.{down-pos}
 use Rattle.folds.specs.Arith.{f32}
-use Rattle.folds.specs.Below.{not-true}
 use Rattle.sheet_file.specs.Limit.{outside, bounded}
 
 -- finite, and at most 16,384 in magnitude

@@ -1,10 +1,9 @@
 // The sheet file: its fields, the refusals 1 to 5 and the settings. Any bytes are read.
 use view::MAX_POINTS;
 ghost use mathlib.Core.Path.{_≡_};
-ghost use mathlib.Core.Bool.{true, false, cond};
+ghost use mathlib.Core.Bool.{true, false};
 ghost use Prim.Native.Nat.{_+_, _≤_, _<_};
 ghost use lib.ListN.{length};
-ghost use lib.Ieee.{ofBits, binary32};
 ghost use Rattle.folds.specs.Among.{anyIn};
 ghost use Rattle.sheet_file.specs.Bytes.{le16, le32};
 ghost use Rattle.sheet_file.specs.Limit.{bounded, outside};

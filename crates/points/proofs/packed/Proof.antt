@@ -3,7 +3,7 @@ use Rattle.points.specs.Rows.{entriesOf, packedOf}
 use Rattle.sort.specs.Packed.{packed}
 use Rattle.folds.specs.Column.{Filling, fill-start, fill-more, filled}
 use native.Mathlib.Omega.{arith}
-use lib.ListN.{length, length-replicate}
+use lib.ListN.{length-replicate}
 use Prim.Native.Nat.{_-_, _≤_}
 use mathlib.Core.Path.{_≡_}
 use borrow.Author.Needs.{needs}

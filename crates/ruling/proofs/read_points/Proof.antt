@@ -1,7 +1,7 @@
 -- `ruling::read_points` meets its contract: by the number of the table. Assumes nothing.
 use Rattle.ruling.specs.Parts.{rulingFor}
 use Rattle.ruling.specs.Sheet.{Ruled}
-use Rattle.ruling.specs.Ruling.{refused, accepted}
+use Rattle.ruling.specs.Ruling.{refused}
 use Rattle.sheet_file.specs.declared.Settings.{Settings}
 use Rattle.points.specs.declared.Table.{Table}
 use Rattle.points.specs.Table.{Tabled, points-length}

@@ -1,5 +1,4 @@
 -- `sheet_file::edge_shape_of` meets its contract: with tag 2 or without it. Assumes nothing.
-use mathlib.Core.Path.{ap}
 use Rattle.sheet_file.proofs.Laws.{gate-inside}
 use Rattle.sheet_file.specs.Refusals.{edgeShapeOf}
 use borrow.Author.Needs.{needs}

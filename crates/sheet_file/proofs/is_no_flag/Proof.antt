@@ -1,8 +1,7 @@
 -- `sheet_file::is_no_flag` meets its contract: neither 0 nor 1 is above 1. Assumes nothing.
 use borrow.Author.Tests.{lt-ltb, ne-eqb}
 use native.Mathlib.Omega.{arith}
-use Prim.{no}
-use lib.Dec.{ltb, eqb}
+use lib.Dec.{ltb}
 use mathlib.Core.Path.{_≡_, refl}
 use Prim.Native.Nat.{ℕ, zero, suc}
 use Rattle.sheet_file.specs.Refusals.{noFlag}
