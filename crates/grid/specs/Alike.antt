@@ -14,7 +14,7 @@ use Rattle.cells.specs.Points.{Point, nowhere}
 use Rattle.cells.specs.Cell.{cellOf, one-u, one-v, u-part, v-part}
 use Rattle.grid.specs.Tables.{rowAt, columnAt, byIdxAt, at}
 use Rattle.grid.specs.Views.{viewOf, keyList, indexList, key-read, index-read, row-read, column-read, byIdx-read}
-use Rattle.grid.specs.InOrder.{InCellOrder}
+use Rattle.grid.specs.InOrder.{CellOrder}
 
 module _ (f : ℕ → ℕ) (n : ℕ) where
   -- the first with k's value, and the last
@@ -56,7 +56,7 @@ module _ (ps : List Point) where
   unfolding byIdxAt
   index-same j k a b e = byIdx-read ps j a ∙ last-same (at (indexList (length ps) ps)) (length ps) j k (index-read (length ps) ps j a ∙ e ∙ sym (index-read (length ps) ps k b)) ∙ sym (byIdx-read ps k b)
 
-  module _ (o : InCellOrder ps) where
+  module _ (o : CellOrder ps) where
     -- one row
     pub one-row : (j k : ℕ) → j < length ps → k < length ps → viewOf ps .row j ≡ viewOf ps .row k → cellOf (getD ps j nowhere) .v ≡ cellOf (getD ps k nowhere) .v
     unfolding rowAt

@@ -18,14 +18,14 @@ use Rattle.grid.specs.Standing.{Rising, standing-true, standing-hit, nea
 use Rattle.grid.specs.Views.{viewOf, keyList, key-read, near-read}
 
 -- the points of an accepted sheet, "in cell order, by u, then v": all in range, and no two in one cell
-pub record InCellOrder (ps : List Point) : Type 0 where
+pub record CellOrder (ps : List Point) : Type 0 where
   pub few : length ps ≤ maxPoints
   pub inside : (k : ℕ) → k < length ps → InRange (getD ps k nowhere)
   pub rising : (i j : ℕ) → i < j → j < length ps → keyOf (getD ps i nowhere) < keyOf (getD ps j nowhere)
 
 -- points in range with no two in one cell, sorted by their keys
 pub in-cell-order : (ps : List Point) → length ps ≤ maxPoints → All InRange ps → ((i j : ℕ) → i < j → j < length ps → keyOf (getD ps i nowhere) ≡ keyOf (getD ps j nowhere) → ⊥)
-    → InCellOrder (sort (λ (p q : Point). ltb (keyOf p) (keyOf q)) ps)
+    → CellOrder (sort (λ (p q : Point). ltb (keyOf p) (keyOf q)) ps)
 in-cell-order ps few inside apart = record {
   few = omega (arith, same);
   inside = λ k h. all-at InRange nowhere (sort byKey ps) (sort-all byKey InRange ps inside) k h;
@@ -52,7 +52,7 @@ in-cell-order ps few inside apart = record {
     strict i j ij h =
         sorted-strict (map keyOf ps) (λ a b ab hb e. let n : b < length ps = omega (arith, hb, length-map ps keyOf) in apart a b ab n (sym (key-at ps a (omega arith)) ∙ e ∙ key-at ps b n)) i j ij (omega (arith, length-map ps keyOf))
 
-module _ (ps : List Point) (o : InCellOrder ps) where
+module _ (ps : List Point) (o : CellOrder ps) where
   -- their keys are as the code asks
   pub keys-ready : Keys (keysOf ps) (length ps)
   unfolding keysOf
