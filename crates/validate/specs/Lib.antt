@@ -1,0 +1,2 @@
+pub mod Validate
+pub mod Ready
