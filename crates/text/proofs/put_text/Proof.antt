@@ -1,13 +1,14 @@
+-- `text::put_text` meets its contract. Assumes nothing.
 use Prim.Native.Nat.{_≤_, _<_, _-_}
 use native.Mathlib.Numerals.{add-one}
 use native.Mathlib.Omega.{arith}
 use lib.ListN.{length, take}
 use lib.Seq.{take-all, take-suc}
-use Rattle.listing.specs.Stored.{Stored}
-use Rattle.listing.proofs.Stores.{stored-then, stored-length}
+use Rattle.text.specs.Stored.{Stored}
+use Rattle.text.proofs.Stores.{stored-then, stored-length}
 use borrow.Author.Needs.{needs}
-use Rattle.listing.proofs.text.put_text.Statement.{statement}
-use Rattle.listing.proofs.text.put_text.Tie as tie
+use Rattle.text.proofs.put_text.Statement.{statement}
+use Rattle.text.proofs.put_text.Tie as tie
 
 abbrev Inv-loop : tie.InvT-loop
 Inv-loop s out₀ at to₀ i₀ out to i = (i ≤ length s) × Stored out₀ at (take i s) out to

@@ -1,6 +1,7 @@
+-- `text::answer` meets its contract. Assumes nothing.
 use borrow.Author.Tests.{le-leb, lt-leb}
-use Rattle.listing.proofs.answer.Statement.{statement}
-use Rattle.listing.proofs.answer.Tie as tie
+use Rattle.text.proofs.answer.Statement.{statement}
+use Rattle.text.proofs.answer.Tie as tie
 
 returns : tie.Need-returns
 returns c = rw (le-leb (c .before .args .next) (c .before .args .size) (c .if1 .taken))

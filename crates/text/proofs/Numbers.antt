@@ -7,11 +7,10 @@ use native.Mathlib.Nat.{pow-suc}
 use native.Mathlib.Omega.{arith}
 use borrow.Author.Tests.{lt-ltb, le-ltb, ltb-true, ltb-false, eqb-true}
 use lib.Dec.{ltb, eqb}
-use lib.IntN.{pos, _-ℤ_}
 use lib.ListN.{length, getD, length-append, List·getD-append}
 use Rattle.folds.specs.Below.{every, every-at}
-use Rattle.folds.specs.Lists.{over, over-snoc}
-use Rattle.listing.specs.Text.{bytes, digit, digits, decimal, whole, hexDigit, hex}
+use Rattle.folds.specs.Lists.{All, over, over-snoc}
+use Rattle.text.specs.Text.{digit, digits, decimal, hexDigit, hex}
 
 -- the two cases of a definition that asks whether n is below m
 pub below-or-not : {A : Type 0} (P : A → Type 0) (n m : ℕ) {a b : A} → (n < m → P a) → (m ≤ n → P b) → P (cond (ltb n m) a b)
@@ -71,6 +70,16 @@ decimal-reads =
     decimal-ind (λ n t. read 10 decimalValue t ≡ n) (λ n h. omega arith)
     (λ n t h e. over-snoc (λ (a c : ℕ). 10 * a + (c - 48)) 0 t (48 + n % 10) ∙ rw e (omega arith))
 
+all-then : (P : ℕ → Type 0) (s t : List ℕ) → All P s → All P t → All P (s ++ t)
+all-then P [] t h g = g
+all-then P (c ∷ s) t h g = (h .0, all-then P s t (h .1) g)
+
+-- a decimal text has digits only
+pub decimal-digits : (n : ℕ) → All (λ (c : ℕ). (48 ≤ c) × (c ≤ 57)) (decimal n)
+decimal-digits =
+    decimal-ind (λ n t. All (λ (c : ℕ). (48 ≤ c) × (c ≤ 57)) t) (λ n h. ((omega arith, omega arith), tt))
+    (λ n t h e. all-then (λ (c : ℕ). (48 ≤ c) × (c ≤ 57)) t (digit (n % 10)) e ((omega arith, omega arith), tt))
+
 -- "without leading zeros": the first digit is 0 for 0 alone
 pub decimal-leads : (n : ℕ) → getD (decimal n) 0 0 ≡ 48 → n ≡ 0
 decimal-leads n =
@@ -85,17 +94,6 @@ decimal-length k n l =
     shorter : (n : ℕ) (t : List ℕ) → 10 ≤ n → ((k : ℕ) → n / 10 < 10 ^ suc k → length t ≤ suc k) → (k : ℕ) → n < 10 ^ suc k → length (t ++ digit (n % 10)) ≤ suc k
     shorter n t h e zero l = absurd (omega arith)
     shorter n t h e (suc k) l = rw (length-append t (digit (n % 10))) (omega (arith, e k (omega (arith, pow-suc 10 (suc k)))))
-
--- ---- cell numbers
-
--- the two cases of a number that is printed as its distance from 8,003
-pub whole-below : (b : ℕ) → b < 8003 → whole (pos b -ℤ pos 8003) ≡ bytes "-" ++ decimal (8003 - b)
-unfolding whole
-whole-below b h = let e : suc (8003 - suc b) ≡ 8003 - b = omega arith in rw (lt-ltb b 8003 h, e)
-
-pub whole-from : (b : ℕ) → 8003 ≤ b → whole (pos b -ℤ pos 8003) ≡ decimal (b - 8003)
-unfolding whole
-whole-from b h = rw (le-ltb b 8003 h)
 
 -- ---- hexadecimal
 

@@ -1,8 +1,9 @@
-use Rattle.listing.proofs.Numbers.{whole-below, whole-from}
-use Rattle.listing.proofs.Stores.{stored-then}
+-- `listing::line::put_cell_number` meets its contract. Assumes nothing.
+use Rattle.listing.proofs.Cells.{whole-below, whole-from}
+use Rattle.text.proofs.Stores.{stored-then}
 use borrow.Author.Needs.{needs}
-use Rattle.listing.proofs.text.put_cell_number.Statement.{statement}
-use Rattle.listing.proofs.text.put_cell_number.Tie as tie
+use Rattle.listing.proofs.line.put_cell_number.Statement.{statement}
+use Rattle.listing.proofs.line.put_cell_number.Tie as tie
 
 returns : tie.Need-returns
 returns c =

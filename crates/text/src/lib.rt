@@ -1,13 +1,31 @@
-// Pieces of text into a buffer from a place on. Each returns the place after its text; what does not fit is left out.
+// Texts into a buffer that the caller lends, piece by piece. Each piece stores its text from a place on and returns the place
+// after it; what does not fit is left out, and the last place tells.
 ghost use mathlib.Core.Path.{_≡_};
-ghost use mathlib.Core.Bool.{cond};
 ghost use mathlib.Core.List.{[], _∷_};
-ghost use Prim.Native.Nat.{_+_, _-_, _<_, _≤_, _^_};
-ghost use lib.IntN.{pos, _-ℤ_};
-ghost use Rattle.listing.specs.Text.{decimal, whole, hexDigit, hex};
-ghost use Rattle.listing.specs.Stored.{Stored};
+ghost use Prim.Native.Nat.{_<_};
+ghost use Rattle.text.specs.Answer.{answerOf};
+ghost use Rattle.text.specs.Text.{decimal, hexDigit, hex};
+ghost use Rattle.text.specs.Stored.{Stored};
 
-pub(crate) fn put_byte(b: u8, out: &mut [u8], at: usize) -> usize
+// What became of a text.
+pub enum Written {
+    // All of it stands at the start of the buffer: so many bytes.
+    Whole(usize),
+    // The buffer is too short, and holds the text's first bytes.
+    NoRoom,
+}
+
+// What to answer where the place after the whole text is `next` and the buffer has `size` bytes.
+pub fn answer(next: usize, size: usize) -> Written
+    ensures { λ r. ⌜ r ≡ answerOf next size ⌝ }
+{
+    if next <= size {
+        return Written::Whole(next);
+    }
+    Written::NoRoom
+}
+
+pub fn put_byte(b: u8, out: &mut [u8], at: usize) -> usize
     ensures { λ r. ⌜ Stored (now (out .entry)) at (b ∷ []) (now (out .exit)) r ⌝ }
 {
     if at < out.len() {
@@ -17,7 +35,7 @@ pub(crate) fn put_byte(b: u8, out: &mut [u8], at: usize) -> usize
     out.len() + 1
 }
 
-pub(crate) fn put_text(s: &[u8], out: &mut [u8], at: usize) -> usize
+pub fn put_text(s: &[u8], out: &mut [u8], at: usize) -> usize
     ensures { λ r. ⌜ Stored (now (out .entry)) at (now (s .entry)) (now (out .exit)) r ⌝ }
 {
     let mut to = at;
@@ -31,7 +49,7 @@ pub(crate) fn put_text(s: &[u8], out: &mut [u8], at: usize) -> usize
 }
 
 // The digits of n / 10 first, then the last digit.
-pub(crate) fn put_decimal(n: usize, out: &mut [u8], at: usize) -> usize
+pub fn put_decimal(n: usize, out: &mut [u8], at: usize) -> usize
     ensures { λ r. ⌜ Stored (now (out .entry)) at (decimal n) (now (out .exit)) r ⌝ }
 {
     if n < 10 {
@@ -39,17 +57,6 @@ pub(crate) fn put_decimal(n: usize, out: &mut [u8], at: usize) -> usize
     }
     let next = put_decimal(n / 10, out, at);
     put_byte(48 + (n % 10) as u8, out, next)
-}
-
-// The cell number b - 8003.
-pub(crate) fn put_cell_number(b: usize, out: &mut [u8], at: usize) -> usize
-    ensures { λ r. ⌜ Stored (now (out .entry)) at (whole (pos b -ℤ pos 8003)) (now (out .exit)) r ⌝ }
-{
-    if b < 8003 {
-        let next = put_byte(b'-', out, at);
-        return put_decimal(8003 - b, out, next);
-    }
-    put_decimal(b - 8003, out, at)
 }
 
 fn hex_digit(d: u8) -> u8
@@ -63,7 +70,7 @@ fn hex_digit(d: u8) -> u8
 }
 
 // The last `count` hexadecimal digits of b.
-pub(crate) fn put_hex(count: usize, b: u32, out: &mut [u8], at: usize) -> usize
+pub fn put_hex(count: usize, b: u32, out: &mut [u8], at: usize) -> usize
     ensures { λ r. ⌜ Stored (now (out .entry)) at (hex count b) (now (out .exit)) r ⌝ }
 {
     if count == 0 {

@@ -4,16 +4,16 @@ use borrow.Author.Needs.{needs}
 use mathlib.Core.Path.{_∙_}
 use Prim.Native.Nat.{ℕ, _<_}
 use native.Mathlib.Omega.{arith}
-use Rattle.listing.proofs.Numbers.{decimal-one, decimal-more}
-use Rattle.listing.proofs.Stores.{stored-then}
+use Rattle.text.proofs.Numbers.{decimal-one, decimal-more}
+use Rattle.text.proofs.Stores.{stored-then}
 use borrow.Fn.Kinds.{In}
 use borrow.Fn.PlainCycle.{Measures, is, falls, and}
-use Rattle.listing.proofs.text.put_decimal.Reads as put-decimal
-use Rattle.listing.proofs.text.put_decimal.Kinds as put-decimal-kinds
-use Rattle.listing.proofs.text.+put_decimal.Lts-put_decimal as put-decimal-lts
-use Rattle.listing.proofs.text.put_byte.Reads as put-byte-reads
-use Rattle.listing.proofs.text.+put_decimal.{statement}
-use Rattle.listing.proofs.text.+put_decimal.Tie.{close}
+use Rattle.text.proofs.put_decimal.Reads as put-decimal
+use Rattle.text.proofs.put_decimal.Kinds as put-decimal-kinds
+use Rattle.text.proofs.+put_decimal.Lts-put_decimal as put-decimal-lts
+use Rattle.text.proofs.put_byte.Reads as put-byte-reads
+use Rattle.text.proofs.+put_decimal.{statement}
+use Rattle.text.proofs.+put_decimal.Tie.{close}
 
 abbrev μ-put-decimal : Measures 1 put-decimal-kinds.ps ℕ
 μ-put-decimal κs a = a .0

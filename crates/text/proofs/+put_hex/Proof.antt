@@ -3,17 +3,17 @@ use borrow.Author.Needs.{needs}
 use mathlib.Core.Path.{_∙_}
 use Prim.Native.Nat.{ℕ, _<_}
 use native.Mathlib.Omega.{arith}
-use Rattle.listing.proofs.Numbers.{hex-none, hex-more}
-use Rattle.listing.proofs.Stores.{stored-none, stored-then}
+use Rattle.text.proofs.Numbers.{hex-none, hex-more}
+use Rattle.text.proofs.Stores.{stored-none, stored-then}
 use borrow.Fn.Kinds.{In}
 use borrow.Fn.PlainCycle.{Measures, is, falls, and}
-use Rattle.listing.proofs.text.put_hex.Reads as put-hex
-use Rattle.listing.proofs.text.put_hex.Kinds as put-hex-kinds
-use Rattle.listing.proofs.text.+put_hex.Lts-put_hex as put-hex-lts
-use Rattle.listing.proofs.text.hex_digit.Reads as hex-digit-reads
-use Rattle.listing.proofs.text.put_byte.Reads as put-byte-reads
-use Rattle.listing.proofs.text.+put_hex.{statement}
-use Rattle.listing.proofs.text.+put_hex.Tie.{close}
+use Rattle.text.proofs.put_hex.Reads as put-hex
+use Rattle.text.proofs.put_hex.Kinds as put-hex-kinds
+use Rattle.text.proofs.+put_hex.Lts-put_hex as put-hex-lts
+use Rattle.text.proofs.hex_digit.Reads as hex-digit-reads
+use Rattle.text.proofs.put_byte.Reads as put-byte-reads
+use Rattle.text.proofs.+put_hex.{statement}
+use Rattle.text.proofs.+put_hex.Tie.{close}
 
 abbrev μ-put-hex : Measures 1 put-hex-kinds.ps ℕ
 μ-put-hex κs a = a .0

@@ -1,10 +1,11 @@
+-- `text::put_byte` meets its contract. Assumes nothing.
 use mathlib.Core.Path.{sym, refl}
 use borrow.Author.Tests.{lt-ltb, le-ltb}
 use lib.ListN.{length}
 use lib.Seq.{set-out}
 use borrow.Author.Needs.{needs}
-use Rattle.listing.proofs.text.put_byte.Statement.{statement}
-use Rattle.listing.proofs.text.put_byte.Tie as tie
+use Rattle.text.proofs.put_byte.Statement.{statement}
+use Rattle.text.proofs.put_byte.Tie as tie
 
 returns : tie.Need-returns
 returns c = record { buffer = refl; place = rw (lt-ltb (c .before .args .at) (length (c .before .args .out .now)) (c .if1 .taken)) }

@@ -1,9 +1,10 @@
+-- `text::hex_digit` meets its contract. Assumes nothing.
 use mathlib.Core.Path.{sym, _∙_}
 use borrow.Author.Tests.{lt-ltb, le-ltb}
-use Rattle.listing.proofs.Numbers.{hex-digit}
+use Rattle.text.proofs.Numbers.{hex-digit}
 use borrow.Author.Needs.{needs}
-use Rattle.listing.proofs.text.hex_digit.Statement.{statement}
-use Rattle.listing.proofs.text.hex_digit.Tie as tie
+use Rattle.text.proofs.hex_digit.Statement.{statement}
+use Rattle.text.proofs.hex_digit.Tie as tie
 
 returns : tie.Need-returns
 returns c = sym (hex-digit _ (c .before .pre) ∙ rw (lt-ltb _ _ (c .if1 .taken)))
