@@ -1,19 +1,18 @@
 -- Cells as document 01 speaks of them, u and v being whole numbers of either sign, and what their keys say of them: range, order,
 -- the cell at an offset, and a move of all cells. Assumes nothing.
 use mathlib.Core.Path.{_≡_, refl, sym, ap, _∙_}
-use mathlib.Core.Bool.{Bool, true, false, not, cond, _&&_, _||_, true≢false}
-use mathlib.Core.Logic.{_⊎_, inl, inr}
+use mathlib.Core.Bool.{Bool, true, false, not, cond, _&&_, _||_}
 use Prim.Native.Nat.{ℕ, suc, _+_, _-_, _*_, _/_, _%_, _^_, _≤_, _<_}
 use Prim.{Dec, yes, no}
 use native.Mathlib.Omega.{arith}
-use native.Mathlib.Decide.{decLt, ℕ-discrete}
+use native.Mathlib.Decide.{decLt}
 use lib.IntN.{ℤ, pos, negsuc, subℕ, _+ℤ_, _-ℤ_}
 use lib.Signed.{ltZ, leZ}
 use lib.Dec.{leb, ltb}
 use borrow.Author.Tests.{ltb-true, ltb-false, leb-true, lt-ltb, le-ltb, le-leb}
 use mir.Syntax.{w32}
 use mir.Val.{toZ, sel}
-use Rattle.folds.specs.Below.{and-left, and-right, and-both, both-ways, not-true}
+use Rattle.folds.specs.Below.{and-left, and-right, and-both, both-ways}
 use Rattle.cells.specs.Points.{Point, biased, keyOf, stepOf, centreStep}
 
 -- the whole number whose two's complement is the 32-bit pattern b

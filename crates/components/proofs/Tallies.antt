@@ -1,20 +1,19 @@
--- Laws of sizes, of the first of the largest, and of marks kept at the places of indices. Assumes nothing.
-use mathlib.Core.Path.{_≡_, refl, ap, _∙_}
-use mathlib.Core.Bool.{Bool, true, false, cond, _&&_}
+-- Laws of sizes and of the first of the largest. Assumes nothing.
+use mathlib.Core.Path.{_≡_, refl, _∙_}
+use mathlib.Core.Bool.{Bool, true, false, cond}
 use mathlib.Core.List.{List}
-use Prim.Native.Nat.{ℕ, zero, suc, _+_, _≤_, _<_}
+use Prim.Native.Nat.{ℕ, zero, suc, _+_, _≤_}
 use native.Mathlib.Numerals.{add-one}
 use native.Mathlib.Omega.{arith}
 use lib.Dec.{eqb, ltb}
-use lib.ListN.{getD, replicate, length-replicate}
-use Rattle.folds.specs.Below.{fold, turn, tally, some-ext}
-use Rattle.folds.specs.Column.{column-ext, replicate-at}
-use Rattle.folds.specs.Marked.{bit}
-use Rattle.folds.specs.Scattered.{Scattered, counts, oneMore, markIt, fold-tally, fold-some}
+use lib.ListN.{replicate}
+use Rattle.folds.specs.Below.{fold, turn, tally}
+use Rattle.folds.specs.Column.{column-ext}
+use Rattle.folds.specs.Scattered.{Scattered, oneMore, fold-tally}
 use Rattle.view.specs.View.{maxPoints}
 use Rattle.patches.proofs.Gathering.{labelled, labels-column}
 use Rattle.patches.specs.Patches.{at}
-use Rattle.components.specs.Components.{sizesOf, largestAt, placeHas}
+use Rattle.components.specs.Components.{sizesOf, largestAt}
 
 pub largest-none : (l : List ℕ) → largestAt l 0 ≡ 0
 unfolding largestAt
@@ -39,20 +38,3 @@ sizes-are labels n a few t =
     labels-column labels oneMore n a few t
     ∙ column-ext maxPoints 0 n (λ (s : ℕ). fold (turn (λ (k : ℕ). eqb (at labels k) s) oneMore) 0 n) (λ (s : ℕ). tally (λ (k : ℕ). eqb (at labels k) s) n)
     (λ s h. omega (arith, fold-tally (λ (k : ℕ). eqb (at labels k) s) 0 n))
-
--- the places of the indices that have a marked cell
-abbrev pub isMarked : List ℕ → ℕ → Bool
-isMarked marks j = eqb (at marks j) 1
-
-pub places-are : (byIdx marks : List ℕ) (n m : ℕ) (a : List ℕ) → m < maxPoints → Scattered 0 (at byIdx) (isMarked marks) markIt (replicate maxPoints 0) n a → getD a m 0 ≡ bit (placeHas n (at byIdx) marks m)
-places-are byIdx marks n m a h t =
-    t .at m (omega (arith, length-replicate {A = ℕ} maxPoints 0))
-    ∙ ap (λ (x : ℕ). fold (turn (counts (at byIdx) (isMarked marks) m) markIt) x n) (replicate-at {A = ℕ} maxPoints 0 m)
-    ∙ fold-some (counts (at byIdx) (isMarked marks) m) false n
-    ∙ ap bit (some-ext (counts (at byIdx) (isMarked marks) m) (λ (j : ℕ). eqb (at marks j) 1 && eqb (at byIdx j) m) n (λ j l. swap (eqb (at byIdx j) m) (eqb (at marks j) 1)))
-  where
-    swap : (x y : Bool) → x && y ≡ y && x
-    swap true true = refl
-    swap true false = refl
-    swap false true = refl
-    swap false false = refl

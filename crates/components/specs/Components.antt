@@ -1,10 +1,10 @@
 -- How many patches there are, how large each is, the winner, the ranks outside it, and the component mark, from the labels of the patches.
 -- Each definition computes. Assumes nothing.
+use mathlib.Core.Path.{_≡_}
 use mathlib.Core.Bool.{Bool, cond, not, _&&_}
 use mathlib.Core.List.{List}
-use Prim.Native.Nat.{ℕ, zero, suc, _<_}
+use Prim.Native.Nat.{ℕ, zero, suc}
 use lib.Dec.{eqb, ltb}
-use lib.ListN.{getD}
 use Rattle.folds.specs.Below.{some, tally}
 use Rattle.folds.specs.Column.{column}
 use Rattle.folds.specs.Marked.{bit}
@@ -66,6 +66,7 @@ componentCount w sides dropped = countOf (w .count) (patchLabels w sides dropped
 abbrev pub componentMark : View → List ℕ → List ℕ → List ℕ
 componentMark w sides dropped = indexMarks (w .count) (w .byIdx) (othersOf (w .count) (patchLabels w sides dropped))
 
--- what a caller sees to: the place of each index is a rank
-pub record Ranks (n : ℕ) (byIdx : List ℕ) : Type 0 where
-  pub rank : (k : ℕ) → k < n → getD byIdx k 0 < n
+-- what the filter hands back
+pub record Filtered (w : View) (sides dropped marks : List ℕ) (seen : ℕ) : Type 0 where
+  pub marked : marks ≡ componentMark w sides dropped
+  pub counted : seen ≡ componentCount w sides dropped

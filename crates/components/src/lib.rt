@@ -1,29 +1,18 @@
 // How many patches there are, which is the largest, and the component mark. See specs/Components.antt.
 ghost use mathlib.Core.Path.{_≡_};
 ghost use mathlib.Core.Bool.{cond, not, _&&_};
-ghost use Prim.Native.Nat.{ℕ, _+_, _≤_, _<_};
+ghost use mathlib.Core.List.{[]};
+ghost use Prim.Native.Nat.{_+_, _≤_, _<_};
 ghost use lib.Dec.{eqb, ltb};
-ghost use lib.ListN.{getD};
 ghost use Rattle.folds.specs.Marked.{bit};
-ghost use Rattle.view.specs.View.{maxPoints};
-ghost use Rattle.patches.specs.Patches.{at, labelsOf};
+ghost use Rattle.view.specs.View.{maxPoints, viewAt};
 ghost use Rattle.patches.specs.Search.{Fit};
-ghost use Rattle.components.specs.Components.{countOf, sizesOf, largestAt, winnerOf, othersBy, othersOf, placeHas, indexMarks, Ranks};
+ghost use Rattle.marks.specs.Arrays.{Ranks};
+ghost use Rattle.components.specs.Components.{countOf, sizesOf, largestAt, winnerOf, othersBy, Filtered};
 use view::MAX_POINTS;
 use view::NEAR_SIZE;
 
 // ---- count, winner and the ranks outside it
-
-// One more than r where v is k.
-fn counted(r: usize, v: usize, k: usize) -> usize
-    requires { ⌜ r < maxPoints ⌝ }
-    ensures { λ x. ⌜ x ≡ cond (eqb v k) (r + 1) r ⌝ }
-{
-    if v == k {
-        return r + 1;
-    }
-    r
-}
 
 // How many patches there are.
 pub fn count(label: &[u16; MAX_POINTS], n: usize) -> usize
@@ -33,7 +22,7 @@ pub fn count(label: &[u16; MAX_POINTS], n: usize) -> usize
     let mut r: usize = 0;
     let mut i: usize = 0;
     while i < n {
-        r = counted(r, view::wide(label[i]), i);
+        r = marks::one_more(view::wide(label[i]) == i, r);
         i += 1;
     }
     r
@@ -115,44 +104,7 @@ pub fn others(label: &[u16; MAX_POINTS], n: usize, w: usize) -> [u8; MAX_POINTS]
     out
 }
 
-// ---- marks of indices
-
-// 1 at the place of each index that has a marked cell.
-fn gathered(by_idx: &[u16; MAX_POINTS], marks: &[u8; MAX_POINTS], n: usize) -> [u8; MAX_POINTS]
-    requires { ⌜ (n ≤ maxPoints) × Ranks n (now «by_idx») ⌝ }
-    ensures { λ r. ⌜ ((m : ℕ) → m < maxPoints → getD r m 0 ≡ bit (placeHas n (at (now («by_idx» .entry))) (now (marks .entry)) m)) ⌝ }
-{
-    let mut hit = [0u8; MAX_POINTS];
-    let mut i: usize = 0;
-    while i < n {
-        let v = view::wide(by_idx[i]);
-        let mark = marks[i];
-        i += 1;
-        if mark == 1 {
-            hit[v] = 1;
-        }
-    }
-    hit
-}
-
-// The marks of cells as marks of indices: an index with a marked cell is marked at each of its cells.
-pub fn index_marks(
-    by_idx: &[u16; MAX_POINTS],
-    marks: &[u8; MAX_POINTS],
-    n: usize,
-) -> [u8; MAX_POINTS]
-    requires { ⌜ (n ≤ maxPoints) × Ranks n (now «by_idx») ⌝ }
-    ensures { λ r. ⌜ r ≡ indexMarks n (at (now («by_idx» .entry))) (now (marks .entry)) ⌝ }
-{
-    let hit = gathered(by_idx, marks, n);
-    let mut out = [0u8; MAX_POINTS];
-    let mut i: usize = 0;
-    while i < n {
-        out[i] = hit[view::wide(by_idx[i])];
-        i += 1;
-    }
-    out
-}
+// ---- the component mark
 
 // The component mark of each rank, and how many patches there are.
 pub struct ComponentFilter {
@@ -169,12 +121,12 @@ pub fn largest_component_filter(
     n: usize,
 ) -> ComponentFilter
     requires { ⌜ Fit n (now sides) × Ranks n (now «by_idx») ⌝ }
-    ensures { λ r. ⌜ (r .marks ≡ indexMarks n (at (now («by_idx» .entry))) (othersOf n (labelsOf n (at (now (near .entry))) (now (sides .entry)) (now (dropped .entry))))) × (r .«components_seen» ≡ countOf n (labelsOf n (at (now (near .entry))) (now (sides .entry)) (now (dropped .entry)))) ⌝ }
+    ensures { λ r. ⌜ Filtered (viewAt n (now (near .entry)) [] [] (now («by_idx» .entry)) [] []) (now (sides .entry)) (now (dropped .entry)) (r .marks) (r .«components_seen») ⌝ }
 {
     let label = patches::labels(near, dropped, sides, n);
     let w = winner(&label, n);
     let out = others(&label, n, w);
-    let marks = index_marks(by_idx, &out, n);
+    let marks = marks::by_index(by_idx, &out, n);
     let c = count(&label, n);
     ComponentFilter {
         marks: marks,

@@ -7,7 +7,7 @@ use Prim.Native.Nat.{ℕ, suc, _+_, _-_, _*_, _/_, _%_, _≤_, _<_}
 use Prim.{Dec, yes, no}
 use native.Mathlib.Omega.{arith}
 use native.Mathlib.Nat.{eq-or-lt-of-le}
-use native.Mathlib.Decide.{decLt, ℕ-discrete}
+use native.Mathlib.Decide.{decLt}
 use lib.Dec.{eqb, ltb}
 use lib.ListN.{length, getD, take, drop, set, length-set, replicate, length-replicate, List·getD-append}
 use lib.Seq.{getD-set-same, getD-set-other, take-at}
@@ -17,7 +17,7 @@ use Rattle.folds.specs.Lists.{listOf, length-list}
 use Rattle.folds.specs.Column.{column, filled, replicate-at}
 use Rattle.view.specs.View.{maxPoints}
 use Rattle.sort.specs.Numbers.{sorted}
-use Rattle.sort.specs.Packed.{packed, inOrder, inOrder-length, placed, placed-below, placed-is, placed-key, place-of, placed-rises}
+use Rattle.sort.specs.Packed.{packed, inOrder, inOrder-length, placed, placed-below, placed-is, place-of, placed-rises}
 use Rattle.grid.specs.Tables.{byIdxAt, at}
 
 -- what the sort leaves

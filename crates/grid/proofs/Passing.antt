@@ -1,18 +1,18 @@
 -- Ranks passed on the way to a target, and entries written from there on. Assumes nothing.
-use mathlib.Core.Path.{_≡_, refl, sym, ap, _∙_}
+use mathlib.Core.Path.{_≡_, sym, _∙_}
 use mathlib.Core.Bool.{Bool, true, false, _&&_, true≢false}
 use mathlib.Core.Logic.{_⊎_, inl, inr}
 use mathlib.Core.List.{List}
-use Prim.Native.Nat.{ℕ, _+_, _*_, _≤_, _<_}
+use Prim.Native.Nat.{ℕ, _+_, _≤_, _<_}
 use Prim.{Dec, yes, no}
 use native.Mathlib.Omega.{arith}
 use native.Mathlib.Nat.{eq-or-lt-of-le}
 use native.Mathlib.Decide.{decLt}
 use lib.Dec.{eqb, ltb}
-use lib.ListN.{length, set}
+use lib.ListN.{set}
 use borrow.Author.Tests.{lt-ltb, eq-eqb, ltb-true, eqb-true}
 use Rattle.folds.specs.Below.{and-left, and-right, and-both}
-use Rattle.folds.specs.Column.{Filling, fill-more}
+use Rattle.folds.specs.Column.{fill-more}
 use Rattle.cells.specs.Points.{centreStep}
 use Rattle.grid.specs.Tables.{standing}
 use Rattle.grid.specs.Standing.{Rising, standing-hit, standing-miss}

@@ -1,15 +1,15 @@
 -- The sweep over all ranks: the table is filled up to i, and each reached rank is behind all targets to come. Assumes nothing.
-use mathlib.Core.Path.{_≡_, refl, sym, ap, _∙_}
+use mathlib.Core.Path.{_≡_, _∙_}
 use mathlib.Core.List.{List}
 use Prim.Native.Nat.{ℕ, _+_, _*_, _/_, _%_, _≤_, _<_}
 use Prim.{Dec, yes, no}
 use native.Mathlib.Omega.{arith}
 use native.Mathlib.Decide.{ℕ-discrete}
-use lib.ListN.{length, getD, set, length-set, replicate, length-replicate}
+use lib.ListN.{length, set, length-set, replicate, length-replicate}
 use lib.Seq.{getD-set-same, getD-set-other}
 use Rattle.folds.specs.Column.{Filling, fill-start, replicate-at}
-use Rattle.view.specs.View.{maxPoints, nearSize}
-use Rattle.cells.specs.Points.{centreStep, stepOf}
+use Rattle.view.specs.View.{nearSize}
+use Rattle.cells.specs.Points.{stepOf}
 use Rattle.grid.specs.Tables.{standing, nearEntry, at, Keys}
 use Rattle.grid.specs.Sweep.{Behind, Reached, Five}
 use Rattle.grid.proofs.Passing.{behind-none, behind-up}

@@ -1,17 +1,16 @@
 -- Points in cell order, and what the tables say of their cells. Assumes nothing.
-use mathlib.Core.Path.{_≡_, refl, sym, ap, _∙_, fun-ext}
+use mathlib.Core.Path.{_≡_, sym, _∙_}
 use mathlib.Core.List.{List}
-use Prim.Native.Nat.{ℕ, _+_, _-_, _*_, _/_, _%_, _≤_, _<_}
+use Prim.Native.Nat.{ℕ, _+_, _-_, _≤_, _<_}
 use native.Mathlib.Omega.{arith}
 use lib.ListN.{length, getD}
-use Rattle.folds.specs.Lists.{listOf, list-at}
 use Rattle.folds.specs.Column.{column, column-at, length-column}
-use Rattle.view.specs.View.{View, viewAt, rankAt, maxPoints, nearSize}
-use Rattle.cells.specs.Points.{Point, nowhere, keyOf, keysOf, stepOf, centreStep}
+use Rattle.view.specs.View.{rankAt, maxPoints}
+use Rattle.cells.specs.Points.{Point, nowhere, keyOf, keysOf, stepOf}
 use Rattle.cells.specs.Cell.{InRange, cellOf, moved, duOf, dvOf, key-small, key-of-neighbour, neighbour-of-key}
-use Rattle.grid.specs.Tables.{Keys, nearEntry, nearAt, rowAt, columnAt, byIdxAt, at, nearOf}
+use Rattle.grid.specs.Tables.{Keys, at}
 use Rattle.grid.specs.Standing.{Rising, standing-true, standing-hit, near-own, near-mirror}
-use Rattle.grid.specs.Views.{viewOf, keyList}
+use Rattle.grid.specs.Views.{viewOf, keyList, key-read, near-read}
 
 -- the points of an accepted sheet, "in cell order, by u, then v": all in range, and no two in one cell
 pub record CellOrder (ps : List Point) : Type 0 where
@@ -36,36 +35,26 @@ module _ (ps : List Point) (o : CellOrder ps) where
       read : (k : ℕ) → k < length ps → at (column maxPoints 0 (length ps) key) k ≡ keyOf (getD ps k nowhere)
       read k h = column-at maxPoints 0 (length ps) key k h
 
-  key-at : (k : ℕ) → k < length ps → at (keyList (length ps) ps) k ≡ keyOf (getD ps k nowhere)
-  key-at k h = list-at (length ps) (λ (k : ℕ). keyOf (getD ps k nowhere)) k 0 h
-
   rising-list : Rising (length ps) (at (keyList (length ps) ps))
-  rising-list i j ij h = rw (key-at i (omega arith), key-at j h) (o .rising i j ij h)
-
-  near-read : (k d : ℕ) → k < length ps → d < 25 → rankAt (viewOf ps) k d ≡ nearAt (length ps) (at (keyList (length ps) ps)) k d
-  unfolding viewOf
-  near-read k d h l =
-      let a : (25 * k + d) / 25 ≡ k = omega arith in
-      let b : (25 * k + d) % 25 ≡ d = omega arith in
-      list-at (25 * length ps) (nearEntry (length ps) (at (keyList (length ps) ps))) (25 * k + d) 0 (omega arith) ∙ rw (a, b)
+  rising-list i j ij h = rw (key-read (length ps) ps i (omega arith), key-read (length ps) ps j h) (o .rising i j ij h)
 
   -- the rank at offset d holds the point of the cell at (u + du, v + dv) ..
   pub near-means : (k d j : ℕ) → k < length ps → d < 25 → j < length ps → rankAt (viewOf ps) k d ≡ j → cellOf (getD ps j nowhere) ≡ moved (duOf d) (dvOf d) (cellOf (getD ps k nowhere))
   near-means k d j h l m e =
       neighbour-of-key (getD ps k nowhere) (getD ps j nowhere) d l (o .inside k h) (o .inside j m)
-      (rw (key-at j m, key-at k h) at (standing-true (length ps) (at (keyList (length ps) ps)) (at (keyList (length ps) ps) k + stepOf d) j m (sym (near-read k d h l) ∙ e)))
+      (rw (key-read (length ps) ps j m, key-read (length ps) ps k h) at (standing-true (length ps) (at (keyList (length ps) ps)) (at (keyList (length ps) ps) k + stepOf d) j m (sym (near-read ps k d h l) ∙ e)))
 
   -- .. and if there is such a point, its rank stands there
   pub near-found : (k d j : ℕ) → k < length ps → d < 25 → j < length ps → cellOf (getD ps j nowhere) ≡ moved (duOf d) (dvOf d) (cellOf (getD ps k nowhere)) → rankAt (viewOf ps) k d ≡ j
   near-found k d j h l m e =
-      near-read k d h l
+      near-read ps k d h l
       ∙ standing-hit (length ps) (at (keyList (length ps) ps)) rising-list (at (keyList (length ps) ps) k + stepOf d) j m
-      (rw (key-at j m, key-at k h) (key-of-neighbour (getD ps k nowhere) (getD ps j nowhere) d l (o .inside k h) (o .inside j m) e))
+      (rw (key-read (length ps) ps j m, key-read (length ps) ps k h) (key-of-neighbour (getD ps k nowhere) (getD ps j nowhere) d l (o .inside k h) (o .inside j m) e))
 
   pub own-is : (k : ℕ) → k < length ps → rankAt (viewOf ps) k 12 ≡ k
-  own-is k h = near-read k 12 h (omega arith) ∙ near-own (length ps) (at (keyList (length ps) ps)) rising-list k h
+  own-is k h = near-read ps k 12 h (omega arith) ∙ near-own (length ps) (at (keyList (length ps) ps)) rising-list k h
 
   -- j stands at offset d from k just where k stands at offset 24 - d from j
   pub mirrored : (k j d : ℕ) → k < length ps → j < length ps → d < 25 → rankAt (viewOf ps) k d ≡ j → rankAt (viewOf ps) j (24 - d) ≡ k
   mirrored k j d hk hj hd e =
-      near-read j (24 - d) hj (omega arith) ∙ near-mirror (length ps) (at (keyList (length ps) ps)) rising-list k j d hk hj hd (sym (near-read k d hk hd) ∙ e)
+      near-read ps j (24 - d) hj (omega arith) ∙ near-mirror (length ps) (at (keyList (length ps) ps)) rising-list k j d hk hj hd (sym (near-read ps k d hk hd) ∙ e)

@@ -3,4 +3,5 @@ pub mod Standing
 pub mod Sweep
 pub mod Views
 pub mod InOrder
+pub mod Alike
 pub mod Moved

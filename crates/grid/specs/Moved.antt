@@ -1,23 +1,22 @@
 -- Points whose cells are all moved by one offset have the same view; only their keys move. Assumes nothing.
-use mathlib.Core.Path.{_≡_, refl, sym, ap, _∙_, fun-ext}
-use mathlib.Core.Bool.{Bool, true, false}
+use mathlib.Core.Path.{_≡_, ap}
 use mathlib.Core.List.{List}
-use Prim.Native.Nat.{ℕ, _+_, _-_, _*_, _/_, _%_, _≤_, _<_}
+use Prim.Native.Nat.{ℕ, _+_, _-_, _*_, _/_, _%_, _<_}
 use native.Mathlib.Omega.{arith}
 use lib.Dec.{eqb}
 use lib.IntN.{ℤ}
-use lib.Ieee.{Float, nan}
+use lib.Ieee.{nan}
 use lib.ListN.{length, getD}
 use Rattle.folds.specs.Arith.{f32}
 use Rattle.folds.specs.Below.{first-ext}
-use Rattle.folds.specs.Lists.{listOf, list-at, list-ext}
-use Rattle.folds.specs.Column.{column, column-at}
-use Rattle.view.specs.View.{View, viewAt, maxPoints}
+use Rattle.folds.specs.Lists.{list-ext}
+use Rattle.folds.specs.Column.{column-at}
+use Rattle.view.specs.View.{maxPoints}
 use Rattle.cells.specs.Points.{Point, nowhere, keyOf, keysOf}
 use Rattle.cells.specs.Cell.{InRange, cellOf, moved, upOf, downOf, keyUp, keyDown, u-moved, v-moved, key-moved}
-use Rattle.grid.specs.Tables.{nearEntry, rowAt, columnAt, byIdxAt, at}
+use Rattle.grid.specs.Tables.{nearEntry, rowAt, columnAt, at}
 use Rattle.grid.specs.Standing.{same-test, near-shift}
-use Rattle.grid.specs.Views.{viewOf, keyList, indexList}
+use Rattle.grid.specs.Views.{viewOf, keyList, indexList, key-read}
 
 -- "An offset is one whole number added to every u and one to every v, of either sign; index, position .. stay": q is p, moved, and both are in range
 pub record Moved (a b : ℤ) (p q : Point) : Type 0 where
@@ -39,20 +38,14 @@ module _ (a b : ℤ) (ps qs : List Point) (size : length qs ≡ length ps) (all 
       rw (column-at maxPoints 0 (length qs) (λ (k : ℕ). keyOf (getD qs k nowhere)) k (omega arith), column-at maxPoints 0 (length ps) (λ (k : ℕ). keyOf (getD ps k nowhere)) k h)
       (key-moves k h)
 
-  old-key : (k : ℕ) → k < length ps → at (keyList (length ps) ps) k ≡ keyOf (getD ps k nowhere)
-  old-key k h = list-at (length ps) (λ (k : ℕ). keyOf (getD ps k nowhere)) k 0 h
-
-  new-key : (k : ℕ) → k < length ps → at (keyList (length ps) qs) k ≡ keyOf (getD qs k nowhere)
-  new-key k h = list-at (length ps) (λ (k : ℕ). keyOf (getD qs k nowhere)) k 0 h
-
   shifted : (k : ℕ) → k < length ps → at (keyList (length ps) qs) k + keyDown a b ≡ at (keyList (length ps) ps) k + keyUp a b
-  shifted k h = rw (old-key k h, new-key k h) (key-moves k h)
+  shifted k h = rw (key-read (length ps) ps k h, key-read (length ps) qs k h) (key-moves k h)
 
   u-shifted : (k : ℕ) → k < length ps → at (keyList (length ps) qs) k / 16384 + downOf a ≡ at (keyList (length ps) ps) k / 16384 + upOf a
-  u-shifted k h = let m = all k h in rw (old-key k h, new-key k h) (u-moved a b (getD ps k nowhere) (getD qs k nowhere) (m .old) (m .new) (m .cell))
+  u-shifted k h = let m = all k h in rw (key-read (length ps) ps k h, key-read (length ps) qs k h) (u-moved a b (getD ps k nowhere) (getD qs k nowhere) (m .old) (m .new) (m .cell))
 
   v-shifted : (k : ℕ) → k < length ps → at (keyList (length ps) qs) k % 16384 + downOf b ≡ at (keyList (length ps) ps) k % 16384 + upOf b
-  v-shifted k h = let m = all k h in rw (old-key k h, new-key k h) (v-moved a b (getD ps k nowhere) (getD qs k nowhere) (m .old) (m .new) (m .cell))
+  v-shifted k h = let m = all k h in rw (key-read (length ps) ps k h, key-read (length ps) qs k h) (v-moved a b (getD ps k nowhere) (getD qs k nowhere) (m .old) (m .new) (m .cell))
 
   row-same : (k : ℕ) → k < length ps → rowAt (length ps) (at (keyList (length ps) qs)) k ≡ rowAt (length ps) (at (keyList (length ps) ps)) k
   unfolding rowAt

@@ -1,7 +1,6 @@
 -- The tables of a sheet, each an entry for each rank: the ranks near it, the first rank of its row and of its column, and the last rank with
 -- its index. `key` and `index` give each rank's; a point's rank is its place in cell order. Assumes nothing.
 use mathlib.Core.Path.{_≡_}
-use mathlib.Core.Bool.{Bool}
 use mathlib.Core.List.{List}
 use Prim.Native.Nat.{ℕ, _+_, _*_, _/_, _%_, _≤_, _<_, _^_}
 use lib.Dec.{eqb}

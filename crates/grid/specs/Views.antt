@@ -1,16 +1,16 @@
 -- The view of points in cell order, and that the arrays give it. Assumes nothing.
-use mathlib.Core.Path.{_≡_, refl, sym, ap, _∙_, fun-ext}
+use mathlib.Core.Path.{_≡_, ap, _∙_, fun-ext}
 use mathlib.Core.List.{List}
-use Prim.Native.Nat.{ℕ, _+_, _*_, _/_, _%_, _≤_, _<_}
+use Prim.Native.Nat.{ℕ, _+_, _*_, _/_, _%_, _<_}
 use native.Mathlib.Omega.{arith}
 use lib.ListN.{length, getD}
 use lib.Ieee.{Float, nan, ofBits}
 use Rattle.folds.specs.Arith.{f32}
-use Rattle.folds.specs.Lists.{listOf}
+use Rattle.folds.specs.Lists.{listOf, list-at}
 use Rattle.folds.specs.Column.{column, column-list}
-use Rattle.view.specs.View.{View, viewAt, maxPoints, nearSize}
+use Rattle.view.specs.View.{View, viewAt, rankAt, maxPoints, nearSize}
 use Rattle.cells.specs.Points.{Point, nowhere, keyOf, keysOf, indicesOf, xsOf, ysOf}
-use Rattle.grid.specs.Tables.{nearEntry, rowAt, columnAt, byIdxAt, at, nearOf, rowsOf, columnsOf, byIdxOf, standing}
+use Rattle.grid.specs.Tables.{nearAt, nearEntry, rowAt, columnAt, byIdxAt, at, nearOf, rowsOf, columnsOf, byIdxOf, standing}
 
 -- one number of each of n points
 abbrev pub keyList : ℕ → List Point → List ℕ
@@ -58,3 +58,31 @@ view-is ps =
     (fun-ext (λ k. column-list maxPoints 0 n (byIdxAt n (at (column maxPoints 0 n index))) k ∙ ap (λ (f : ℕ → ℕ). getD (listOf n (byIdxAt n f)) k 0) indices))
     (fun-ext (λ k. column-list maxPoints nan n (λ (k : ℕ). f32 (getD ps k nowhere .x)) k))
     (fun-ext (λ k. column-list maxPoints nan n (λ (k : ℕ). f32 (getD ps k nowhere .y)) k))
+
+-- ---- what is read of the view at a rank
+
+pub key-read : (n : ℕ) (ps : List Point) (k : ℕ) → k < n → at (keyList n ps) k ≡ keyOf (getD ps k nowhere)
+key-read n ps k h = list-at n (λ (k : ℕ). keyOf (getD ps k nowhere)) k 0 h
+
+pub index-read : (n : ℕ) (ps : List Point) (k : ℕ) → k < n → at (indexList n ps) k ≡ getD ps k nowhere .index
+index-read n ps k h = list-at n (λ (k : ℕ). getD ps k nowhere .index) k 0 h
+
+module _ (ps : List Point) where
+  pub near-read : (k d : ℕ) → k < length ps → d < 25 → rankAt (viewOf ps) k d ≡ nearAt (length ps) (at (keyList (length ps) ps)) k d
+  unfolding viewOf
+  near-read k d h l =
+      let a : (25 * k + d) / 25 ≡ k = omega arith in
+      let b : (25 * k + d) % 25 ≡ d = omega arith in
+      list-at (25 * length ps) (nearEntry (length ps) (at (keyList (length ps) ps))) (25 * k + d) 0 (omega arith) ∙ rw (a, b)
+
+  pub row-read : (k : ℕ) → k < length ps → viewOf ps .row k ≡ rowAt (length ps) (at (keyList (length ps) ps)) k
+  unfolding viewOf
+  row-read k h = list-at (length ps) (rowAt (length ps) (at (keyList (length ps) ps))) k 0 h
+
+  pub column-read : (k : ℕ) → k < length ps → viewOf ps .column k ≡ columnAt (length ps) (at (keyList (length ps) ps)) k
+  unfolding viewOf
+  column-read k h = list-at (length ps) (columnAt (length ps) (at (keyList (length ps) ps))) k 0 h
+
+  pub byIdx-read : (k : ℕ) → k < length ps → viewOf ps .byIdx k ≡ byIdxAt (length ps) (at (indexList (length ps) ps)) k
+  unfolding viewOf
+  byIdx-read k h = list-at (length ps) (byIdxAt (length ps) (at (indexList (length ps) ps))) k 0 h

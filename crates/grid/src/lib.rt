@@ -2,9 +2,9 @@
 // its column, and the last rank with its index.
 ghost use mathlib.Core.Path.{_≡_};
 ghost use mathlib.Core.Bool.{cond, _&&_};
-ghost use Prim.Native.Nat.{ℕ, _+_, _*_, _/_, _%_, _≤_, _<_};
+ghost use Prim.Native.Nat.{_+_, _*_, _/_, _%_, _≤_, _<_};
 ghost use lib.Dec.{eqb, ltb};
-ghost use lib.ListN.{length, replicate};
+ghost use lib.ListN.{replicate};
 ghost use Rattle.folds.specs.Column.{column};
 ghost use Rattle.view.specs.View.{maxPoints, nearSize};
 ghost use Rattle.cells.specs.Points.{centreStep};

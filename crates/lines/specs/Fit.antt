@@ -20,17 +20,17 @@ valueAt l k = getD l k nan
 
 -- the sum of f j over the ranks j of l, in their order, divided by how many they are
 unfoldable pub meanOf : (ℕ → Float) → List ℕ → Float
-unfolding over add div ofInt
+unfolding over add div ofInt ofBits
 meanOf f l = over (λ (s : Float) (j : ℕ). s ⊕ f j) zero l ⊘ ofInt binary32 (pos (length l))
 
 -- the sum of (f j - a) * (g j - b) over the ranks j of l, in their order
 unfoldable pub momentOf : (ℕ → Float) → Float → (ℕ → Float) → Float → List ℕ → Float
-unfolding over add sub mul
+unfolding over add sub mul ofBits
 momentOf f a g b l = over (λ (s : Float) (j : ℕ). s ⊕ (f j ⊖ a) ⊗ (g j ⊖ b)) zero l
 
 -- the larger eigenvalue of the matrix of the moments
 unfoldable pub largerEigenvalue : Float → Float → Float → Float
-unfolding add sub mul maxOf rootOf
+unfolding add sub mul maxOf rootOf ofBits
 largerEigenvalue sxx sxy syy =
     let trace = sxx ⊕ syy in
     let det = sxx ⊗ syy ⊖ sxy ⊗ sxy in
@@ -39,14 +39,14 @@ largerEigenvalue sxx sxy syy =
 
 -- the direction of the largest spread: its eigenvector, or an axis where |sxy| is at most f32::EPSILON
 unfoldable pub directionOf : Float → Float → Float → Vector
-unfolding lt le absOf sub largerEigenvalue
+unfolding lt le absOf sub largerEigenvalue ofBits
 directionOf sxx sxy syy =
     cond (lt epsilon (absOf sxy)) (record { x = sxy; y = largerEigenvalue sxx sxy syy ⊖ sxx })
     (cond (le syy sxx) (record { x = one; y = zero }) (record { x = zero; y = one }))
 
 -- "A line's centre and direction travel together as one record." The direction is divided by its length, or by f32::EPSILON if that is more.
 unfoldable pub lineThrough : Vector → Vector → Line
-unfolding maxOf normOf div
+unfolding maxOf normOf div ofBits
 lineThrough c v =
     let length = maxOf (normOf (v .x) (v .y)) epsilon in
     record { cx = c .x; cy = c .y; ux = v .x ⊘ length; uy = v .y ⊘ length }

@@ -21,17 +21,17 @@ use Rattle.step.specs.declared.Step.the-variants.{Of, Absent}
 
 -- the steps of n places, in their order
 unfoldable pub stepsIn : (ℕ → Float) → ℕ → List Float
-unfolding listed lt
+unfolding listed lt ofBits
 stepsIn steps n = listed (λ (k : ℕ). lt zero (steps k)) steps n
 
 -- "step outside median/(1+t) to median·(1+t)"
 unfoldable pub isOutside : Float → Float → Float → Bool
-unfolding lt add mul div
+unfolding lt add mul div ofBits
 isOutside median t s = lt s (median ⊘ (one ⊕ t)) || lt (median ⊗ (one ⊕ t)) s
 
 -- rule 4's test of the step at place m: "step outside median/(1+t) to median·(1+t), threshold t above 0, at least three steps"
 unfoldable pub deviates : (ℕ → Float) → ℕ → Float → ℕ → Bool
-unfolding lt stepsIn isOutside medianOf
+unfolding lt ofBits stepsIn isOutside medianOf
 deviates steps n t m =
     lt zero t && (leb 3 (length (stepsIn steps n)) && (lt zero (steps m) && isOutside (medianOf (stepsIn steps n)) t (steps m)))
 

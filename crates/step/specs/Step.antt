@@ -6,7 +6,7 @@ use mathlib.Core.Path.{_≡_, refl}
 use Prim.Native.Nat.{ℕ}
 use lib.ListN.{getD}
 use lib.Dec.{eqb}
-use lib.Ieee.{Float, lt, add, sub, mul}
+use lib.Ieee.{Float, ofBits, lt, add, sub, mul}
 use lib.Ieee.Scale.{finite}
 use Rattle.float.specs.Constants.{zero, half}
 use Rattle.float.specs.Scalar.{normOf}
@@ -23,7 +23,7 @@ between x y p q = normOf (x q ⊖ x p) (y q ⊖ y p)
 -- The step of rank m along an axis, whose neighbours are at the offsets `before` and `after`: by a central difference where both are
 -- present, by a one-sided one where one is.
 unfoldable pub axisStep : View → ℕ → ℕ → ℕ → Step
-unfolding between mul
+unfolding between mul ofBits
 axisStep w before after m =
     cond (present w m before)
     (cond (present w m after) (Of (between (w .x) (w .y) (rankAt w m before) (rankAt w m after) ⊗ half)) (Of (between (w .x) (w .y) (rankAt w m before) m)))
@@ -31,14 +31,14 @@ axisStep w before after m =
 
 -- the mean of the steps along both axes, or the only one
 unfoldable pub meanStep : Step → Step → Step
-unfolding add mul
+unfolding add mul ofBits
 meanStep (Of a) (Of b) = Of ((a ⊕ b) ⊗ half)
 meanStep (Of a) Absent = Of a
 meanStep Absent b = b
 
 -- "the local step where it is finite and positive", else 0, which stands for no step
 unfoldable pub keptStep : Step → Float
-unfolding lt
+unfolding lt ofBits
 keptStep (Of s) = cond (lt zero s && finite s) s zero
 keptStep Absent = zero
 
@@ -49,13 +49,13 @@ localStep w m = keptStep (meanStep (axisStep w prevU nextU m) (axisStep w prevV 
 -- With the step flag, the step of the index at place m: "For a repeated index the larger cell's entry wins", and an index stands at the
 -- last of its ranks.
 unfoldable pub stepAt : View → Bool → ℕ → Float
-unfolding localStep
+unfolding localStep ofBits
 stepAt w aware m = cond (aware && eqb (w .byIdx m) m) (localStep w m) zero
 
 -- "Scale is the cell size, or with the step flag the local step where it is finite and positive": the scale of rank k's index, where
 -- `steps` has the steps of the indices at their places
 unfoldable pub scaleAt : (ℕ → ℕ) → (ℕ → Float) → Float → ℕ → Float
-unfolding lt
+unfolding lt ofBits
 scaleAt byIdx steps cell k = let s = steps (byIdx k) in cond (lt zero s) s cell
 
 -- neither the lines nor the indices count for the local step

@@ -19,15 +19,15 @@ abbrev μ-loop : tie.MeasureT-loop
 loop-holds : tie.Need-loop-holds Inv-loop μ-loop
 loop-holds c = (zero-le, sym (tally-none _))
 
-counted-requires : tie.Need-counted-requires Inv-loop μ-loop
-counted-requires c κs =
+one-more-requires : tie.Need-one-more-requires Inv-loop μ-loop
+one-more-requires c κs =
     let l = c .before .before .before in
     omega (arith, l .loop .inv .1, tally-le (λ (k : ℕ). eqb (at (l .before .args .label .now) k) k) (l .loop .i))
 
 loop-again : tie.Need-loop-again Inv-loop μ-loop
 loop-again c =
     let l = c .before .before .before .before in
-    (omega arith, tally-turn _ (l .loop .i) (c .counted .ensures) (ap (λ (v : ℕ). eqb v (l .loop .i)) (c .before .wide .ensures)) (l .loop .inv .1))
+    (omega arith, tally-turn _ (l .loop .i) (c .one-more .ensures) (ap (λ (v : ℕ). eqb v (l .loop .i)) (c .before .wide .ensures)) (l .loop .inv .1))
 
 returns : tie.Need-returns Inv-loop μ-loop
 unfolding countOf
@@ -36,5 +36,5 @@ returns c = let e : c .before .loop .i ≡ c .before .before .args .n = omega ar
 pub count-spec : {M : Type 1} → statement M
 count-spec =
     tie.close
-    (tie.spec Inv-loop μ-loop loop-holds (λ c. search needs) (λ c. search needs) (λ c κs. search needs) counted-requires (λ c. search needs)
+    (tie.spec Inv-loop μ-loop loop-holds (λ c. search needs) (λ c. search needs) (λ c κs. search needs) one-more-requires (λ c. search needs)
     (λ c. search needs) loop-again returns)

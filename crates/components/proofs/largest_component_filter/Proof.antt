@@ -14,13 +14,14 @@ unfolding othersOf
 composed n byIdx l o m labels w e f g h = cc
 
 returns : tie.Need-returns
+unfolding indexMarks
 returns c =
     let i = c .before .before in
     let o = i .before .before in
     let w = o .before .before in
     let l = w .before .before in
     let a = l .before .before .args in
-    (composed (a .n) (a .by-idx .now) _ _ _ _ _ (l .labels .ensures) (w .winner .ensures) (o .others .ensures) (i .index-marks .ensures), c .count .ensures ∙ ap (countOf (a .n)) (l .labels .ensures))
+    record { marked = composed (a .n) (a .by-idx .now) _ _ _ _ _ (l .labels .ensures) (w .winner .ensures) (o .others .ensures) (i .by-index .ensures); counted = c .count .ensures ∙ ap (countOf (a .n)) (l .labels .ensures) }
 
 pub largest-component-filter-spec : {M : Type 1} → statement M
 largest-component-filter-spec =

@@ -1,12 +1,11 @@
 -- `grid::fill_near` meets its contract. The loop's invariant: the table is filled up to step i, and each reached rank is behind all targets to
 -- come. Assumes nothing.
 use borrow.Author.Needs.{needs}
-use mathlib.Core.Path.{_≡_, refl, sym, ap, _∙_}
+use mathlib.Core.Path.{_≡_, ap}
 use Prim.Native.Nat.{ℕ, _+_, _*_, _-_, _/_, _≤_}
 use native.Mathlib.Omega.{arith}
 use Rattle.folds.specs.Column.{filled}
 use Rattle.grid.specs.Tables.{at, nearOf}
-use Rattle.grid.specs.Sweep.{Room}
 use Rattle.grid.proofs.Swept.{Swept, swept-start, swept-size, swept-more}
 use Rattle.grid.proofs.fill_near.Statement.{statement}
 use Rattle.grid.proofs.fill_near.Tie as tie

@@ -1,7 +1,6 @@
 -- `grid::last_rank` meets its contract. Assumes nothing.
 use borrow.Author.Needs.{needs}
 use borrow.Author.Tests.{lt-ltb, le-ltb, eq-eqb, ne-eqb}
-use native.Mathlib.Omega.{arith}
 use Rattle.grid.proofs.last_rank.Statement.{statement}
 use Rattle.grid.proofs.last_rank.Tie as tie
 

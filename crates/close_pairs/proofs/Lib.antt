@@ -1,0 +1,4 @@
+pub mod Places
+pub mod Squares
+pub mod KeyOrder
+pub mod Pairs

@@ -1,0 +1,26 @@
+use mathlib.Core.Path.{_≡_, refl}
+use mathlib.Core.Bool.{_&&_}
+use lib.Dec.{ltb}
+use Rattle.folds.specs.Below.{and-false}
+use Rattle.folds.specs.Marked.{marked-none, marked-as}
+use Rattle.close_pairs.specs.Close.{limitOf, closeMark}
+use Rattle.close_pairs.proofs.Pairs.{sweepable, swept}
+use borrow.Author.Needs.{needs}
+use Rattle.close_pairs.proofs.mark_close.Statement.{statement}
+use Rattle.close_pairs.proofs.mark_close.Tie as tie
+
+sweep-requires : tie.Need-sweep-requires
+sweep-requires c κs = let p = c .before .before .before .before .pre in sweepable _ _ _ _ (p .0) (c .before .before .order-of .ensures) (p .2) _
+
+returns : tie.Need-returns
+unfolding limitOf
+returns c = let p = c .before .before .before .before .before in marked-as _ _ (λ m l. swept _ (p .args .x .now) (p .args .y .now) (p .args .n) (p .pre .0) (c .before .before .before .order-of .ensures) (p .pre .2) (p .args .cell) m (c .before .before .before .before .if1 .taken)) (c .sweep .ensures)
+
+returns-2 : tie.Need-returns-2
+unfolding closeMark
+returns-2 c = marked-none _ _ (λ m. rw (c .if1 .left) (and-false (ltb m (c .before .args .n))))
+
+pub mark-close-spec : {M : Type 1} → statement M
+mark-close-spec =
+    tie.close
+    (tie.spec (λ c κs. search needs) sweep-requires returns returns-2)

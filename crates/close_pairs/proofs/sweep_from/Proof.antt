@@ -1,0 +1,72 @@
+use Prim.Native.Nat.{ℕ, _+_, _-_, _≤_, _<_}
+use mathlib.Core.Path.{_≡_, sym, _∙_}
+use native.Mathlib.Omega.{arith}
+use lib.ListN.{getD}
+use Rattle.folds.specs.Below.{some}
+use Rattle.folds.specs.Marked.{Marked, marked-none, marked-as, marked-more}
+use Rattle.close_pairs.specs.Close.{close, squareOf}
+use Rattle.close_pairs.specs.Sweep.{pairHits, sweepHits}
+use Rattle.close_pairs.proofs.Pairs.{sweep-none, sweep-stop, pair-is}
+use borrow.Author.Needs.{needs}
+use Rattle.close_pairs.proofs.sweep_from.Statement.{statement}
+use Rattle.close_pairs.proofs.sweep_from.Tie as tie
+
+abbrev Inv-loop : tie.InvT-loop
+Inv-loop order x y limit n i mark₀ a j₀ mark j = (i < j) × (j ≤ n) × Marked (λ (m : ℕ). some (λ (p : ℕ). pairHits order x y limit i p m) j) mark₀ mark × (a ≡ getD order i 0)
+
+abbrev μ-loop : tie.MeasureT-loop
+μ-loop order x y limit n i mark₀ a j₀ mark j = n - j
+
+-- both ranks are places of the arrays
+ins : (c : tie.After-wide2 Inv-loop μ-loop) → (c .wide2 .result < 2048) × (c .before .before .before .before .wide .result < 2048)
+ins c = let s = c .before .before .before .before .before .before in let l = c .before .before .before .loop in (omega (arith, s .pre .0 .few, c .wide2 .ensures, s .pre .0 .ranks (l .j) (c .before .before .loop-test .taken)), omega (arith, s .pre .0 .few, l .inv .3, s .pre .0 .ranks (s .args .i) (s .pre .1)))
+
+add-j : tie.Need-add-j Inv-loop μ-loop
+add-j c = omega (arith, c .before .before .pre .0 .few)
+
+loop-holds : tie.Need-loop-holds Inv-loop μ-loop
+loop-holds c = let g = c .before .before .args in (omega arith, omega arith, marked-none _ _ (λ m. sweep-none (g .order .now) (g .x .now) (g .y .now) (g .limit) (g .n) (g .i) m), c .wide .ensures)
+
+mul-dx : tie.Need-mul-dx Inv-loop μ-loop
+mul-dx c = omega (arith, ins (c))
+
+element-copy-out-dx : tie.Need-element-copy-out-dx Inv-loop μ-loop
+element-copy-out-dx c = omega (arith, ins (c))
+
+mul-dx-2 : tie.Need-mul-dx-2 Inv-loop μ-loop
+mul-dx-2 c = omega (arith, ins (c .before))
+
+element-copy-out-dx-2 : tie.Need-element-copy-out-dx-2 Inv-loop μ-loop
+element-copy-out-dx-2 c = omega (arith, ins (c .before))
+
+mul-dy : tie.Need-mul-dy Inv-loop μ-loop
+mul-dy c = omega (arith, ins (c .before .before .before))
+
+element-copy-out-dy : tie.Need-element-copy-out-dy Inv-loop μ-loop
+element-copy-out-dy c = omega (arith, ins (c .before .before .before))
+
+mul-dy-2 : tie.Need-mul-dy-2 Inv-loop μ-loop
+mul-dy-2 c = omega (arith, ins (c .before .before .before .before))
+
+element-copy-out-dy-2 : tie.Need-element-copy-out-dy-2 Inv-loop μ-loop
+element-copy-out-dy-2 c = omega (arith, ins (c .before .before .before .before))
+
+mark-pair-requires : tie.Need-mark-pair-requires Inv-loop μ-loop
+mark-pair-requires c κs = let h = ins (c .before .before .before .before .before .before) in (h .1, h .0)
+
+loop-again : tie.Need-loop-again Inv-loop μ-loop
+unfolding close squareOf
+loop-again c = let g = c .before .before .before .before .before .before .before .before .before .before .before .before .before .args in let l = c .before .before .before .before .before .before .before .before .before .before .loop in (omega arith, omega arith, marked-more (λ (p m : ℕ). pairHits (g .order .now) (g .x .now) (g .y .now) (g .limit) (g .i) p m) (l .j) (l .inv .2) (marked-as _ _ (λ m t. rw (c .before .before .before .before .before .before .before .wide2 .ensures, l .inv .3) (pair-is (g .order .now) (g .x .now) (g .y .now) (g .limit) (g .n) (g .i) (l .j) m (l .inv .0))) (c .mark-pair .ensures)), l .inv .3)
+
+returns : tie.Need-returns Inv-loop μ-loop
+returns c = let g = c .before .before .before .before .before .before .before .before .before .args in let l = c .before .before .before .before .before .before .loop in marked-as _ _ (λ m t. sweep-stop (g .order .now) (g .x .now) (g .y .now) (g .limit) (g .n) (g .i) (c .before .before .before .before .before .before .before .before .before .pre .0) (l .j) m (l .inv .0) (c .before .before .before .before .before .loop-test .taken) (rw (c .before .before .before .wide2 .ensures, l .inv .3) at (c .if1 .left))) (l .inv .2)
+
+returns-2 : tie.Need-returns-2 Inv-loop μ-loop
+returns-2 c = let h : c .before .loop .j ≡ c .before .before .before .before .args .n = omega arith in rw h at (c .before .loop .inv .2)
+
+pub sweep-from-spec : {M : Type 1} → statement M
+sweep-from-spec =
+    tie.close
+    (tie.spec Inv-loop μ-loop (λ c. search needs) (λ c. search needs) (λ c κs. search needs) add-j loop-holds (λ c. search needs)
+    (λ c. search needs) (λ c κs. search needs) mul-dx element-copy-out-dx mul-dx-2 element-copy-out-dx-2 mul-dy element-copy-out-dy
+    mul-dy-2 element-copy-out-dy-2 mark-pair-requires (λ c. search needs) (λ c. search needs) loop-again returns returns-2)

@@ -1,0 +1,3 @@
+pub mod Close
+pub mod Keys
+pub mod Sweep

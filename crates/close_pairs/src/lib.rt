@@ -1,0 +1,148 @@
+// Points that lie on almost one pixel: a sweep in the order of x, which compares each point only with those that follow it closely.
+use float::constants::DUPLICATE_FRACTION;
+use view::MAX_POINTS;
+ghost use mathlib.Core.Path.{_≡_};
+ghost use mathlib.Core.Bool.{_&&_, _||_};
+ghost use mathlib.Core.List.{[]};
+ghost use Prim.Native.Nat.{ℕ, _+_, _*_, _%_, _≤_, _<_};
+ghost use lib.Dec.{T, eqb, ltb};
+ghost use lib.ListN.{length, getD};
+ghost use lib.Ieee.Scale.{finite};
+ghost use Rattle.folds.specs.Below.{some};
+ghost use Rattle.folds.specs.Column.{column};
+ghost use Rattle.folds.specs.Marked.{Marked};
+ghost use Rattle.view.specs.View.{maxPoints};
+ghost use Rattle.sort.specs.Packed.{packed};
+ghost use Rattle.marks.specs.Arrays.{Finite, placedView};
+ghost use Rattle.close_pairs.specs.Close.{limitOf, closeMark};
+ghost use Rattle.close_pairs.specs.Keys.{Rising, keyOf, rankIn, Keyed, Ordered};
+ghost use Rattle.close_pairs.specs.Sweep.{pairHits, sweepHits, Sweepable};
+
+// A number that rises with x, which is finite.
+fn rising(x: f32) -> u64
+    requires { ⌜ T (finite x) ⌝ }
+    ensures { λ r. ⌜ Rising x r ⌝ }
+{
+    if 0.0 < x {
+        return 0x8000_0001 + f32::to_bits(x) as u64;
+    }
+    if x < 0.0 {
+        return 0x7fff_ffff - f32::to_bits(-x) as u64;
+    }
+    0x8000_0000
+}
+
+// The key and the rank of each point, packed into one number.
+fn keys(x: &[f32; MAX_POINTS], n: usize) -> [u64; MAX_POINTS]
+    requires { ⌜ (n ≤ maxPoints) × Finite n (now x) ⌝ }
+    ensures { λ r. ⌜ Keyed (now (x .entry)) n r ⌝ }
+{
+    let mut out = [0u64; MAX_POINTS];
+    let mut k = 0;
+    while k < n {
+        out[k] = rising(x[k]) * 4096 + k as u64;
+        k += 1;
+    }
+    out
+}
+
+fn rank_of(w: u64) -> u16
+    ensures { λ r. ⌜ r ≡ w % 4096 ⌝ }
+{
+    (w % 4096) as u16
+}
+
+// The ranks in the order of x.
+fn order_of(x: &[f32; MAX_POINTS], n: usize) -> [u16; MAX_POINTS]
+    requires { ⌜ (n ≤ maxPoints) × Finite n (now x) ⌝ }
+    ensures { λ r. ⌜ Ordered (now (x .entry)) n r ⌝ }
+{
+    let mut a = keys(x, n);
+    sort::sort(&mut a, n);
+    let mut out = [0u16; MAX_POINTS];
+    let mut i = 0;
+    while i < n {
+        out[i] = rank_of(a[i]);
+        i += 1;
+    }
+    out
+}
+
+// Marks a and b, if they are close.
+fn mark_pair(near: bool, a: usize, b: usize, mark: &mut [u8; MAX_POINTS])
+    requires { ⌜ (a < maxPoints) × (b < maxPoints) ⌝ }
+    ensures { λ r. ⌜ Marked (λ (m : ℕ). near && (eqb a m || eqb b m)) (now (mark .entry)) (now (mark .exit)) ⌝ }
+{
+    if near {
+        mark[a] = 1;
+        mark[b] = 1;
+        return;
+    }
+}
+
+// Marks the pairs of the point at place i with those that follow it.
+fn sweep_from(
+    order: &[u16; MAX_POINTS],
+    x: &[f32; MAX_POINTS],
+    y: &[f32; MAX_POINTS],
+    limit: f32,
+    n: usize,
+    i: usize,
+    mark: &mut [u8; MAX_POINTS],
+)
+    requires { ⌜ Sweepable (now order) (now x) (now y) limit n × (i < n) ⌝ }
+    ensures { λ r. ⌜ Marked (sweepHits (now (order .entry)) (now (x .entry)) (now (y .entry)) limit n i) (now (mark .entry)) (now (mark .exit)) ⌝ }
+{
+    let a = view::wide(order[i]);
+    let mut j = i + 1;
+    while j < n {
+        let b = view::wide(order[j]);
+        let dx = x[b] - x[a];
+        let square = dx * dx;
+        if square < limit {
+            let dy = y[b] - y[a];
+            mark_pair(square + dy * dy < limit, a, b, mark);
+            j += 1;
+        } else {
+            return;
+        }
+    }
+}
+
+// Marks the points of each pair that is closer than the root of the limit.
+fn sweep(
+    order: &[u16; MAX_POINTS],
+    x: &[f32; MAX_POINTS],
+    y: &[f32; MAX_POINTS],
+    limit: f32,
+    n: usize,
+    mark: &mut [u8; MAX_POINTS],
+)
+    requires { ⌜ Sweepable (now order) (now x) (now y) limit n ⌝ }
+    ensures { λ r. ⌜ Marked (λ (m : ℕ). some (λ (i : ℕ). sweepHits (now (order .entry)) (now (x .entry)) (now (y .entry)) limit n i m) n) (now (mark .entry)) (now (mark .exit)) ⌝ }
+{
+    let mut i = 0;
+    while i < n {
+        sweep_from(order, x, y, limit, n, i, mark);
+        i += 1;
+    }
+}
+
+// Marks the points that lie closer than 0.2 cell sizes to another.
+pub fn mark_close(
+    x: &[f32; MAX_POINTS],
+    y: &[f32; MAX_POINTS],
+    cell: f32,
+    n: usize,
+    mark: &mut [u8; MAX_POINTS],
+)
+    requires { ⌜ (n ≤ maxPoints) × Finite n (now x) × Finite n (now y) ⌝ }
+    ensures { λ r. ⌜ Marked (λ (m : ℕ). ltb m n && closeMark (placedView n [] (now (x .entry)) (now (y .entry))) cell m) (now (mark .entry)) (now (mark .exit)) ⌝ }
+{
+    if 0.0 < cell {
+        let side = DUPLICATE_FRACTION * cell;
+        let order = order_of(x, n);
+        sweep(&order, x, y, side * side, n, mark);
+        return;
+    }
+}

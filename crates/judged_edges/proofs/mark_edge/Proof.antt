@@ -1,0 +1,20 @@
+use borrow.Author.Tests.{lt-ltb, le-ltb, le-leb, lt-leb, eq-eqb, ne-eqb}
+use Rattle.folds.specs.Marked.{marked-none, marked-one, marked-as, marked-then}
+use borrow.Author.Needs.{needs}
+use Rattle.judged_edges.proofs.mark_edge.Statement.{statement}
+use Rattle.judged_edges.proofs.mark_edge.Tie as tie
+
+returns : tie.Need-returns
+returns c = marked-none _ _ (λ m. rw (← c .before .wide .ensures, le-ltb _ _ (c .if1 .taken)))
+
+returns-2 : tie.Need-returns-2
+returns-2 c = let i = c .before .before in marked-as _ _ (λ m l. rw (← i .before .wide .ensures, lt-ltb _ _ (i .if1 .left), ← c .before .fails-at .ensures, c .if2 .taken)) (marked-then _ _ (marked-one _ _) (marked-one _ _))
+
+returns-3 : tie.Need-returns-3
+returns-3 c = let i = c .before .before in marked-none _ _ (λ m. rw (← i .before .wide .ensures, lt-ltb _ _ (i .if1 .left), ← c .before .fails-at .ensures, c .if2 .left))
+
+pub mark-edge-spec : {M : Type 1} → statement M
+mark-edge-spec =
+    tie.close
+    (tie.spec (λ c. search needs) (λ c. search needs) (λ c. search needs) (λ c. search needs) (λ c κs. search needs) returns
+    (λ c κs. search needs) (λ c. search needs) (λ c. search needs) returns-2 returns-3)

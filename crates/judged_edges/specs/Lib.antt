@@ -1,0 +1,2 @@
+pub mod Judged
+pub mod Inner

@@ -1,0 +1,36 @@
+-- The cell numbers that a listing prints are the point's own. Assumes nothing.
+use mathlib.Core.Path.{_≡_, refl, sym, ap, _∙_}
+use mathlib.Core.Bool.{Bool, true, false}
+use Prim.Native.Nat.{ℕ, suc, _+_, _-_, _*_, _/_, _%_, _^_, _≤_, _<_}
+use native.Mathlib.Omega.{arith}
+use borrow.Author.Tests.{lt-ltb, le-ltb, ltb-true, ltb-false, leb-true}
+use lib.Dec.{ltb, leb}
+use lib.IntN.{pos, negsuc, _-ℤ_}
+use mir.Val.{sel}
+use Rattle.folds.specs.Below.{and-left, and-right}
+use Rattle.cells.specs.Points.{Point, biased, keyOf}
+use Rattle.cells.specs.Cell.{signed, within, cellOf, InRange, range-is}
+use Rattle.listing.specs.Listing.{uOf, vOf}
+
+-- a coordinate in range lies 3 to 16,003 with 8,003 added
+bounds : (b : ℕ) → b < 2 ^ 32 → within (signed b) ≡ true → (3 ≤ biased b) × (biased b ≤ 16003)
+bounds b h t = let r = sym (range-is b h) ∙ t in (leb-true 3 (biased b) (and-left (leb 3 (biased b)) (leb (biased b) 16003) r), leb-true (biased b) 16003 (and-right (leb 3 (biased b)) (leb (biased b) 16003) r))
+
+back : (b : ℕ) → b < 2 ^ 32 → within (signed b) ≡ true → pos (biased b) -ℤ pos 8003 ≡ signed b
+back b h t = go (ltb b (2 ^ 31)) refl
+  where
+    go : (s : Bool) → ltb b (2 ^ 31) ≡ s → pos (biased b) -ℤ pos 8003 ≡ sel s (pos b) (negsuc (2 ^ 32 - suc b))
+    go true e =
+        let l = ltb-true b (2 ^ 31) e in
+        rw (le-ltb (biased b) 8003 (omega arith)) (ap pos (omega arith))
+    go false e =
+        let l = ltb-false b (2 ^ 31) e in
+        let r = bounds b h t in
+        rw (lt-ltb (biased b) 8003 (omega arith)) (ap negsuc (omega arith))
+
+-- the cell in the key of a point in range
+pub prints-u : (p : Point) → InRange p → uOf (keyOf p) ≡ cellOf p .u
+prints-u p r = let v = bounds (p .v) (r .fits-v) (r .v) in let e : keyOf p / 16384 ≡ biased (p .u) = omega arith in rw e (back (p .u) (r .fits-u) (r .u))
+
+pub prints-v : (p : Point) → InRange p → vOf (keyOf p) ≡ cellOf p .v
+prints-v p r = let v = bounds (p .v) (r .fits-v) (r .v) in let e : keyOf p % 16384 ≡ biased (p .v) = omega arith in rw e (back (p .v) (r .fits-v) (r .v))

@@ -1,0 +1,39 @@
+use mathlib.Core.Path.{_≡_}
+use Prim.Native.Nat.{_≤_, _-_}
+use native.Mathlib.Omega.{arith}
+use lib.ListN.{getD}
+use Rattle.listing.specs.Text.{each}
+use Rattle.listing.specs.Stored.{Stored}
+use Rattle.listing.specs.Filters.{filterCount}
+use Rattle.listing.specs.Listing.{countText}
+use Rattle.listing.proofs.Stores.{stored-start, stored-then, stored-more, stored-length}
+use borrow.Author.Needs.{needs}
+use Rattle.listing.proofs.put_counts.Statement.{statement}
+use Rattle.listing.proofs.put_counts.Tie as tie
+
+abbrev Inv-loop : tie.InvT-loop
+Inv-loop counts out₀ at to₀ k₀ out to k = (k ≤ filterCount) × Stored out₀ at (each (λ j. countText j (getD counts j 0)) k) out to
+
+abbrev μ-loop : tie.MeasureT-loop
+μ-loop counts out₀ at to₀ k₀ out to k = filterCount - k
+
+loop-holds : tie.Need-loop-holds Inv-loop μ-loop
+loop-holds c = (search needs, stored-start (λ j. countText j (getD (c .before .args .counts .now) j 0)))
+
+loop-again : tie.Need-loop-again Inv-loop μ-loop
+loop-again c =
+    (search needs, stored-more (λ j. countText j (getD (c .before .before .before .before .before .before .before .before .before .before .before .before .args .counts .now) j 0)) (c .before .before .before .before .before .before .before .before .before .before .loop .inv .1) (stored-then (c .before .before .before .before .before .before .before .put-word .ensures) (c .before .before .put-decimal .ensures)))
+
+same-length : tie.Need-same-length Inv-loop μ-loop
+same-length c = stored-length (c .before .loop .inv .1)
+
+returns : tie.Need-returns Inv-loop μ-loop
+returns c =
+    let e : c .before .loop .k ≡ filterCount = omega arith in
+    rw e at (c .before .loop .inv .1)
+
+pub put-counts-spec : {M : Type 1} → statement M
+put-counts-spec =
+    tie.close
+    (tie.spec Inv-loop μ-loop loop-holds (λ c κs. search needs) (λ c. search needs) (λ c. search needs) (λ c κs. search needs)
+    (λ c. search needs) (λ c. search needs) loop-again same-length returns)

@@ -1,0 +1,16 @@
+use Rattle.listing.specs.Listing.{tallyText}
+use Rattle.listing.proofs.Stores.{stored-then}
+use borrow.Author.Needs.{needs}
+use Rattle.listing.proofs.put_tally.Statement.{statement}
+use Rattle.listing.proofs.put_tally.Tie as tie
+
+returns : tie.Need-returns
+unfolding tallyText
+returns c =
+    stored-then (stored-then (stored-then (c .before .before .before .before .before .before .before .before .before .before .before .before .before .before .before .put-text .ensures) (c .before .before .before .before .before .before .before .before .before .before .put-decimal .ensures)) (c .before .before .before .before .before .before .put-counts .ensures)) (c .before .before .put-byte .ensures)
+
+pub put-tally-spec : {M : Type 1} → statement M
+put-tally-spec =
+    tie.close
+    (tie.spec (λ c. search needs) (λ c κs. search needs) (λ c. search needs) (λ c κs. search needs) (λ c κs. search needs)
+    (λ c κs. search needs) (λ c. search needs) returns)

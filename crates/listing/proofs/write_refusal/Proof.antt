@@ -1,0 +1,16 @@
+use Rattle.listing.specs.Listing.{refusalOf}
+use Rattle.listing.proofs.Stores.{stored-then, shows}
+use borrow.Author.Needs.{needs}
+use Rattle.listing.proofs.write_refusal.Statement.{statement}
+use Rattle.listing.proofs.write_refusal.Tie as tie
+
+returns : tie.Need-returns
+unfolding refusalOf
+returns c =
+    shows (stored-then (stored-then (c .before .before .before .before .before .before .before .before .before .before .before .put-text .ensures) (c .before .before .before .before .before .before .before .put-decimal .ensures)) (c .before .before .before .put-byte .ensures)) (c .answer .ensures)
+
+pub write-refusal-spec : {M : Type 1} → statement M
+write-refusal-spec =
+    tie.close
+    (tie.spec (λ c. search needs) (λ c κs. search needs) (λ c κs. search needs) (λ c κs. search needs) (λ c κs. search needs)
+    (λ c. search needs) returns)

@@ -1,0 +1,5 @@
+pub mod Text
+pub mod Stored
+pub mod Filters
+pub mod Listing
+pub mod Answer

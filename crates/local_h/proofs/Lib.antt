@@ -1,0 +1,4 @@
+pub mod Ordered
+pub mod Coordinate
+pub mod Bases
+pub mod Indexing

@@ -1,0 +1,48 @@
+-- A place below n that is hit: the guard that it is below n tells nothing where m is. Assumes nothing.
+use mathlib.Core.Path.{_≡_, refl, sym, ap, _∙_}
+use mathlib.Core.Bool.{Bool, true, false, _&&_}
+use mathlib.Core.List.{List}
+use Prim.Native.Nat.{ℕ, _≤_, _<_}
+use native.Mathlib.Omega.{arith}
+use native.Mathlib.Decide.{ℕ-discrete}
+use Prim.{Dec, yes, no}
+use lib.Dec.{eqb, ltb}
+use borrow.Author.Tests.{lt-ltb, le-ltb, eq-eqb, ne-eqb}
+use lib.ListN.{getD, replicate}
+use Rattle.folds.specs.Below.{some, some-ext, some-no, and-false}
+use Rattle.folds.specs.Column.{column, column-ext, column-at}
+use Rattle.folds.specs.Marked.{bit, Marked, marked-column}
+use Rattle.marks.specs.Arrays.{isSet, setFor}
+
+pub guard : (a m n : ℕ) → m < n → ltb a n && eqb a m ≡ eqb a m
+guard a m n h = elim (ℕ-discrete a m) [ yes e ↦ rw (lt-ltb a n (omega arith)) | no f ↦ rw (ne-eqb a m f) (and-false (ltb a n)) ]
+
+pub past : (a m n : ℕ) → n ≤ m → ltb a n && eqb a m ≡ false
+past a m n h = elim (ℕ-discrete a m) [ yes e ↦ rw (le-ltb a n (omega arith)) | no f ↦ rw (ne-eqb a m f) (and-false (ltb a n)) ]
+
+-- marks set in an array of zeros, as a column of a plainer test
+pub marked-as-column : (hit test : ℕ → Bool) (size n : ℕ) {b : List ℕ} → n ≤ size → ((m : ℕ) → n ≤ m → hit m ≡ false) → ((m : ℕ) → m < n → hit m ≡ test m)
+    → Marked hit (replicate size 0) b → b ≡ column size 0 n (λ (m : ℕ). bit (test m))
+marked-as-column hit test size n h none same r =
+    marked-column hit size n h none r ∙ column-ext size 0 n (λ (m : ℕ). bit (hit m)) (λ (m : ℕ). bit (test m)) (λ m l. ap bit (same m l))
+
+-- the same, where each k hits some places
+pub each-as-column : (hits tests : ℕ → ℕ → Bool) (size n : ℕ) {b : List ℕ} → n ≤ size → ((k m : ℕ) → k < n → n ≤ m → hits k m ≡ false) → ((k m : ℕ) → k < n → m < n → hits k m ≡ tests k m)
+    → Marked (λ (m : ℕ). some (λ (k : ℕ). hits k m) n) (replicate size 0) b → b ≡ column size 0 n (λ (m : ℕ). bit (some (λ (k : ℕ). tests k m) n))
+each-as-column hits tests size n h none same r =
+    marked-as-column (λ (m : ℕ). some (λ (k : ℕ). hits k m) n) (λ (m : ℕ). some (λ (k : ℕ). tests k m) n) size n h
+    (λ m l. some-no (λ (k : ℕ). hits k m) n (λ k g. none k m g l))
+    (λ m l. some-ext (λ (k : ℕ). hits k m) (λ (k : ℕ). tests k m) n (λ k g. same k m g l)) r
+
+bit-set : (b : Bool) → eqb (bit b) 1 ≡ b
+bit-set true = refl
+bit-set false = refl
+
+-- a column of marks is read as its test
+pub set-is : (size n : ℕ) (t : ℕ → Bool) (mark : List ℕ) → mark ≡ column size 0 n (λ (k : ℕ). bit (t k)) → (k : ℕ) → k < n → isSet mark k ≡ t k
+set-is size n t mark e k h = rw (e, column-at size 0 n (λ (k : ℕ). bit (t k)) k h) (bit-set (t k))
+
+-- and what is gathered of it by key is what the test says of the key
+pub set-for : (size n : ℕ) (t : ℕ → Bool) (keys mark : List ℕ) → mark ≡ column size 0 n (λ (k : ℕ). bit (t k)) → (m : ℕ) → setFor keys mark n m ≡ some (λ (k : ℕ). t k && eqb (getD keys k 0) m) n
+set-for size n t keys mark e m =
+    some-ext (λ (k : ℕ). isSet mark k && eqb (getD keys k 0) m) (λ (k : ℕ). t k && eqb (getD keys k 0) m) n (λ k h. rw (set-is size n t mark e k h))

@@ -1,0 +1,2 @@
+pub mod WrongLabel
+pub mod Ready
