@@ -1,0 +1,128 @@
+-- What a base is, and the residual that it gives. Assumes nothing.
+use mathlib.Core.Path.{_≡_, refl, sym, ap}
+use mathlib.Core.Bool.{Bool, true, false, not, cond, _&&_}
+use mathlib.Core.List.{List, []}
+use Prim.Native.Nat.{ℕ, zero, suc, _+_, _-_, _*_, _≤_, _<_}
+use Prim.{Dec, yes, no}
+use native.Mathlib.Decide.{decLt}
+use native.Mathlib.Omega.{arith}
+use lib.Dec.{ltb}
+use lib.ListN.{getD}
+use lib.Ieee.{Float}
+use borrow.Author.Tests.{ltb-true, lt-ltb, le-ltb, not-true}
+use Rattle.folds.specs.Below.{firstIn, first, first-before, first-holds, and-left, and-right}
+use Rattle.view.specs.View.{View, viewAt}
+use Rattle.local_h.specs.declared.Base.{Base}
+use Rattle.local_h.specs.declared.Residual.the-variants.{NoFit}
+use Rattle.local_h.specs.Order.{offsetAt, sortKey}
+use Rattle.local_h.specs.Base.{memberAt, onLine, isOther, isFourth, baseOf}
+use Rattle.local_h.specs.Residual.{residualOf, residualAt}
+use Rattle.local_h.proofs.Ordered.{offsets-rise}
+
+firstIn-from : (p : ℕ → Bool) (m i : ℕ) → i ≤ firstIn p m i
+unfolding firstIn
+firstIn-from p zero i = omega arith
+firstIn-from p (suc m) i = go (p i) (firstIn-from p m (i + 1))
+  where
+    go : (b : Bool) → i + 1 ≤ firstIn p m (i + 1) → i ≤ cond b i (firstIn p m (i + 1))
+    go true h = omega arith
+    go false h = omega arith
+
+-- the first from i on is not before i
+first-from : (p : ℕ → Bool) (i n : ℕ) → i ≤ first p i n
+unfolding first
+first-from p i n = firstIn-from p (n - i) i
+
+-- Four places of the order, rising, with points of other indices that are not all on one lattice line. Of the places before the third only
+-- the first and the second have such points, and of those between the third and the fourth none would have served.
+pub record Four (w : View) (k : ℕ) (b : Base) : Type 0 where
+  pub first-second : b .a < b .b
+  pub second-third : b .b < b .c
+  pub third-fourth : b .c < b .d
+  pub within : b .d < 24
+  pub one : isOther w k (b .a) ≡ true
+  pub two : isOther w k (b .b) ≡ true
+  pub three : isOther w k (b .c) ≡ true
+  pub four : isOther w k (b .d) ≡ true
+  pub off-line : onLine (offsetAt (b .a)) (offsetAt (b .b)) (offsetAt (b .c)) && onLine (offsetAt (b .a)) (offsetAt (b .b)) (offsetAt (b .d)) ≡ false
+  pub no-other : (p : ℕ) → p < b .c → (p ≡ b .a → ⊥) → (p ≡ b .b → ⊥) → isOther w k p ≡ false
+  pub no-fourth : (p : ℕ) → b .c < p → p < b .d → isFourth w k (b .a) (b .b) (b .c) p ≡ false
+
+-- "Three are taken; the fourth is the next that leaves the four not all on one lattice line."
+module _ (w : View) (k : ℕ) where
+  pub base-four : baseOf w k .d < 24 → Four w k (baseOf w k)
+  unfolding baseOf isFourth
+  base-four h = record {
+    first-second = omega (arith, bc, cd, ab);
+    second-third = omega (arith, bc);
+    third-fourth = omega (arith, cd);
+    within = h;
+    one = first-holds (isOther w k) 0 24 (omega (arith, ab, bc, cd));
+    two = first-holds (isOther w k) (a + 1) 24 (omega (arith, bc, cd));
+    three = first-holds (isOther w k) (b + 1) 24 (omega (arith, cd));
+    four = and-left (isOther w k d) (not (straight d)) (serves d (first-holds (isFourth w k a b c) (c + 1) 24 h));
+    off-line = not-true (straight d) (and-right (isOther w k d) (not (straight d)) (serves d (first-holds (isFourth w k a b c) (c + 1) 24 h)));
+    no-other = λ p l na nb. between p l na nb (decLt p a) (decLt p b);
+    no-fourth = λ p l m. first-before (isFourth w k a b c) (c + 1) 24 p (omega arith) m;
+  }
+    where
+      a : ℕ
+      a = first (isOther w k) 0 24
+
+      b : ℕ
+      b = first (isOther w k) (a + 1) 24
+
+      c : ℕ
+      c = first (isOther w k) (b + 1) 24
+
+      d : ℕ
+      d = first (isFourth w k a b c) (c + 1) 24
+
+      ab : a + 1 ≤ b
+      ab = first-from (isOther w k) (a + 1) 24
+
+      bc : b + 1 ≤ c
+      bc = first-from (isOther w k) (b + 1) 24
+
+      cd : c + 1 ≤ d
+      cd = first-from (isFourth w k a b c) (c + 1) 24
+
+      straight : ℕ → Bool
+      straight p = onLine (offsetAt a) (offsetAt b) (offsetAt c) && onLine (offsetAt a) (offsetAt b) (offsetAt p)
+
+      serves : (p : ℕ) → isFourth w k a b c p ≡ true → isOther w k p && not (straight p) ≡ true
+      serves p e = e
+
+      between : (p : ℕ) → p < c → (p ≡ a → ⊥) → (p ≡ b → ⊥) → Dec (p < a) → Dec (p < b) → isOther w k p ≡ false
+      between p l na nb (yes m) q = first-before (isOther w k) 0 24 p (omega arith) m
+      between p l na nb (no f) (yes m) = first-before (isOther w k) (a + 1) 24 p (omega (arith, f, na)) m
+      between p l na nb (no f) (no g) = first-before (isOther w k) (b + 1) 24 p (omega (arith, g, nb)) l
+
+  pub four-of : (b : Base) → b ≡ baseOf w k → b .d < 24 → Four w k b
+  four-of b e h = rw e (base-four (rw e at h))
+
+  -- the four cells are distinct: their offsets rise in the order
+  pub base-distinct : (b : Base) → Four w k b
+      → (sortKey (offsetAt (b .a)) < sortKey (offsetAt (b .b))) × (sortKey (offsetAt (b .b)) < sortKey (offsetAt (b .c))) × (sortKey (offsetAt (b .c)) < sortKey (offsetAt (b .d)))
+  base-distinct b f = (
+    offsets-rise (b .a) (b .b) (f .first-second) (omega (arith, f .second-third, f .third-fourth, f .within)),
+    offsets-rise (b .b) (b .c) (f .second-third) (omega (arith, f .third-fourth, f .within)),
+    offsets-rise (b .c) (b .d) (f .third-fourth) (f .within),
+  )
+
+  -- a place with a point of another index has a rank
+  pub other-rank : (p : ℕ) → isOther w k p ≡ true → memberAt w k p < w .count
+  unfolding isOther
+  other-rank p e = ltb-true (memberAt w k p) (w .count) (and-left (ltb (memberAt w k p) (w .count)) _ e)
+
+-- the residual, from a base
+module _ (n : ℕ) (near row column byIdx : List ℕ) (xs ys : List Float) (key : ℕ → ℕ) (k : ℕ) (b : Base) (e : b ≡ baseOf (viewAt n near row column byIdx xs ys) k) where
+  pub fitted : {i j l m : ℕ} → b .d < 24
+      → i ≡ getD near (25 * k + offsetAt (b .a)) 0 → j ≡ getD near (25 * k + offsetAt (b .b)) 0 → l ≡ getD near (25 * k + offsetAt (b .c)) 0 → m ≡ getD near (25 * k + offsetAt (b .d)) 0
+      → residualOf (viewAt 0 [] [] [] [] xs ys) key k i j l m ≡ residualAt (viewAt n near row column byIdx xs ys) key k
+  unfolding residualAt residualOf
+  fitted h p q r s = rw (← e, lt-ltb (b .d) 24 h, ← p, ← q, ← r, ← s)
+
+  pub unfitted : 24 ≤ b .d → NoFit ≡ residualAt (viewAt n near row column byIdx xs ys) key k
+  unfolding residualAt
+  unfitted h = rw (← e, le-ltb (b .d) 24 h)

@@ -1,0 +1,5 @@
+pub mod Ordered
+pub mod Coordinate
+pub mod Bases
+pub mod Indexing
+pub mod Worked

@@ -1,0 +1,32 @@
+use Prim.Native.Nat.{ℕ, _-_, _≤_}
+use mathlib.Core.Path.{_≡_, refl}
+use native.Mathlib.Omega.{arith}
+use lib.ListN.{getD, length-replicate, replicate}
+use Rattle.folds.specs.Column.{Filling, fill-start, fill-more, filled}
+use Rattle.view.specs.View.{maxPoints}
+use lib.Dec.{ltb}
+use Rattle.folds.specs.Marked.{bit}
+use borrow.Author.Needs.{needs}
+use Rattle.local_h.proofs.by_index.present.Statement.{statement}
+use Rattle.local_h.proofs.by_index.present.Tie as tie
+
+abbrev Inv-loop : tie.InvT-loop
+Inv-loop ranks n out₀ k₀ out k = (k ≤ n) × Filling (replicate maxPoints 0) 0 (λ (k : ℕ). bit (ltb (getD ranks k 0) n)) k out
+
+abbrev μ-loop : tie.MeasureT-loop
+μ-loop ranks n out₀ k₀ out k = n - k
+
+loop-holds : tie.Need-loop-holds Inv-loop μ-loop
+loop-holds c = (omega arith, fill-start (replicate maxPoints 0) 0 _)
+
+loop-again : tie.Need-loop-again Inv-loop μ-loop
+loop-again c = (omega arith, fill-more (replicate maxPoints 0) 0 _ _ (omega (arith, length-replicate {A = ℕ} maxPoints 0)) (rw (c .is-rank .ensures, c .before .wide .ensures)) (c .before .before .before .before .loop .inv .1))
+
+returns : tie.Need-returns Inv-loop μ-loop
+returns c = let h : c .before .loop .k ≡ c .before .before .args .n = omega arith in filled _ (omega arith) (rw h at (c .before .loop .inv .1))
+
+pub present-spec : {M : Type 1} → statement M
+present-spec =
+    tie.close
+    (tie.spec Inv-loop μ-loop loop-holds (λ c. search needs) (λ c. search needs) (λ c κs. search needs) (λ c κs. search needs) (λ c. search needs)
+    (λ c. search needs) (λ c. search needs) loop-again returns)

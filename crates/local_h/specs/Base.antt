@@ -1,0 +1,37 @@
+-- The base of a corner. "Three are taken; the fourth is the next that leaves the four not all on one lattice line." Assumes nothing.
+use mathlib.Core.Bool.{Bool, not, _&&_}
+use Prim.Native.Nat.{ℕ, _+_, _*_, _/_, _%_}
+use lib.Dec.{eqb, ltb}
+use Rattle.folds.specs.Below.{first}
+use Rattle.view.specs.View.{View, rankAt, alike}
+use Rattle.local_h.specs.Order.{offsetAt}
+use Rattle.local_h.specs.declared.Base.{Base}
+
+-- u of offset a times v of offset b, each plus 2
+abbrev pub times : ℕ → ℕ → ℕ
+times a b = (a / 5) * (b % 5)
+
+-- three offsets on one lattice line: the area of their triangle is 0
+unfoldable pub onLine : ℕ → ℕ → ℕ → Bool
+onLine a b c = eqb (times a b + times b c + times c a) (times b a + times c b + times a c)
+
+module _ (w : View) where
+  -- the rank at place p of the order round rank k
+  abbrev pub memberAt : ℕ → ℕ → ℕ
+  memberAt k p = rankAt w k (offsetAt p)
+
+  -- "cells with the corner's own index are skipped": there is a point at place p, with another index
+  unfoldable pub isOther : ℕ → ℕ → Bool
+  isOther k p = ltb (memberAt k p) (w .count) && not (alike w (memberAt k p) k)
+
+  -- place p serves as the fourth, after the places a, b and c
+  unfoldable pub isFourth : ℕ → ℕ → ℕ → ℕ → ℕ → Bool
+  isFourth k a b c p = isOther k p && not (onLine (offsetAt a) (offsetAt b) (offsetAt c) && onLine (offsetAt a) (offsetAt b) (offsetAt p))
+
+  -- the base of rank k, by places in the order; a place of 24 or more is none, and then so are those after it
+  unfoldable pub baseOf : ℕ → Base
+  baseOf k =
+      let a = first (isOther k) 0 24 in
+      let b = first (isOther k) (a + 1) 24 in
+      let c = first (isOther k) (b + 1) 24 in
+      record { a = a; b = b; c = c; d = first (isFourth k a b c) (c + 1) 24 }

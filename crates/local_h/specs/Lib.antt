@@ -1,0 +1,5 @@
+pub mod Order
+pub mod Base
+pub mod Places
+pub mod Residual
+pub mod ByIndex

@@ -1,0 +1,407 @@
+// The residual of each corner: how far the map fitted to its nearest neighbours takes its cell from where it is seen.
+use homography::Fit;
+use homography::Point;
+use view::MAX_POINTS;
+use view::NEAR_SIZE;
+ghost use mathlib.Core.Path.{_≡_};
+ghost use mathlib.Core.List.{List, []};
+ghost use Prim.Native.Nat.{ℕ, _+_, _*_, _≤_, _<_};
+ghost use lib.ListN.{getD};
+ghost use lib.Ieee.{Float, nan};
+ghost use Rattle.folds.specs.Marked.{bit};
+ghost use Rattle.view.specs.View.{maxPoints, viewAt};
+ghost use Rattle.local_h.specs.Order.{offsetAt};
+ghost use Rattle.local_h.specs.Base.{times, onLine, isOther, isFourth, baseOf};
+ghost use Rattle.local_h.specs.Places.{Next, Ranks, Indexed};
+ghost use Rattle.local_h.specs.Residual.{coordinate, cellPoint, residualBy, residualOf, residualAt};
+ghost use Rattle.local_h.specs.ByIndex.{hasValue, valueOf, exceeds, isHigh, cellColumns, indexColumns};
+
+mod by_index;
+
+// The base of a corner, by places in the order of the 24 cells round it. A place of 24 or more is none, and then so are those after it.
+pub struct Base {
+    pub a: usize,
+    pub b: usize,
+    pub c: usize,
+    pub d: usize,
+}
+
+// A residual, or the finding that no fit exists.
+pub enum Residual {
+    Value(f32),
+    NoFit,
+}
+
+// Nearest first, then by smaller dv, then by smaller du: offset (du, dv) is 5 * (du + 2) + (dv + 2).
+const ORDER: [u8; 24] = [
+    11,
+    7,
+    17,
+    13,
+    6,
+    16,
+    8,
+    18,
+    10,
+    2,
+    22,
+    14,
+    5,
+    15,
+    1,
+    21,
+    3,
+    23,
+    9,
+    19,
+    0,
+    20,
+    4,
+    24,
+];
+
+fn small(x: u8) -> usize
+    ensures { λ r. ⌜ r ≡ x ⌝ }
+{
+    x as usize
+}
+
+fn offset_at(p: usize) -> usize
+    requires { ⌜ p < 24 ⌝ }
+    ensures { λ r. ⌜ (r ≡ offsetAt p) × (r < 25) ⌝ }
+{
+    small(ORDER[p])
+}
+
+// The rank at place p of the order round rank k; a number of points or more is none.
+pub fn member(near: &[u16; NEAR_SIZE], k: usize, p: usize) -> usize
+    requires { ⌜ (k < maxPoints) × (p < 24) ⌝ }
+    ensures { λ r. ⌜ r ≡ getD (now (near .entry)) (25 * k + offsetAt p) 0 ⌝ }
+{
+    view::wide(near[25 * k + offset_at(p)])
+}
+
+fn is_other(
+    near: &[u16; NEAR_SIZE],
+    by_idx: &[u16; MAX_POINTS],
+    n: usize,
+    k: usize,
+    p: usize,
+) -> bool
+    requires { ⌜ (n ≤ maxPoints) × (k < n) × (p < 24) ⌝ }
+    ensures { λ r. ⌜ r ≡ isOther (viewAt n (now (near .entry)) [] [] (now («by_idx» .entry)) [] []) k p ⌝ }
+{
+    let j = member(near, k, p);
+    if j < n {
+        return by_idx[j] != by_idx[k];
+    }
+    false
+}
+
+fn product(a: usize, b: usize) -> usize
+    requires { ⌜ (a < 25) × (b < 25) ⌝ }
+    ensures { λ r. ⌜ (r ≡ times a b) × (r ≤ 16) ⌝ }
+{
+    (a / 5) * (b % 5)
+}
+
+fn on_line(a: usize, b: usize, c: usize) -> bool
+    requires { ⌜ (a < 25) × (b < 25) × (c < 25) ⌝ }
+    ensures { λ r. ⌜ r ≡ onLine a b c ⌝ }
+{
+    product(a, b) + product(b, c) + product(c, a) == product(b, a) + product(c, b) + product(a, c)
+}
+
+// The first place from p on with a point of another index.
+fn next_other(
+    near: &[u16; NEAR_SIZE],
+    by_idx: &[u16; MAX_POINTS],
+    n: usize,
+    k: usize,
+    p: usize,
+) -> usize
+    requires { ⌜ (n ≤ maxPoints) × (k < n) × (p < 100) ⌝ }
+    ensures { λ r. ⌜ Next (isOther (viewAt n (now (near .entry)) [] [] (now («by_idx» .entry)) [] []) k) p r ⌝ }
+{
+    let mut i = p;
+    while i < 24 {
+        if is_other(near, by_idx, n, k, i) {
+            return i;
+        }
+        i += 1;
+    }
+    i
+}
+
+fn is_fourth(
+    near: &[u16; NEAR_SIZE],
+    by_idx: &[u16; MAX_POINTS],
+    n: usize,
+    k: usize,
+    a: usize,
+    b: usize,
+    c: usize,
+    p: usize,
+) -> bool
+    requires { ⌜ (n ≤ maxPoints) × (k < n) × (a < 24) × (b < 24) × (c < 24) × (p < 24) ⌝ }
+    ensures { λ r. ⌜ r ≡ isFourth (viewAt n (now (near .entry)) [] [] (now («by_idx» .entry)) [] []) k a b c p ⌝ }
+{
+    if is_other(near, by_idx, n, k, p) {
+        let e = offset_at(a);
+        let f = offset_at(b);
+        if on_line(e, f, offset_at(c)) {
+            return !on_line(e, f, offset_at(p));
+        }
+        return true;
+    }
+    false
+}
+
+// The first place after c that is not on one line with a, b and c.
+fn next_fourth(
+    near: &[u16; NEAR_SIZE],
+    by_idx: &[u16; MAX_POINTS],
+    n: usize,
+    k: usize,
+    a: usize,
+    b: usize,
+    c: usize,
+) -> usize
+    requires { ⌜ (n ≤ maxPoints) × (k < n) × (a < b) × (b < c) × (c < 100) ⌝ }
+    ensures { λ r. ⌜ Next (isFourth (viewAt n (now (near .entry)) [] [] (now («by_idx» .entry)) [] []) k a b c) (c + 1) r ⌝ }
+{
+    let mut p = c + 1;
+    while p < 24 {
+        if is_fourth(near, by_idx, n, k, a, b, c, p) {
+            return p;
+        }
+        p += 1;
+    }
+    p
+}
+
+// The base of rank k.
+pub fn pick_local_h_base(
+    near: &[u16; NEAR_SIZE],
+    by_idx: &[u16; MAX_POINTS],
+    n: usize,
+    k: usize,
+) -> Base
+    requires { ⌜ (n ≤ maxPoints) × (k < n) ⌝ }
+    ensures { λ r. ⌜ ((row column : List ℕ) (xs ys : List Float) → r ≡ baseOf (viewAt n (now (near .entry)) row column (now («by_idx» .entry)) xs ys) k) ⌝ }
+{
+    let a = next_other(near, by_idx, n, k, 0);
+    let b = next_other(near, by_idx, n, k, a + 1);
+    let c = next_other(near, by_idx, n, k, b + 1);
+    let d = next_fourth(near, by_idx, n, k, a, b, c);
+    Base {
+        a: a,
+        b: b,
+        c: c,
+        d: d,
+    }
+}
+
+// b - 8003 as f32.
+fn coordinate_of(b: u32) -> f32
+    requires { ⌜ b < 262144 ⌝ }
+    ensures { λ r. ⌜ r ≡ coordinate b ⌝ }
+{
+    if b < 8003 {
+        return -((8003 - b) as f32);
+    }
+    (b - 8003) as f32
+}
+
+fn cell_point(key: u32) -> Point
+    ensures { λ r. ⌜ r ≡ cellPoint key ⌝ }
+{
+    Point {
+        x: coordinate_of(key / 16384),
+        y: coordinate_of(key % 16384),
+    }
+}
+
+// How far the map takes p from q.
+fn residual_by(fit: Fit, p: Point, q: Point) -> Residual
+    ensures { λ r. ⌜ r ≡ residualBy fit p q ⌝ }
+{
+    match fit {
+        Fit::Found(h) => {
+            let s = homography::apply(h, p);
+            Residual::Value(float::norm(s.x - q.x, s.y - q.y))
+        }
+        Fit::NoFit => Residual::NoFit,
+    }
+}
+
+// The residual of rank k by the ranks i, j, l and m.
+fn residual_of(
+    keys: &[u32; MAX_POINTS],
+    x: &[f32; MAX_POINTS],
+    y: &[f32; MAX_POINTS],
+    k: usize,
+    i: usize,
+    j: usize,
+    l: usize,
+    m: usize,
+) -> Residual
+    requires { ⌜ Ranks k i j l m ⌝ }
+    ensures { λ r. ⌜ r ≡ residualOf (viewAt 0 [] [] [] [] (now (x .entry)) (now (y .entry))) (λ (j : ℕ). getD (now (keys .entry)) j 0) k i j l m ⌝ }
+{
+    let cells = [
+        cell_point(keys[i]),
+        cell_point(keys[j]),
+        cell_point(keys[l]),
+        cell_point(keys[m]),
+    ];
+    let seen = [
+        Point { x: x[i], y: y[i] },
+        Point { x: x[j], y: y[j] },
+        Point { x: x[l], y: y[l] },
+        Point { x: x[m], y: y[m] },
+    ];
+    let fit = homography::homography_from_4pt(cells, seen);
+    residual_by(fit, cell_point(keys[k]), Point { x: x[k], y: y[k] })
+}
+
+// The residual of rank k.
+pub fn local_h_residual(
+    near: &[u16; NEAR_SIZE],
+    by_idx: &[u16; MAX_POINTS],
+    keys: &[u32; MAX_POINTS],
+    x: &[f32; MAX_POINTS],
+    y: &[f32; MAX_POINTS],
+    n: usize,
+    k: usize,
+) -> Residual
+    requires { ⌜ (n ≤ maxPoints) × (k < n) ⌝ }
+    ensures { λ r. ⌜ ((row column : List ℕ) → r ≡ residualAt (viewAt n (now (near .entry)) row column (now («by_idx» .entry)) (now (x .entry)) (now (y .entry))) (λ (j : ℕ). getD (now (keys .entry)) j 0) k) ⌝ }
+{
+    let b = pick_local_h_base(near, by_idx, n, k);
+    if b.d < 24 {
+        let i = member(near, k, b.a);
+        let j = member(near, k, b.b);
+        let l = member(near, k, b.c);
+        let m = member(near, k, b.d);
+        return residual_of(keys, x, y, k, i, j, l, m);
+    }
+    Residual::NoFit
+}
+
+// For each rank: whether there is a residual, and which, or 0; whether it is over the tolerance, and over twice the tolerance.
+pub struct Residuals {
+    pub has: [u8; MAX_POINTS],
+    pub value: [f32; MAX_POINTS],
+    pub over: [u8; MAX_POINTS],
+    pub high: [u8; MAX_POINTS],
+}
+
+fn has_value(r: Residual) -> u8
+    ensures { λ s. ⌜ s ≡ bit (hasValue r) ⌝ }
+{
+    match r {
+        Residual::Value(_) => 1,
+        Residual::NoFit => 0,
+    }
+}
+
+fn value_of(r: Residual) -> f32
+    ensures { λ s. ⌜ s ≡ valueOf r ⌝ }
+{
+    match r {
+        Residual::Value(x) => x,
+        Residual::NoFit => 0.0,
+    }
+}
+
+fn exceeds_limit(limit: f32, r: Residual) -> bool
+    ensures { λ s. ⌜ s ≡ exceeds limit r ⌝ }
+{
+    match r {
+        Residual::Value(x) => limit < x,
+        Residual::NoFit => false,
+    }
+}
+
+fn over_tolerance(limit: f32, r: Residual) -> u8
+    ensures { λ s. ⌜ s ≡ bit (exceeds limit r) ⌝ }
+{
+    if exceeds_limit(limit, r) { 1 } else { 0 }
+}
+
+fn over_twice(limit: f32, r: Residual) -> u8
+    ensures { λ s. ⌜ s ≡ bit (isHigh limit r) ⌝ }
+{
+    if exceeds_limit(limit, r) {
+        return over_tolerance(2.0 * limit, r);
+    }
+    0
+}
+
+// The residual of each rank, and its flags: the tolerance times the scale of the rank's index is the limit.
+pub fn cell_residuals(
+    near: &[u16; NEAR_SIZE],
+    by_idx: &[u16; MAX_POINTS],
+    keys: &[u32; MAX_POINTS],
+    x: &[f32; MAX_POINTS],
+    y: &[f32; MAX_POINTS],
+    scale: &[f32; MAX_POINTS],
+    n: usize,
+    tolerance: f32,
+) -> Residuals
+    requires { ⌜ n ≤ maxPoints ⌝ }
+    ensures { λ r. ⌜ ((row column : List ℕ) → r ≡ cellColumns (viewAt n (now (near .entry)) row column (now («by_idx» .entry)) (now (x .entry)) (now (y .entry))) (λ (j : ℕ). getD (now (keys .entry)) j 0) (λ (j : ℕ). getD (now (scale .entry)) j nan) tolerance) ⌝ }
+{
+    let none: f32 = 0.0 / 0.0;
+    let mut has = [0u8; MAX_POINTS];
+    let mut value = [none; MAX_POINTS];
+    let mut over = [0u8; MAX_POINTS];
+    let mut high = [0u8; MAX_POINTS];
+    let mut k = 0;
+    while k < n {
+        let r = local_h_residual(near, by_idx, keys, x, y, n, k);
+        let limit = tolerance * scale[k];
+        has[k] = has_value(r);
+        value[k] = value_of(r);
+        over[k] = over_tolerance(limit, r);
+        high[k] = over_twice(limit, r);
+        k += 1;
+    }
+    Residuals {
+        has: has,
+        value: value,
+        over: over,
+        high: high,
+    }
+}
+
+// For each rank what its index has: the residual of the index's last cell that has one, and the flags of any of its cells.
+pub fn index_residuals(
+    near: &[u16; NEAR_SIZE],
+    by_idx: &[u16; MAX_POINTS],
+    keys: &[u32; MAX_POINTS],
+    x: &[f32; MAX_POINTS],
+    y: &[f32; MAX_POINTS],
+    scale: &[f32; MAX_POINTS],
+    n: usize,
+    tolerance: f32,
+) -> Residuals
+    requires { ⌜ Indexed n (now «by_idx») ⌝ }
+    ensures { λ r. ⌜ ((row column : List ℕ) → r ≡ indexColumns (viewAt n (now (near .entry)) row column (now («by_idx» .entry)) (now (x .entry)) (now (y .entry))) (λ (j : ℕ). getD (now (keys .entry)) j 0) (λ (j : ℕ). getD (now (scale .entry)) j nan) tolerance) ⌝ }
+{
+    let cells = cell_residuals(near, by_idx, keys, x, y, scale, n, tolerance);
+    let has = cells.has;
+    let value = cells.value;
+    let over = cells.over;
+    let high = cells.high;
+    let fits = by_index::last_marked(&has, by_idx, n);
+    let overs = by_index::last_marked(&over, by_idx, n);
+    let highs = by_index::last_marked(&high, by_idx, n);
+    Residuals {
+        has: by_index::present(&fits, n),
+        value: by_index::values(&fits, &value, n),
+        over: by_index::present(&overs, n),
+        high: by_index::present(&highs, n),
+    }
+}
