@@ -1,2 +1,3 @@
 pub mod Validate
 pub mod Ready
+pub mod Stages

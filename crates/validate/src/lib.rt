@@ -59,7 +59,17 @@ fn by_rules(
 {
     let steps = step::steps(near, by_idx, x, y, n, s.use_step_aware);
     let scales = step::scales(by_idx, &steps, n, s.cell_size);
-    let flags = lines::line_flags(row, column, by_idx, x, y, &scales, n, s.line_tol_rel, s.line_min_members);
+    let flags = lines::line_flags(
+        row,
+        column,
+        by_idx,
+        x,
+        y,
+        &scales,
+        n,
+        s.line_tol_rel,
+        s.line_min_members,
+    );
     let r = local_h::index_residuals(near, by_idx, keys, x, y, &scales, n, s.local_h_tol_rel);
     let has = r.has;
     let value = r.value;
@@ -122,7 +132,11 @@ fn mark_with(marked: u8, reason: Reason) -> u8
     if marked == 1 {
         return 1;
     }
-    if edge_shape::reason_number(reason) == 0 { 0 } else { 1 }
+    if edge_shape::reason_number(reason) == 0 {
+        0
+    } else {
+        1
+    }
 }
 
 // Rule 5, beside the others.
