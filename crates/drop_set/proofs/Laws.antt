@@ -1,12 +1,12 @@
 -- Marks are 0 or 1, and what the calls give is what the definitions give. Assumes nothing.
-use mathlib.Core.Path.{_≡_, refl, sym, ap, _∙_}
-use mathlib.Core.Bool.{Bool, true, false, cond, _&&_, true≢false}
+use mathlib.Core.Path.{_≡_, refl, sym}
+use mathlib.Core.Bool.{Bool, true, false, _&&_, true≢false}
 use mathlib.Core.List.{List, []}
 use Prim.Native.Nat.{ℕ, zero, suc, _≤_, _<_}
 use native.Mathlib.Omega.{arith}
 use lib.ListN.{getD, replicate}
 use lib.Ieee.{Float}
-use Rattle.folds.specs.Column.{column, column-at, Filling, filled, replicate-at}
+use Rattle.folds.specs.Column.{column, column-at, filled, replicate-at}
 use Rattle.folds.specs.Marked.{bit, bit-le}
 use Rattle.view.specs.View.{View, viewAt, maxPoints, squareSides}
 use Rattle.orientation.specs.Orientation.{orientationMark, orientationOf}

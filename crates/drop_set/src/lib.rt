@@ -5,14 +5,14 @@ use view::MAX_POINTS;
 use view::NEAR_SIZE;
 ghost use mathlib.Core.Path.{_≡_};
 ghost use mathlib.Core.Bool.{_||_};
-ghost use mathlib.Core.List.{List, []};
-ghost use Prim.Native.Nat.{ℕ, _+_, _*_, _≤_};
+ghost use mathlib.Core.List.{[]};
+ghost use Prim.Native.Nat.{_+_, _*_, _≤_};
 ghost use lib.Dec.{eqb};
 ghost use Rattle.folds.specs.Marked.{bit};
 ghost use Rattle.view.specs.View.{viewAt, maxPoints};
 ghost use Rattle.marks.specs.Arrays.{Ranks};
 ghost use Rattle.wrong_label_filters.specs.Ready.{Ready};
-ghost use Rattle.drop_set.specs.Drops.{Bits, Set, droppedBy, bytesBy, wrongBy, Joined, Given, Dropped};
+ghost use Rattle.drop_set.specs.Drops.{Set, droppedBy, bytesBy, wrongBy, Joined, Given, Dropped};
 
 // The marks of each rank, and how many patches the survivors have.
 pub struct DropSet {

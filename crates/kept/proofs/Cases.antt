@@ -1,13 +1,12 @@
 -- The two cases of the ruling, as the code meets them. Assumes nothing.
-use mathlib.Core.Path.{_≡_, refl, sym, ap, _∙_}
+use mathlib.Core.Path.{_≡_, refl, ap, _∙_}
 use mathlib.Core.List.{List}
-use Prim.Native.Nat.{ℕ, _*_, _≤_, _<_}
+use Prim.Native.Nat.{ℕ, _*_}
 use native.Mathlib.Omega.{arith}
 use lib.ListN.{length}
-use lib.Ieee.{Float}
 use Rattle.folds.specs.Column.{overlaid}
 use Rattle.view.specs.View.{View}
-use Rattle.cells.specs.Points.{Point, keysOf, indicesOf, xsOf, ysOf}
+use Rattle.cells.specs.Points.{Point, keysOf, indicesOf}
 use Rattle.grid.specs.Tables.{byIdxOf}
 use Rattle.grid.specs.Views.{viewOf, view-is}
 use Rattle.sheet_file.specs.Bytes.{Bytes}

@@ -12,7 +12,7 @@ use lib.Ieee.{Float, nan, inf, fin}
 use lib.Ieee.Scale.{finite}
 use borrow.Author.Tests.{eq-eqb, ltb-false}
 use Rattle.folds.specs.Arith.{f32}
-use Rattle.folds.specs.Below.{first, first-before, first-le, last-holds, some-yes}
+use Rattle.folds.specs.Below.{first, first-before, last-holds, some-yes}
 use Rattle.folds.specs.Column.{column-at}
 use Rattle.view.specs.View.{View, viewAt, maxPoints}
 use Rattle.marks.specs.Arrays.{Ranks, Finite}
@@ -23,8 +23,7 @@ use Rattle.sheet_file.specs.Bytes.{Bytes}
 use Rattle.sheet_file.specs.Limit.{outside}
 use Rattle.sheet_file.specs.Frame.{layoutOf}
 use Rattle.sheet_file.specs.declared.Settings.{Settings}
-use Rattle.points.specs.Refusals.{offLimit, cellOrder}
-use Rattle.points.specs.Records.{pointsIn}
+use Rattle.points.specs.Refusals.{offLimit}
 use Rattle.points.specs.Pairs.{none-off}
 use Rattle.points.specs.Rows.{rows-placed}
 use Rattle.points.specs.Table.{points-length, point-at}

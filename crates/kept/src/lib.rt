@@ -1,6 +1,7 @@
 // The call on a sheet file: its rows and counts, or the number of a refusal.
 use edge_shape::Figures;
 use points::Table;
+use ruling::Sheet;
 use sheet_file::EdgeGate;
 use sheet_file::Settings;
 use view::MAX_POINTS;
@@ -9,6 +10,8 @@ ghost use mathlib.Core.Path.{_≡_};
 ghost use lib.ListN.{length};
 ghost use Rattle.view.specs.View.{viewAt};
 ghost use Rattle.grid.specs.Tables.{rowsOf, columnsOf};
+ghost use Rattle.ruling.specs.Ruling.{rulingOf};
+ghost use Rattle.ruling.specs.Sheet.{Ruled};
 ghost use Rattle.validate.specs.Validate.{isGated};
 ghost use Rattle.kept.specs.Answer.{answerOf, rowsAfter};
 ghost use Rattle.kept.specs.Ready.{Indexed, Taken, KeptOf, Written};
@@ -142,12 +145,12 @@ fn keep_points(s: Settings, n: usize, table: Table, rows: &mut [u8]) -> Answer
     })
 }
 
-// Writes the rows of a sheet file's points, 28 bytes each, in cell order, and gives the counts; or the number of a refusal, and writes nothing.
-pub fn keep(file: &[u8], rows: &mut [u8]) -> Answer
+// Writes the rows of a sheet that was read of a file, and gives the counts; or the number of a refusal, and writes nothing.
+pub fn keep_sheet(file: &[u8], sheet: Sheet, rows: &mut [u8]) -> Answer
+    requires { ⌜ Ruled (rulingOf (now file) (length (now rows))) sheet ⌝ }
     ensures answer { λ r. ⌜ r ≡ answerOf (now (file .entry)) (length (now (rows .entry))) ⌝ }
     ensures rows { λ r. ⌜ now (rows .exit) ≡ rowsAfter (now (file .entry)) (now (rows .entry)) ⌝ }
 {
-    let sheet = ruling::read(file, rows.len());
     let settings = sheet.settings;
     let n = sheet.count;
     let table = sheet.table;
@@ -156,4 +159,13 @@ pub fn keep(file: &[u8], rows: &mut [u8]) -> Answer
         return keep_points(settings, n, table, rows);
     }
     Answer::Refused(number)
+}
+
+// The call: the rows of a sheet file's points, 28 bytes each, in cell order, and the counts; or the number of a refusal.
+pub fn keep(file: &[u8], rows: &mut [u8]) -> Answer
+    ensures answer { λ r. ⌜ r ≡ answerOf (now (file .entry)) (length (now (rows .entry))) ⌝ }
+    ensures rows { λ r. ⌜ now (rows .exit) ≡ rowsAfter (now (file .entry)) (now (rows .entry)) ⌝ }
+{
+    let sheet = ruling::read(file, rows.len());
+    keep_sheet(file, sheet, rows)
 }
