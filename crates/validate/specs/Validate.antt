@@ -1,0 +1,88 @@
+-- The validate mark, residuals and edge figures of a sheet, from its settings s, its view w and the keys of its cells: document 01,
+-- "Validate marks". The two switches occur in none of it. Assumes nothing.
+use mathlib.Core.Bool.{Bool, true, false, cond, not, _&&_, _||_}
+use mathlib.Core.List.{List}
+use Prim.Native.Nat.{ℕ}
+use lib.Dec.{eqb}
+use lib.ListN.{getD}
+use lib.Ieee.{Float, nan}
+use Rattle.folds.specs.Column.{column}
+use Rattle.folds.specs.Marked.{bit}
+use Rattle.view.specs.View.{View, maxPoints, squareSides}
+use Rattle.sheet_file.specs.declared.Settings.{Settings}
+use Rattle.sheet_file.specs.declared.EdgeGate.{EdgeGate}
+use Rattle.sheet_file.specs.declared.EdgeGate.the-variants.{Off, On}
+use Rattle.step.specs.Step.{stepAt, scaleAt}
+use Rattle.step.specs.Deviation.{deviates}
+use Rattle.lines.specs.Flags.{flagsAt}
+use Rattle.local_h.specs.ByIndex.{indexColumns}
+use Rattle.local_h.specs.declared.Residuals.{Residuals}
+use Rattle.blame.specs.Marks.{Evidence, evidenceBy, isMarked}
+use Rattle.edge_shape.specs.Figures.{figuresAt, noFigures, reasonNumber}
+use Rattle.edge_shape.specs.declared.Figures.{Figures}
+use Rattle.boxes.specs.Boxes.{boundaryOf}
+
+-- the edge figures of each rank's cell. "Absent means no edge-shape gate."
+abbrev pub figuresBy : EdgeGate → View → List Figures
+figuresBy Off w = column maxPoints noFigures (w .count) (λ (k : ℕ). noFigures)
+figuresBy (On g) w = column maxPoints noFigures (w .count) (figuresAt g w)
+
+-- whether each rank lies on the boundary of the box of its patch of all cells
+abbrev pub boundaryBy : EdgeGate → View → List ℕ → List ℕ
+boundaryBy Off w keys = column maxPoints 0 (w .count) (λ (k : ℕ). 0)
+boundaryBy (On g) w keys = boundaryOf (w .count) (w .near) squareSides keys
+
+abbrev pub isGated : EdgeGate → Bool
+isGated Off = false
+isGated (On g) = true
+
+module _ (s : Settings) (w : View) (keys : List ℕ) where
+  abbrev pub keyAt : ℕ → ℕ
+  keyAt k = getD keys k 0
+
+  -- the local step of each index, at its place
+  unfoldable pub stepsOf : List Float
+  stepsOf = column maxPoints nan (w .count) (stepAt w (s .«use_step_aware»))
+
+  abbrev pub stepOf : ℕ → Float
+  stepOf m = getD stepsOf m nan
+
+  -- the scale of each rank's index
+  unfoldable pub scalesOf : List Float
+  scalesOf = column maxPoints nan (w .count) (scaleAt (w .byIdx) stepOf (s .«cell_size»))
+
+  abbrev pub scaleOf : ℕ → Float
+  scaleOf k = getD scalesOf k nan
+
+  -- the line flags of each index, at its place
+  unfoldable pub flagsOf : List ℕ
+  flagsOf = column maxPoints 0 (w .count) (flagsAt w scaleOf (s .«line_tol_rel») (s .«line_min_members»))
+
+  -- the residual of each rank's index, and whether it is over the tolerance or over twice the tolerance
+  unfoldable pub residualsOf : Residuals
+  residualsOf = indexColumns w keyAt scaleOf (s .«local_h_tol_rel»)
+
+  -- whether the step of each index lies outside the limits
+  unfoldable pub deviationsOf : List ℕ
+  deviationsOf = column maxPoints 0 (w .count) (λ (m : ℕ). bit (deviates stepOf (w .count) (s .«step_deviation_thresh_rel») m))
+
+  -- what rules 1 to 4 go by
+  abbrev pub evidenceOf : Evidence
+  evidenceOf = evidenceBy flagsOf (residualsOf .over) (residualsOf .high) deviationsOf
+
+  unfoldable pub figuresOf : List Figures
+  figuresOf = figuresBy (s .«edge_shape») w
+
+  unfoldable pub boundaryIn : List ℕ
+  boundaryIn = boundaryBy (s .«edge_shape») w keys
+
+  -- "(5) an edge reason": that of the winning entry of rank k's index
+  abbrev pub hasReason : ℕ → Bool
+  hasReason k = not (eqb (reasonNumber (getD figuresOf (w .byIdx k) noFigures .reason)) 0)
+
+  -- the validate mark of rank k's index
+  unfoldable pub validateMark : ℕ → Bool
+  validateMark k = isMarked w evidenceOf (w .byIdx k) || hasReason k
+
+  unfoldable pub validateMarks : List ℕ
+  validateMarks = column maxPoints 0 (w .count) (λ (k : ℕ). bit (validateMark k))
