@@ -1,0 +1,2 @@
+pub mod Chain
+pub mod Cases

@@ -1,0 +1,108 @@
+-- The arrays of a sheet's points in cell order, and that they are as the tables and the filters ask. Assumes nothing.
+use mathlib.Core.Path.{_≡_, refl, sym, ap, _∙_}
+use mathlib.Core.Bool.{Bool, true, false, _||_, true≢false}
+use mathlib.Core.List.{List}
+use Prim.{Dec, yes, no}
+use Prim.Native.Nat.{ℕ, _*_, _/_, _%_, _≤_, _<_}
+use native.Mathlib.Decide.{decLt}
+use native.Mathlib.Omega.{arith}
+use lib.Dec.{T, eqb}
+use lib.ListN.{length, getD}
+use lib.Ieee.{Float, nan, inf, fin}
+use lib.Ieee.Scale.{finite}
+use borrow.Author.Tests.{eq-eqb, ltb-false}
+use Rattle.folds.specs.Arith.{f32}
+use Rattle.folds.specs.Below.{first, first-before, first-le, last-holds, some-yes}
+use Rattle.folds.specs.Column.{column-at}
+use Rattle.view.specs.View.{View, viewAt, maxPoints}
+use Rattle.marks.specs.Arrays.{Ranks, Finite}
+use Rattle.cells.specs.Points.{Point, nowhere, keysOf, xsOf, ysOf}
+use Rattle.grid.specs.Tables.{Keys, at, nearOf, rowsOf, columnsOf, byIdxOf, rowAt, columnAt, byIdxAt}
+use Rattle.grid.specs.InOrder.{keys-ready}
+use Rattle.sheet_file.specs.Bytes.{Bytes}
+use Rattle.sheet_file.specs.Limit.{outside}
+use Rattle.sheet_file.specs.Frame.{layoutOf}
+use Rattle.sheet_file.specs.declared.Settings.{Settings}
+use Rattle.points.specs.Refusals.{offLimit, cellOrder}
+use Rattle.points.specs.Records.{pointsIn}
+use Rattle.points.specs.Pairs.{none-off}
+use Rattle.points.specs.Rows.{rows-placed}
+use Rattle.points.specs.Table.{points-length, point-at}
+use Rattle.ruling.specs.Ruling.{accepted, rulingOf, applies, none-applies}
+use Rattle.ruling.specs.Standing.{taken, accepted-order}
+
+-- the view that the arrays of n points give
+abbrev pub sheetView : ℕ → List ℕ → List ℕ → List Float → List Float → View
+sheetView n keys indices xs ys = viewAt n (nearOf n keys) (rowsOf n keys) (columnsOf n keys) (byIdxOf n indices) xs ys
+
+-- n points: their keys rise, and their positions are finite
+pub record Arrays (n : ℕ) (keys : List ℕ) (xs ys : List Float) : Type 0 where
+  pub rising : Keys keys n
+  pub finite-x : Finite n xs
+  pub finite-y : Finite n ys
+
+-- ---- the tables hold ranks
+
+first-below : (p : ℕ → Bool) (n k : ℕ) → k < n → p k ≡ true → first p 0 n < n
+first-below p n k h e = go (decLt (first p 0 n) n)
+  where
+    go : Dec (first p 0 n < n) → first p 0 n < n
+    go (yes l) = l
+    go (no f) = absurd (true≢false (sym e ∙ first-before p 0 n k (omega arith) (omega (arith, f))))
+
+module _ (n : ℕ) (keys : List ℕ) where
+  pub row-ranks : Ranks n (rowsOf n keys)
+  unfolding rowsOf rowAt
+  row-ranks k h =
+      rw (column-at maxPoints 0 n (rowAt n (at keys)) k h)
+      (first-below (λ (j : ℕ). eqb (at keys j % 16384) (at keys k % 16384)) n k h (eq-eqb (at keys k % 16384) (at keys k % 16384) refl))
+
+  pub column-ranks : Ranks n (columnsOf n keys)
+  unfolding columnsOf columnAt
+  column-ranks k h =
+      rw (column-at maxPoints 0 n (columnAt n (at keys)) k h)
+      (first-below (λ (j : ℕ). eqb (at keys j / 16384) (at keys k / 16384)) n k h (eq-eqb (at keys k / 16384) (at keys k / 16384) refl))
+
+  pub index-ranks : Ranks n (byIdxOf n keys)
+  unfolding byIdxOf byIdxAt
+  index-ranks k h =
+      let p : ℕ → Bool = λ j. eqb (at keys j) (at keys k) in
+      rw (column-at maxPoints 0 n (byIdxAt n (at keys)) k h) (last-holds p 0 n (some-yes p n k h (eq-eqb (at keys k) (at keys k) refl)) .0)
+
+-- ---- the arrays of an accepted file
+
+inside-finite : (x : Float) → outside x ≡ false → T (finite x)
+inside-finite nan e = absurd (true≢false e)
+inside-finite (inf s) e = absurd (true≢false e)
+inside-finite (fin s m k) e = tt
+
+neither : (a b : Bool) → a || b ≡ false → (a ≡ false) × (b ≡ false)
+neither true b h = absurd (true≢false h)
+neither false b h = (refl, h)
+
+module _ (s : List ℕ) (room : ℕ) (w : Settings) (ps : List Point) (bytes : Bytes s) (e : rulingOf s room ≡ accepted w ps) where
+  count-is : length ps ≡ layoutOf s .count
+  count-is = let k = taken s room w ps bytes e in ap length (k .points-are) ∙ points-length s (layoutOf s .points) (layoutOf s .count) (k .few)
+
+  -- no position is off the limit
+  limited : (k : ℕ) → k < length ps → (outside (f32 (getD ps k nowhere .x)) ≡ false) × (outside (f32 (getD ps k nowhere .y)) ≡ false)
+  unfolding applies
+  limited k h =
+      let t = taken s room w ps bytes e in
+      let at = layoutOf s .points in
+      let n = layoutOf s .count in
+      let l : k < n = omega (arith, count-is) in
+      rw (t .points-are, point-at s at n (t .few) k l) (neither _ _ (none-off s at n offLimit (none-applies s room e 7 (omega arith)) _ (rows-placed s at n false (t .few) k l)))
+
+  pub arrays-ready : Arrays (length ps) (keysOf ps) (xsOf ps) (ysOf ps)
+  unfolding xsOf ysOf
+  arrays-ready = record {
+    rising = keys-ready ps (accepted-order s room w ps bytes e);
+    finite-x = λ k h. rw (column-at maxPoints nan (length ps) (λ (k : ℕ). f32 (getD ps k nowhere .x)) k h) (inside-finite (f32 (getD ps k nowhere .x)) (limited k h .0));
+    finite-y = λ k h. rw (column-at maxPoints nan (length ps) (λ (k : ℕ). f32 (getD ps k nowhere .y)) k h) (inside-finite (f32 (getD ps k nowhere .y)) (limited k h .1));
+  }
+
+  -- the buffer has room for the rows
+  pub rows-fit : 28 * length ps ≤ room
+  unfolding applies
+  rows-fit = omega (arith, count-is, ltb-false room (28 * layoutOf s .count) (none-applies s room e 3 (omega arith)))

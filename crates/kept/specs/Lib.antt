@@ -1,0 +1,4 @@
+pub mod Marks
+pub mod Answer
+pub mod Arrays
+pub mod Ready
