@@ -1,2 +1,9 @@
 pub mod Marks
 pub mod Answer
+pub mod Words
+pub mod Depends
+pub mod Shared
+pub mod Patch
+pub mod Switched
+pub mod Unswitched
+pub mod Promises

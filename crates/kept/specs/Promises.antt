@@ -1,0 +1,181 @@
+-- Demand 3: what document 01 promises of an accepted, rearranged, moved or switched sheet, as theorems about the definitions that the call is
+-- proved equal to. Assumes nothing.
+use mathlib.Core.Path.{_≡_, refl, sym, ap, _∙_}
+use mathlib.Core.Bool.{Bool, true, false, not, _&&_, false≢true}
+use mathlib.Core.List.{List}
+use Prim.Native.Nat.{ℕ, _+_, _*_, _%_, _<_}
+use native.Mathlib.Omega.{arith}
+use lib.Dec.{eqb, ltb}
+use lib.IntN.{ℤ}
+use lib.ListN.{length, getD}
+use borrow.Author.Tests.{lt-ltb, ltb-true}
+use Rattle.folds.specs.Among.{anyIn}
+use Rattle.folds.specs.Below.{tally, and-both, and-left, and-right, and-under, not-true}
+use Rattle.folds.specs.Marked.{bit}
+use Rattle.view.specs.View.{View}
+use Rattle.cells.specs.Points.{Point, nowhere, keyOf, keysOf}
+use Rattle.cells.specs.Cell.{cellOf, before, key-order}
+use Rattle.grid.specs.Views.{viewOf}
+use Rattle.grid.specs.InOrder.{CellOrder}
+use Rattle.grid.specs.Moved.{view-moved}
+use Rattle.sheet_file.specs.Bytes.{Bytes}
+use Rattle.sheet_file.specs.Frame.{framingOf, layoutOf, layoutIn}
+use Rattle.sheet_file.specs.declared.Framing.the-variants.{Framed}
+use Rattle.sheet_file.specs.declared.Layout.{Layout}
+use Rattle.sheet_file.specs.declared.Settings.{Settings}
+use Rattle.points.specs.Records.{pointsIn}
+use Rattle.points.specs.Refusals.{offRange}
+use Rattle.patches.specs.Reach.{here}
+use Rattle.components.specs.Kept.{Kept, Counted}
+use Rattle.ruling.specs.Ruling.{accepted, rulingOf, applies}
+use Rattle.ruling.specs.Header.{frame-same}
+use Rattle.ruling.specs.Standing.{taken, accepted-order}
+use Rattle.ruling.specs.Order.{Relisted, order}
+use Rattle.ruling.specs.Offset.{Offset, MovedAlong, offset}
+use Rattle.validate.specs.Validate.{validateMark}
+use Rattle.orientation.specs.Orientation.{orientationMark}
+use Rattle.kept.specs.Marks.{wrongMark, earlierMark, marksAt, countIn, isKept}
+use Rattle.kept.specs.Answer.{answerBy, rowsBy, answerOf, rowsAfter}
+use Rattle.kept.specs.declared.Answer.{Answer}
+use Rattle.kept.specs.declared.Answer.the-variants.{Refused, Accepted}
+use Rattle.kept.specs.Words.{Distinct, survivor, joined, keptRank}
+use Rattle.kept.specs.Depends.{kept-means, kept-same, low-bits}
+use Rattle.kept.specs.Patch.{largest-kept, roots, patchOf, all-counted, count-on, count-off}
+use Rattle.kept.specs.Switched.{Switched, switchedOn, same-points, same-settings}
+use Rattle.kept.specs.Unswitched.{validate-unswitched}
+
+-- ---- ranks
+
+-- "Cells are ordered as the rows are": a smaller rank is an earlier cell
+pub ranks-are-cells : (file : List ℕ) (room : ℕ) (s : Settings) (ps : List Point) → Bytes file → rulingOf file room ≡ accepted s ps → (i j : ℕ) → i < j → j < length ps
+    → before (cellOf (getD ps i nowhere)) (cellOf (getD ps j nowhere)) ≡ true
+ranks-are-cells file room s ps b e i j ij jn =
+    let o = accepted-order file room s ps b e in
+    sym (key-order (getD ps i nowhere) (getD ps j nowhere) (o .inside i (omega arith)) (o .inside j jn)) ∙ lt-ltb (keyOf (getD ps i nowhere)) (keyOf (getD ps j nowhere)) (o .rising i j ij jn)
+
+-- ---- (a) the kept patch
+
+-- The kept patch is empty exactly when the other filters mark every point; else it is one whole patch, every other whole patch has at most
+-- as many points, and any with as many has a later smallest cell.
+pub record LargestPatch (s : Settings) (ps : List Point) : Type 0 where
+  pub empty : ((k : ℕ) → k < length ps → earlierMark s (viewOf ps) (keysOf ps) k ≡ true) → (k : ℕ) → k < length ps → isKept s (viewOf ps) (keysOf ps) k ≡ false
+  pub empty-only : ((k : ℕ) → k < length ps → isKept s (viewOf ps) (keysOf ps) k ≡ false) → (k : ℕ) → k < length ps → earlierMark s (viewOf ps) (keysOf ps) k ≡ true
+  pub largest : Kept (survivor s ps) (joined s ps) (length ps) (keptRank s ps)
+
+not-false : (b : Bool) → not b ≡ false → b ≡ true
+not-false true e = refl
+not-false false e = sym e
+
+pub kept-patch : (file : List ℕ) (room : ℕ) (s : Settings) (ps : List Point) → Bytes file → rulingOf file room ≡ accepted s ps → Distinct ps → s .«apply_largest_component» ≡ true → LargestPatch s ps
+kept-patch file room s ps b e one on = record {
+  empty = λ f k h. kept-means s (viewOf ps) (keysOf ps) k ∙ rw (f k h);
+  empty-only = λ f k h. not-false (earlierMark s (viewOf ps) (keysOf ps) k) (not-true (not (earlierMark s (viewOf ps) (keysOf ps) k)) (λ t. some-kept f k (and-both (ltb k (length ps)) (not (earlierMark s (viewOf ps) (keysOf ps) k)) (lt-ltb k (length ps) h) t)));
+  largest = most;
+}
+  where
+    most : Kept (survivor s ps) (joined s ps) (length ps) (keptRank s ps)
+    most = largest-kept s ps (accepted-order file room s ps b e) one on
+
+    some-kept : ((k : ℕ) → k < length ps → isKept s (viewOf ps) (keysOf ps) k ≡ false) → (k : ℕ) → survivor s ps k ≡ true → ⊥
+    some-kept f k t =
+        let p = most .whole k t in
+        let m = p .outer (p .seed) (here (p .survives)) in
+        false≢true
+        (sym (f (p .seed) (ltb-true (p .seed) (length ps) (and-left (ltb (p .seed) (length ps)) (isKept s (viewOf ps) (keysOf ps) (p .seed)) m)))
+        ∙ and-right (ltb (p .seed) (length ps)) (isKept s (viewOf ps) (keysOf ps) (p .seed)) m)
+
+-- "with the switch on, the component count is how many whole patches there are": one for each rank that `first` picks, whose patch is `patch`
+pub record PatchCount (file : List ℕ) (room : ℕ) (s : Settings) (ps : List Point) : Type 0 where
+  pub first : ℕ → Bool
+  pub patch : ℕ → ℕ → Bool
+  pub answer : answerOf file room ≡ Accepted (record { points = length ps; components = tally first (length ps) })
+  pub each : Counted (survivor s ps) (joined s ps) (length ps) first patch
+
+answer-is : (file : List ℕ) (room : ℕ) (s : Settings) (ps : List Point) → rulingOf file room ≡ accepted s ps → answerOf file room ≡ Accepted (record { points = length ps; components = countIn s (viewOf ps) (keysOf ps) })
+unfolding answerOf
+answer-is file room s ps e = ap answerBy e
+
+pub component-count : (file : List ℕ) (room : ℕ) (s : Settings) (ps : List Point) → Bytes file → rulingOf file room ≡ accepted s ps → s .«apply_largest_component» ≡ true → PatchCount file room s ps
+component-count file room s ps b e on =
+    let o = accepted-order file room s ps b e in
+    record {
+      first = roots s ps o;
+      patch = patchOf s ps o;
+      answer = answer-is file room s ps e ∙ ap (λ (c : ℕ). Accepted (record { points = length ps; components = c })) (count-on s ps o on);
+      each = all-counted s ps o;
+    }
+
+-- "With the switch off the count is 0."
+pub no-count : (file : List ℕ) (room : ℕ) (s : Settings) (ps : List Point) → rulingOf file room ≡ accepted s ps → s .«apply_largest_component» ≡ false → answerOf file room ≡ Accepted (record { points = length ps; components = 0 })
+no-count file room s ps e off = answer-is file room s ps e ∙ ap (λ (c : ℕ). Accepted (record { points = length ps; components = c })) (count-off s (viewOf ps) (keysOf ps) off)
+
+-- ---- (b) another order
+
+-- "Another order is any rearrangement of the points in tag 3, all else and the result buffer's length unchanged": for every well-framed file
+-- the same number, or the same counts, and the same rows byte for byte, from which the tally is counted
+pub record SameResult (file other : List ℕ) : Type 0 where
+  pub answer : (room : ℕ) → answerOf other room ≡ answerOf file room
+  pub rows : (buffer : List ℕ) → rowsAfter other buffer ≡ rowsAfter file buffer
+
+pub another-order : (file other : List ℕ) (f : Layout) → Bytes file → framingOf file ≡ Framed f → Relisted file other f → SameResult file other
+unfolding answerOf rowsAfter
+another-order file other f b e r = record {
+  answer = λ room. ap answerBy (sym (order file other f b e r room));
+  rows = λ buffer. ap (rowsBy buffer) (sym (order file other f b e r (length buffer)));
+}
+
+-- ---- (c) an offset
+
+-- The moved file is accepted, its points are the old ones at their moved cells and no others, and each has the same orientation and
+-- wrong-label marks; if each has the same validate mark too, "the kept patch has moved along".
+pub record MovedMarks (file : List ℕ) (room : ℕ) (a b : ℤ) (s : Settings) (ps : List Point) : Type 0 where
+  pub along : MovedAlong file room a b s ps
+  pub orientation : (k : ℕ) → k < length ps → orientationMark (viewOf (along .points)) k ≡ orientationMark (viewOf ps) k
+  pub wrong : (k : ℕ) → k < length ps → wrongMark s (viewOf (along .points)) (keysOf (along .points)) k ≡ wrongMark s (viewOf ps) (keysOf ps) k
+  pub kept : ((k : ℕ) → k < length ps → validateMark s (viewOf (along .points)) (keysOf (along .points)) k ≡ validateMark s (viewOf ps) (keysOf ps) k)
+      → (k : ℕ) → keptRank s (along .points) k ≡ keptRank s ps k
+
+module _ (s : Settings) (ps qs : List Point) (size : length qs ≡ length ps) (v : viewOf qs ≡ viewOf ps) where
+  inside : ((k : ℕ) → k < length ps → validateMark s (viewOf qs) (keysOf qs) k ≡ validateMark s (viewOf ps) (keysOf ps) k) → (k : ℕ) → k < length ps → isKept s (viewOf ps) (keysOf qs) k ≡ isKept s (viewOf ps) (keysOf ps) k
+  unfolding viewOf
+  inside same k h = kept-same s (viewOf ps) (keysOf qs) (keysOf ps) (λ k h. ap (λ (w : View). validateMark s w (keysOf qs) k) (sym v) ∙ same k h) k h
+
+  kept-moves : ((k : ℕ) → k < length ps → validateMark s (viewOf qs) (keysOf qs) k ≡ validateMark s (viewOf ps) (keysOf ps) k) → (k : ℕ) → keptRank s qs k ≡ keptRank s ps k
+  kept-moves same k = rw (size, v) (and-under (ltb k (length ps)) (λ e. inside same k (ltb-true k (length ps) e)))
+
+-- "In range means that the condition of number 6 fails."
+pub moved-sheet : (file other : List ℕ) (a b : ℤ) → Bytes file → Bytes other → Offset file other (layoutOf file) a b
+    → (room : ℕ) → applies other room 6 ≡ false → (s : Settings) (ps : List Point) → rulingOf file room ≡ accepted s ps → MovedMarks other room a b s ps
+unfolding applies
+moved-sheet file other a b bf bo o room in-range s ps e =
+    let framed = taken file room s ps bf e .framed in
+    let same : layoutOf file ≡ layoutOf other = sym (ap layoutIn (frame-same file other (layoutOf file) framed (o .head))) in
+    let m = offset file other a b bf bo o (ap (λ (f : Layout). anyIn offRange (pointsIn other (f .points) (f .count))) same ∙ in-range) room s ps e in
+    let v = view-moved a b ps (m .points) (m .size) (m .along) in
+    record {
+      along = m;
+      orientation = λ k h. ap (λ (w : View). orientationMark w k) v;
+      wrong = λ k h. ap (λ (w : View). wrongMark s w (keysOf ps) k) v;
+      kept = kept-moves s ps (m .points) (m .size) v;
+    }
+
+-- ---- (d) the switches
+
+-- "Changing only the two switches alters neither bit 0 nor bit 1": the same points in the same order, each with the same two bits
+pub record SameBits (s t : Settings) (ps qs : List Point) : Type 0 where
+  pub points : qs ≡ ps
+  pub bits : (k : ℕ) → marksAt t (viewOf qs) (keysOf qs) k % 4 ≡ marksAt s (viewOf ps) (keysOf ps) k % 4
+
+pub switches : (file other : List ℕ) → Bytes file → Bytes other → Switched file other → (room room′ : ℕ) (s t : Settings) (ps qs : List Point)
+    → rulingOf file room ≡ accepted s ps → rulingOf other room′ ≡ accepted t qs → SameBits s t ps qs
+switches file other bf bo w room room′ s t ps qs e f =
+    let p = same-points file other w bf bo room room′ s t ps qs e f in
+    let x = same-settings file other w bf bo room room′ s t ps qs e f in
+    record {
+      points = p;
+      bits = λ k.
+          ap (λ (l : List Point). marksAt t (viewOf l) (keysOf l) k % 4) p
+          ∙ low-bits t (viewOf ps) (keysOf ps) k
+          ∙ ap (λ (b : Bool). bit b + 2 * bit (orientationMark (viewOf ps) k)) (validate-unswitched t (viewOf ps) (keysOf ps) k ∙ ap (λ (y : Settings). validateMark y (viewOf ps) (keysOf ps) k) x ∙ sym (validate-unswitched s (viewOf ps) (keysOf ps) k))
+          ∙ sym (low-bits s (viewOf ps) (keysOf ps) k);
+    }

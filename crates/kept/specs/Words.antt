@@ -1,0 +1,44 @@
+-- "The words of demand 3", of an accepted file's settings s and points ps in cell order: a point is named by its rank. Assumes nothing.
+use mathlib.Core.Path.{_≡_}
+use mathlib.Core.Bool.{Bool, true, false, not, _&&_, _||_}
+use mathlib.Core.List.{List}
+use Prim.Native.Nat.{ℕ, _<_}
+use lib.Dec.{eqb, ltb}
+use lib.IntN.{ℤ, pos, negsuc, _+ℤ_, _-ℤ_}
+use lib.ListN.{length, getD}
+use Rattle.cells.specs.Points.{Point, nowhere, keysOf}
+use Rattle.cells.specs.Cell.{Cell, cellOf}
+use Rattle.grid.specs.Views.{viewOf}
+use Rattle.sheet_file.specs.declared.Settings.{Settings}
+use Rattle.kept.specs.Marks.{earlierMark, isKept}
+
+-- two whole numbers agree, and they differ by one
+abbrev pub agree : ℤ → ℤ → Bool
+agree (pos a) (pos b) = eqb a b
+agree (pos a) (negsuc b) = false
+agree (negsuc a) (pos b) = false
+agree (negsuc a) (negsuc b) = eqb a b
+
+abbrev pub differByOne : ℤ → ℤ → Bool
+differByOne a b = agree b (a -ℤ pos 1) || agree b (a +ℤ pos 1)
+
+-- "Two cells share an edge if they differ by one in u and agree in v, or the other way round."
+abbrev pub shareEdge : Cell → Cell → Bool
+shareEdge c d = (differByOne (c .u) (d .u) && agree (c .v) (d .v)) || (agree (c .u) (d .u) && differByOne (c .v) (d .v))
+
+-- no index repeats
+abbrev pub Distinct : List Point → Type 0
+Distinct ps = (i j : ℕ) → i < length ps → j < length ps → getD ps i nowhere .index ≡ getD ps j nowhere .index → i ≡ j
+
+module _ (s : Settings) (ps : List Point) where
+  -- "A survivor is a point whose index gets no mark under these rules other than the component mark."
+  abbrev pub survivor : ℕ → Bool
+  survivor k = ltb k (length ps) && not (earlierMark s (viewOf ps) (keysOf ps) k)
+
+  -- one of the "steps over shared edges, survivor to survivor"
+  abbrev pub joined : ℕ → ℕ → Bool
+  joined a b = survivor a && (survivor b && shareEdge (cellOf (getD ps a nowhere)) (cellOf (getD ps b nowhere)))
+
+  -- "On any accepted sheet the kept patch is the points whose row has no mark."
+  abbrev pub keptRank : ℕ → Bool
+  keptRank k = ltb k (length ps) && isKept s (viewOf ps) (keysOf ps) k
