@@ -6,4 +6,5 @@ pub mod Shared
 pub mod Patch
 pub mod Switched
 pub mod Unswitched
+pub mod RowMarks
 pub mod Promises

@@ -97,6 +97,14 @@ module _ (s : Settings) (w : View) (keys : List ℕ) where
           go true e = ap not (other-not (w .count) (w .near) squareSides dropped win k e) ∙ not-not (inPatch (w .count) labels win k)
           go false e = sym (not-true (inPatch (w .count) labels win k) (λ t. false≢true (sym e ∙ winner-lives k t)))
 
+-- the count, by the switch
+count-is : (s : Settings) (w : View) (keys : List ℕ) (b : Bool) → s .«apply_largest_component» ≡ b → countIn s w keys ≡ cond b (componentCount w squareSides (droppedOf s w keys)) 0
+unfolding countIn
+count-is s w keys b e = ap (λ (x : Bool). cond x (componentCount w squareSides (droppedOf s w keys)) 0) e
+
+pub count-off : (s : Settings) (w : View) (keys : List ℕ) → s .«apply_largest_component» ≡ false → countIn s w keys ≡ 0
+count-off s w keys off = count-is s w keys false off
+
 -- ---- the same in the words of demand 3
 
 same-kept : {alive alive′ : ℕ → Bool} {link link′ : ℕ → ℕ → Bool} {K K′ : ℕ → Bool} (n : ℕ) → alive ≡ alive′ → link ≡ link′ → K ≡ K′ → Kept alive′ link′ n K′ → Kept alive link n K
@@ -155,9 +163,5 @@ module _ (s : Settings) (ps : List Point) (o : CellOrder ps) where
   all-counted = same-counted (length ps) (fun-ext survivors) (fun-ext (λ (a : ℕ). fun-ext (steps a))) (patches-counted s (viewOf ps) (keysOf ps) few-points both-mirrored)
 
   pub count-on : s .«apply_largest_component» ≡ true → countIn s (viewOf ps) (keysOf ps) ≡ tally roots (length ps)
-  unfolding countIn countOf viewOf
-  count-on on = rw on
-
-pub count-off : (s : Settings) (w : View) (keys : List ℕ) → s .«apply_largest_component» ≡ false → countIn s w keys ≡ 0
-unfolding countIn
-count-off s w keys off = rw off
+  unfolding countOf viewOf
+  count-on on = count-is s (viewOf ps) (keysOf ps) true on

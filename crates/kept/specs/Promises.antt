@@ -43,8 +43,9 @@ use Rattle.kept.specs.Depends.{kept-means, kept-same, low-bits}
 use Rattle.kept.specs.Patch.{largest-kept, roots, patchOf, all-counted, count-on, count-off}
 use Rattle.kept.specs.Switched.{Switched, switchedOn, same-points, same-settings}
 use Rattle.kept.specs.Unswitched.{validate-unswitched}
+use Rattle.kept.specs.RowMarks.{row-marks}
 
--- ---- ranks
+-- ---- ranks, and the rows
 
 -- "Cells are ordered as the rows are": a smaller rank is an earlier cell
 pub ranks-are-cells : (file : List ℕ) (room : ℕ) (s : Settings) (ps : List Point) → Bytes file → rulingOf file room ≡ accepted s ps → (i j : ℕ) → i < j → j < length ps
@@ -52,6 +53,10 @@ pub ranks-are-cells : (file : List ℕ) (room : ℕ) (s : Settings) (ps : List P
 ranks-are-cells file room s ps b e i j ij jn =
     let o = accepted-order file room s ps b e in
     sym (key-order (getD ps i nowhere) (getD ps j nowhere) (o .inside i (omega arith)) (o .inside j jn)) ∙ lt-ltb (keyOf (getD ps i nowhere)) (keyOf (getD ps j nowhere)) (o .rising i j ij jn)
+
+-- "On any accepted sheet the kept patch is the points whose row has no mark": the ranks with 0 in the first of the 28 bytes
+pub kept-rows : (file buffer : List ℕ) (s : Settings) (ps : List Point) → rulingOf file (length buffer) ≡ accepted s ps → (k : ℕ) → keptRank s ps k ≡ ltb k (length ps) && eqb (getD (rowsAfter file buffer) (28 * k) 0) 0
+kept-rows file buffer s ps e k = and-under (ltb k (length ps)) (λ l. ap (λ (b : ℕ). eqb b 0) (sym (row-marks file buffer s ps e k (ltb-true k (length ps) l))))
 
 -- ---- (a) the kept patch
 
@@ -179,3 +184,12 @@ switches file other bf bo w room room′ s t ps qs e f =
           ∙ ap (λ (b : Bool). bit b + 2 * bit (orientationMark (viewOf ps) k)) (validate-unswitched t (viewOf ps) (keysOf ps) k ∙ ap (λ (y : Settings). validateMark y (viewOf ps) (keysOf ps) k) x ∙ sym (validate-unswitched s (viewOf ps) (keysOf ps) k))
           ∙ sym (low-bits s (viewOf ps) (keysOf ps) k);
     }
+
+-- the same, of the bytes of the rows in one buffer
+pub switched-rows : (file other buffer : List ℕ) → Bytes file → Bytes other → Switched file other → (s t : Settings) (ps qs : List Point)
+    → rulingOf file (length buffer) ≡ accepted s ps → rulingOf other (length buffer) ≡ accepted t qs → (k : ℕ) → k < length ps
+    → getD (rowsAfter other buffer) (28 * k) 0 % 4 ≡ getD (rowsAfter file buffer) (28 * k) 0 % 4
+switched-rows file other buffer bf bo w s t ps qs e f k h =
+    let r = switches file other bf bo w (length buffer) (length buffer) s t ps qs e f in
+    let l : k < length qs = omega (arith, ap length (r .points)) in
+    ap (λ (b : ℕ). b % 4) (row-marks other buffer t qs f k l) ∙ r .bits k ∙ ap (λ (b : ℕ). b % 4) (sym (row-marks file buffer s ps e k h))
