@@ -2,6 +2,7 @@
 -- proved equal to. Assumes nothing.
 use mathlib.Core.Path.{_≡_, refl, sym, ap, _∙_}
 use mathlib.Core.Bool.{Bool, true, false, not, _&&_, false≢true}
+use mathlib.Core.Logic.{_⊎_, inl, inr}
 use mathlib.Core.List.{List}
 use Prim.Native.Nat.{ℕ, _+_, _*_, _%_, _<_}
 use native.Mathlib.Omega.{arith}
@@ -25,8 +26,8 @@ use Rattle.sheet_file.specs.declared.Layout.{Layout}
 use Rattle.sheet_file.specs.declared.Settings.{Settings}
 use Rattle.points.specs.Records.{pointsIn}
 use Rattle.points.specs.Refusals.{offRange}
-use Rattle.patches.specs.Reach.{here}
-use Rattle.components.specs.Kept.{Kept, Counted}
+use Rattle.patches.specs.Reach.{Reach, here, step}
+use Rattle.components.specs.Kept.{WholePatch, Smallest, Kept, Counted}
 use Rattle.ruling.specs.Ruling.{accepted, rulingOf, applies}
 use Rattle.ruling.specs.Header.{frame-same}
 use Rattle.ruling.specs.Standing.{taken, accepted-order}
@@ -38,7 +39,7 @@ use Rattle.kept.specs.Marks.{wrongMark, earlierMark, marksAt, countIn, i
 use Rattle.kept.specs.Answer.{answerBy, rowsBy, answerOf, rowsAfter}
 use Rattle.kept.specs.declared.Answer.{Answer}
 use Rattle.kept.specs.declared.Answer.the-variants.{Refused, Accepted}
-use Rattle.kept.specs.Words.{Distinct, survivor, joined, keptRank}
+use Rattle.kept.specs.Words.{shareEdge, Distinct, survivor, joined, keptRank}
 use Rattle.kept.specs.Depends.{kept-means, kept-same, low-bits}
 use Rattle.kept.specs.Patch.{largest-kept, roots, patchOf, all-counted, count-on, count-off}
 use Rattle.kept.specs.Switched.{Switched, switchedOn, same-points, same-settings}
@@ -61,11 +62,20 @@ kept-rows file buffer s ps e k = and-under (ltb k (length ps)) (λ l. ap (λ (b 
 -- ---- (a) the kept patch
 
 -- The kept patch is empty exactly when the other filters mark every point; else it is one whole patch, every other whole patch has at most
--- as many points, and any with as many has a later smallest cell.
+-- as many points, and any with as many has a later smallest cell, by rank and so by u, then v.
 pub record LargestPatch (s : Settings) (ps : List Point) : Type 0 where
   pub empty : ((k : ℕ) → k < length ps → earlierMark s (viewOf ps) (keysOf ps) k ≡ true) → (k : ℕ) → k < length ps → isKept s (viewOf ps) (keysOf ps) k ≡ false
   pub empty-only : ((k : ℕ) → k < length ps → isKept s (viewOf ps) (keysOf ps) k ≡ false) → (k : ℕ) → k < length ps → earlierMark s (viewOf ps) (keysOf ps) k ≡ true
   pub largest : Kept (survivor s ps) (joined s ps) (length ps) (keptRank s ps)
+  pub later : (W : ℕ → Bool) → WholePatch (survivor s ps) (joined s ps) W → tally W (length ps) ≡ tally (keptRank s ps) (length ps)
+      → ((k : ℕ) → W k ≡ keptRank s ps k) ⊎ ((x y : ℕ) → Smallest W x → Smallest (keptRank s ps) y → before (cellOf (getD ps y nowhere)) (cellOf (getD ps x nowhere)) ≡ true)
+
+-- what is reached is a point
+reached-below : (s : Settings) (ps : List Point) {a k : ℕ} → Reach (survivor s ps) (joined s ps) a k → k < length ps
+reached-below s ps {a} (here e) = ltb-true a (length ps) (and-left (ltb a (length ps)) (not (earlierMark s (viewOf ps) (keysOf ps) a)) e)
+reached-below s ps {k = c} (step {b} r e) =
+    let f = and-left (survivor s ps c) (shareEdge (cellOf (getD ps b nowhere)) (cellOf (getD ps c nowhere))) (and-right (survivor s ps b) (survivor s ps c && shareEdge (cellOf (getD ps b nowhere)) (cellOf (getD ps c nowhere))) e) in
+    ltb-true c (length ps) (and-left (ltb c (length ps)) (not (earlierMark s (viewOf ps) (keysOf ps) c)) f)
 
 not-false : (b : Bool) → not b ≡ false → b ≡ true
 not-false true e = refl
@@ -76,6 +86,10 @@ kept-patch file room s ps b e one on = record {
   empty = λ f k h. kept-means s (viewOf ps) (keysOf ps) k ∙ rw (f k h);
   empty-only = λ f k h. not-false (earlierMark s (viewOf ps) (keysOf ps) k) (not-true (not (earlierMark s (viewOf ps) (keysOf ps) k)) (λ t. some-kept f k (and-both (ltb k (length ps)) (not (earlierMark s (viewOf ps) (keysOf ps) k)) (lt-ltb k (length ps) h) t)));
   largest = most;
+  later = λ W p t. elim (most .tie W p t) [
+    | inl q ↦ inl q
+    | inr q ↦ inr (λ x y f g. ranks-are-cells file room s ps b e y x (q x y f g) (reached-below s ps (p .inner x (f .member))))
+  ];
 }
   where
     most : Kept (survivor s ps) (joined s ps) (length ps) (keptRank s ps)
