@@ -3,21 +3,20 @@
 use mathlib.Core.Path.{_≡_, refl, sym, ap, _∙_, fun-ext}
 use mathlib.Core.Bool.{Bool, true, false, cond, not, _&&_, false≢true, true≢false}
 use mathlib.Core.List.{List}
-use Prim.Native.Nat.{ℕ, _-_, _*_, _+_, _≤_, _<_}
+use Prim.Native.Nat.{ℕ, _≤_, _<_}
 use lib.Dec.{eqb, ltb}
 use lib.ListN.{length, getD}
 use borrow.Author.Tests.{ltb-true}
 use Rattle.folds.specs.Below.{some, some-at, some-fails, and-under, not-true, tally}
 use Rattle.folds.specs.Column.{column, column-at}
 use Rattle.folds.specs.Marked.{bit}
-use Rattle.view.specs.View.{View, maxPoints, squareSides, rankAt}
-use Rattle.cells.specs.Points.{Point, nowhere, keysOf}
-use Rattle.cells.specs.Cell.{cellOf}
+use Rattle.view.specs.View.{View, maxPoints, squareSides}
+use Rattle.cells.specs.Points.{Point, keysOf}
 use Rattle.grid.specs.Views.{viewOf}
 use Rattle.grid.specs.InOrder.{CellOrder, mirrored}
 use Rattle.grid.specs.Alike.{one-index}
 use Rattle.sheet_file.specs.declared.Settings.{Settings}
-use Rattle.patches.specs.Patches.{at, survives, touches, linked, patchLabels}
+use Rattle.patches.specs.Patches.{at, survives, linked, patchLabels}
 use Rattle.patches.specs.Reach.{Mirrored}
 use Rattle.patches.specs.Search.{Fit}
 use Rattle.patches.proofs.Surviving.{survives-lt}
@@ -29,7 +28,7 @@ use Rattle.components.specs.Kept.{Kept, Counted}
 use Rattle.components.proofs.Whole.{kept, counted}
 use Rattle.components.proofs.Marking.{mark-distinct, other-not}
 use Rattle.kept.specs.Marks.{earlierMark, droppedOf, componentsOf, countIn, isKept}
-use Rattle.kept.specs.Words.{shareEdge, Distinct, survivor, joined, keptRank}
+use Rattle.kept.specs.Words.{Distinct, survivor, joined, keptRank}
 use Rattle.kept.specs.Depends.{bit-zero, kept-means}
 use Rattle.kept.specs.Shared.{touch-share}
 

@@ -17,7 +17,6 @@ use Rattle.view.specs.View.{View}
 use Rattle.cells.specs.Points.{Point, nowhere, keyOf, keysOf}
 use Rattle.cells.specs.Cell.{cellOf, before, key-order}
 use Rattle.grid.specs.Views.{viewOf}
-use Rattle.grid.specs.InOrder.{CellOrder}
 use Rattle.grid.specs.Moved.{view-moved}
 use Rattle.sheet_file.specs.Bytes.{Bytes}
 use Rattle.sheet_file.specs.Frame.{framingOf, layoutOf, layoutIn}
@@ -37,12 +36,11 @@ use Rattle.validate.specs.Validate.{validateMark}
 use Rattle.orientation.specs.Orientation.{orientationMark}
 use Rattle.kept.specs.Marks.{wrongMark, earlierMark, marksAt, countIn, isKept}
 use Rattle.kept.specs.Answer.{answerBy, rowsBy, answerOf, rowsAfter}
-use Rattle.kept.specs.declared.Answer.{Answer}
-use Rattle.kept.specs.declared.Answer.the-variants.{Refused, Accepted}
+use Rattle.kept.specs.declared.Answer.the-variants.{Accepted}
 use Rattle.kept.specs.Words.{shareEdge, Distinct, survivor, joined, keptRank}
 use Rattle.kept.specs.Depends.{kept-means, kept-same, low-bits}
 use Rattle.kept.specs.Patch.{largest-kept, roots, patchOf, all-counted, count-on, count-off}
-use Rattle.kept.specs.Switched.{Switched, switchedOn, same-points, same-settings}
+use Rattle.kept.specs.Switched.{Switched, same-points, same-settings}
 use Rattle.kept.specs.Unswitched.{validate-unswitched}
 use Rattle.kept.specs.RowMarks.{row-marks}
 

@@ -1,18 +1,17 @@
 -- Two files that differ in the two switches alone: the same points, and settings that differ in the switches alone. Assumes nothing.
-use mathlib.Core.Path.{_≡_, refl, sym, ap, _∙_}
+use mathlib.Core.Path.{_≡_, sym, ap, _∙_}
 use mathlib.Core.Bool.{Bool, true, false, cond, true≢false}
 use mathlib.Core.List.{List}
 use Prim.Native.Nat.{ℕ, _+_, _-_, _*_, _≤_, _<_}
 use native.Mathlib.Omega.{arith}
 use lib.ListN.{length, getD}
-use Rattle.folds.specs.Lists.{listOf, list-ext}
+use Rattle.folds.specs.Lists.{list-ext}
 use Rattle.cells.specs.Points.{Point, nowhere}
 use Rattle.sheet_file.specs.Bytes.{Bytes, le16, le32}
-use Rattle.sheet_file.specs.Frame.{fieldAt, pointsFrom, gateFrom, framingOf, layoutIn, layoutOf, gateStart, GateAt, gate-there, gate-absent, Fields, full-settings, short-settings, fields-of, points-in}
+use Rattle.sheet_file.specs.Frame.{fieldAt, pointsFrom, gateFrom, framingOf, layoutIn, layoutOf, GateAt, gate-there, gate-absent, Fields, full-settings, short-settings, fields-of, points-in}
 use Rattle.sheet_file.specs.Refusals.{floatAt, defaultsFor, settingsIn, gateIn, edgeShapeOf, settingsOf}
 use Rattle.sheet_file.specs.declared.Layout.{Layout}
 use Rattle.sheet_file.specs.declared.EdgeGate.{EdgeGate}
-use Rattle.sheet_file.specs.declared.EdgeGate.the-variants.{Off, On}
 use Rattle.sheet_file.specs.declared.Framing.the-variants.{Framed}
 use Rattle.sheet_file.specs.declared.Settings.{Settings}
 use Rattle.points.specs.Records.{recordOf, pointsIn}
