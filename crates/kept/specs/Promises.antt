@@ -40,7 +40,7 @@ use Rattle.kept.specs.declared.Answer.the-variants.{Accepted}
 use Rattle.kept.specs.Words.{shareEdge, Distinct, survivor, joined, keptRank}
 use Rattle.kept.specs.Depends.{kept-means, kept-same, low-bits}
 use Rattle.kept.specs.Patch.{largest-kept, roots, patchOf, all-counted, count-on, count-off}
-use Rattle.kept.specs.Switched.{Switched, same-points, same-settings}
+use Rattle.kept.specs.Switched.{Switched, switchedOn, same-points, same-settings}
 use Rattle.kept.specs.Unswitched.{validate-unswitched}
 use Rattle.kept.specs.RowMarks.{row-marks}
 
@@ -178,7 +178,16 @@ moved-sheet file other a b bf bo o room in-range s ps e =
 
 -- ---- (d) the switches
 
--- "Changing only the two switches alters neither bit 0 nor bit 1": the same points in the same order, each with the same two bits
+-- "Changing only the two switches alters neither bit 0 nor bit 1": of any settings that differ in the switches alone
+pub switch-free : (s t : Settings) → switchedOn t ≡ switchedOn s → (ps : List Point) (k : ℕ) → marksAt t (viewOf ps) (keysOf ps) k % 4 ≡ marksAt s (viewOf ps) (keysOf ps) k % 4
+switch-free s t e ps k =
+    let w = viewOf ps in
+    let keys = keysOf ps in
+    low-bits t w keys k
+    ∙ ap (λ (b : Bool). bit b + 2 * bit (orientationMark w k)) (validate-unswitched t w keys k ∙ ap (λ (y : Settings). validateMark y w keys k) e ∙ sym (validate-unswitched s w keys k))
+    ∙ sym (low-bits s w keys k)
+
+-- of two accepted files that differ in the bytes of the switches alone: the same points in the same order, each with the same two bits
 pub record SameBits (s t : Settings) (ps qs : List Point) : Type 0 where
   pub points : qs ≡ ps
   pub bits : (k : ℕ) → marksAt t (viewOf qs) (keysOf qs) k % 4 ≡ marksAt s (viewOf ps) (keysOf ps) k % 4
@@ -188,14 +197,7 @@ pub switches : (file other : List ℕ) → Bytes file → Bytes other → Switch
 switches file other bf bo w room room′ s t ps qs e f =
     let p = same-points file other w bf bo room room′ s t ps qs e f in
     let x = same-settings file other w bf bo room room′ s t ps qs e f in
-    record {
-      points = p;
-      bits = λ k.
-          ap (λ (l : List Point). marksAt t (viewOf l) (keysOf l) k % 4) p
-          ∙ low-bits t (viewOf ps) (keysOf ps) k
-          ∙ ap (λ (b : Bool). bit b + 2 * bit (orientationMark (viewOf ps) k)) (validate-unswitched t (viewOf ps) (keysOf ps) k ∙ ap (λ (y : Settings). validateMark y (viewOf ps) (keysOf ps) k) x ∙ sym (validate-unswitched s (viewOf ps) (keysOf ps) k))
-          ∙ sym (low-bits s (viewOf ps) (keysOf ps) k);
-    }
+    record { points = p; bits = λ k. ap (λ (l : List Point). marksAt t (viewOf l) (keysOf l) k % 4) p ∙ switch-free s t x ps k }
 
 -- the same, of the bytes of the rows in one buffer
 pub switched-rows : (file other buffer : List ℕ) → Bytes file → Bytes other → Switched file other → (s t : Settings) (ps qs : List Point)
