@@ -2,7 +2,7 @@
 use mathlib.Core.Path.{_≡_, refl, sym, ap, _∙_}
 use mathlib.Core.Bool.{Bool, true, false, cond, not, _&&_, _||_}
 use mathlib.Core.List.{List}
-use Prim.Native.Nat.{ℕ, _+_, _*_, _%_, _<_}
+use Prim.Native.Nat.{ℕ, _+_, _*_, _/_, _%_, _<_}
 use native.Mathlib.Omega.{arith}
 use lib.Dec.{eqb}
 use lib.ListN.{getD}
@@ -39,6 +39,21 @@ module _ (s : Settings) (w : View) (keys : List ℕ) where
   pub low-bits : (k : ℕ) → marksAt s w keys k % 4 ≡ bit (validateMark s w keys k) + 2 * bit (orientationMark w k)
   unfolding marksAt
   low-bits k = omega (arith, bit-le (validateMark s w keys k), bit-le (orientationMark w k))
+
+  -- bit 0 alone, and bits 1 and 2
+  pub low-bit : (k : ℕ) → marksAt s w keys k % 2 ≡ bit (validateMark s w keys k)
+  unfolding marksAt
+  low-bit k = omega (arith, bit-le (validateMark s w keys k))
+
+  pub middle-bits : (k : ℕ) → marksAt s w keys k / 2 % 4 ≡ bit (orientationMark w k) + 2 * bit (wrongMark s w keys k)
+  unfolding marksAt
+  middle-bits k = omega (arith, bit-le (validateMark s w keys k), bit-le (orientationMark w k), bit-le (wrongMark s w keys k))
+
+pub one-bit : (a b : Bool) → bit a ≡ bit b → a ≡ b
+one-bit true true e = refl
+one-bit true false e = absurd (omega arith)
+one-bit false true e = absurd (omega arith)
+one-bit false false e = refl
 
 -- of the keys of the cells, the marks depend on the validate marks alone
 module _ (s : Settings) (w : View) (keys keys′ : List ℕ) (same : (k : ℕ) → k < w .count → validateMark s w keys k ≡ validateMark s w keys′ k) where

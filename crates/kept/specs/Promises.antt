@@ -4,7 +4,7 @@ use mathlib.Core.Path.{_≡_, refl, sym, ap, _∙_}
 use mathlib.Core.Bool.{Bool, true, false, not, _&&_, false≢true}
 use mathlib.Core.Logic.{_⊎_, inl, inr}
 use mathlib.Core.List.{List}
-use Prim.Native.Nat.{ℕ, _+_, _*_, _%_, _<_}
+use Prim.Native.Nat.{ℕ, _+_, _*_, _/_, _%_, _<_}
 use native.Mathlib.Omega.{arith}
 use lib.Dec.{eqb, ltb}
 use lib.IntN.{ℤ}
@@ -38,7 +38,7 @@ use Rattle.kept.specs.Marks.{wrongMark, earlierMark, marksAt, countIn, i
 use Rattle.kept.specs.Answer.{answerBy, rowsBy, answerOf, rowsAfter}
 use Rattle.kept.specs.declared.Answer.the-variants.{Accepted}
 use Rattle.kept.specs.Words.{shareEdge, Distinct, survivor, joined, keptRank}
-use Rattle.kept.specs.Depends.{kept-means, kept-same, low-bits}
+use Rattle.kept.specs.Depends.{kept-means, kept-same, low-bits, low-bit, middle-bits, one-bit}
 use Rattle.kept.specs.Patch.{largest-kept, roots, patchOf, all-counted, count-on, count-off}
 use Rattle.kept.specs.Switched.{Switched, switchedOn, same-points, same-settings}
 use Rattle.kept.specs.Unswitched.{validate-unswitched}
@@ -53,8 +53,12 @@ ranks-are-cells file room s ps b e i j ij jn =
     let o = accepted-order file room s ps b e in
     sym (key-order (getD ps i nowhere) (getD ps j nowhere) (o .inside i (omega arith)) (o .inside j jn)) ∙ lt-ltb (keyOf (getD ps i nowhere)) (keyOf (getD ps j nowhere)) (o .rising i j ij jn)
 
--- "On any accepted sheet the kept patch is the points whose row has no mark": the ranks with 0 in the first of the 28 bytes
-pub kept-rows : (file buffer : List ℕ) (s : Settings) (ps : List Point) → rulingOf file (length buffer) ≡ accepted s ps → (k : ℕ) → keptRank s ps k ≡ ltb k (length ps) && eqb (getD (rowsAfter file buffer) (28 * k) 0) 0
+-- the first of the 28 bytes of row k: "Byte 0: marks"
+abbrev pub marksByte : List ℕ → List ℕ → ℕ → ℕ
+marksByte file buffer k = getD (rowsAfter file buffer) (28 * k) 0
+
+-- "On any accepted sheet the kept patch is the points whose row has no mark": the ranks with 0 there
+pub kept-rows : (file buffer : List ℕ) (s : Settings) (ps : List Point) → rulingOf file (length buffer) ≡ accepted s ps → (k : ℕ) → keptRank s ps k ≡ ltb k (length ps) && eqb (marksByte file buffer k) 0
 kept-rows file buffer s ps e k = and-under (ltb k (length ps)) (λ l. ap (λ (b : ℕ). eqb b 0) (sym (row-marks file buffer s ps e k (ltb-true k (length ps) l))))
 
 -- ---- (a) the kept patch
@@ -176,6 +180,45 @@ moved-sheet file other a b bf bo o room in-range s ps e =
       kept = kept-moves s ps (m .points) (m .size) v;
     }
 
+-- the same, of the rows in one buffer: bits 1 and 2 stay; if bit 0 stays too, the same rows have no mark
+pub record MovedRows (file other buffer : List ℕ) (n : ℕ) : Type 0 where
+  pub marks : (k : ℕ) → k < n → marksByte other buffer k / 2 % 4 ≡ marksByte file buffer k / 2 % 4
+  pub kept : ((k : ℕ) → k < n → marksByte other buffer k % 2 ≡ marksByte file buffer k % 2) → (k : ℕ) → k < n → eqb (marksByte other buffer k) 0 ≡ eqb (marksByte file buffer k) 0
+
+pub moved-rows : (file other buffer : List ℕ) (a b : ℤ) → Bytes file → Bytes other → Offset file other (layoutOf file) a b
+    → applies other (length buffer) 6 ≡ false → (s : Settings) (ps : List Point) → rulingOf file (length buffer) ≡ accepted s ps → MovedRows file other buffer (length ps)
+moved-rows file other buffer a b bf bo o in-range s ps e = record {
+  marks = λ k h. ap (λ (x : ℕ). x / 2 % 4) (new k h) ∙ middle-bits s (viewOf qs) (keysOf qs) k ∙ both k h ∙ sym (middle-bits s (viewOf ps) (keysOf ps) k) ∙ ap (λ (x : ℕ). x / 2 % 4) (sym (old k h));
+  kept = λ f k h.
+      sym (under (length qs) k (eqb (marksByte other buffer k) 0) (within k h)) ∙ sym (kept-rows other buffer s qs (m .along .ruling) k)
+      ∙ m .kept (λ j l. one-bit (validateMark s (viewOf qs) (keysOf qs) j) (validateMark s (viewOf ps) (keysOf ps) j)
+      (sym (low-bit s (viewOf qs) (keysOf qs) j) ∙ ap (λ (x : ℕ). x % 2) (sym (new j l)) ∙ f j l ∙ ap (λ (x : ℕ). x % 2) (old j l) ∙ low-bit s (viewOf ps) (keysOf ps) j)) k
+      ∙ kept-rows file buffer s ps e k ∙ under (length ps) k (eqb (marksByte file buffer k) 0) h;
+}
+  where
+    m : MovedMarks other (length buffer) a b s ps
+    m = moved-sheet file other a b bf bo o (length buffer) in-range s ps e
+
+    qs : List Point
+    qs = m .along .points
+
+    within : (k : ℕ) → k < length ps → k < length qs
+    within k h = omega (arith, m .along .size)
+
+    new : (k : ℕ) → k < length ps → marksByte other buffer k ≡ marksAt s (viewOf qs) (keysOf qs) k
+    new k h = row-marks other buffer s qs (m .along .ruling) k (within k h)
+
+    old : (k : ℕ) → k < length ps → marksByte file buffer k ≡ marksAt s (viewOf ps) (keysOf ps) k
+    old k h = row-marks file buffer s ps e k h
+
+    both : (k : ℕ) → k < length ps → bit (orientationMark (viewOf qs) k) + 2 * bit (wrongMark s (viewOf qs) (keysOf qs) k) ≡ bit (orientationMark (viewOf ps) k) + 2 * bit (wrongMark s (viewOf ps) (keysOf ps) k)
+    both k h =
+        ap (λ (x : Bool). bit x + 2 * bit (wrongMark s (viewOf qs) (keysOf qs) k)) (m .orientation k h)
+        ∙ ap (λ (x : Bool). bit (orientationMark (viewOf ps) k) + 2 * bit x) (m .wrong k h)
+
+    under : (n k : ℕ) (x : Bool) → k < n → ltb k n && x ≡ x
+    under n k x h = ap (λ (y : Bool). y && x) (lt-ltb k n h)
+
 -- ---- (d) the switches
 
 -- "Changing only the two switches alters neither bit 0 nor bit 1": of any settings that differ in the switches alone
@@ -202,7 +245,7 @@ switches file other bf bo w room room′ s t ps qs e f =
 -- the same, of the bytes of the rows in one buffer
 pub switched-rows : (file other buffer : List ℕ) → Bytes file → Bytes other → Switched file other → (s t : Settings) (ps qs : List Point)
     → rulingOf file (length buffer) ≡ accepted s ps → rulingOf other (length buffer) ≡ accepted t qs → (k : ℕ) → k < length ps
-    → getD (rowsAfter other buffer) (28 * k) 0 % 4 ≡ getD (rowsAfter file buffer) (28 * k) 0 % 4
+    → marksByte other buffer k % 4 ≡ marksByte file buffer k % 4
 switched-rows file other buffer bf bo w s t ps qs e f k h =
     let r = switches file other bf bo w (length buffer) (length buffer) s t ps qs e f in
     let l : k < length qs = omega (arith, ap length (r .points)) in
