@@ -7,4 +7,5 @@ pub mod Patch
 pub mod Switched
 pub mod Unswitched
 pub mod RowMarks
+pub mod Moving
 pub mod Promises

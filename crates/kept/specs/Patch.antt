@@ -6,18 +6,19 @@ use mathlib.Core.List.{List}
 use Prim.Native.Nat.{ℕ, _≤_, _<_}
 use lib.Dec.{eqb, ltb}
 use lib.ListN.{length, getD}
-use borrow.Author.Tests.{ltb-true}
-use Rattle.folds.specs.Below.{some, some-at, some-fails, and-under, not-true, tally}
+use borrow.Author.Tests.{lt-ltb, ltb-true}
+use Rattle.folds.specs.Below.{some, some-at, some-fails, and-under, and-left, and-right, and-both, not-true, tally}
 use Rattle.folds.specs.Column.{column, column-at}
 use Rattle.folds.specs.Marked.{bit}
 use Rattle.view.specs.View.{View, maxPoints, squareSides}
-use Rattle.cells.specs.Points.{Point, keysOf}
+use Rattle.cells.specs.Points.{Point, nowhere, keysOf}
+use Rattle.cells.specs.Cell.{cellOf}
 use Rattle.grid.specs.Views.{viewOf}
 use Rattle.grid.specs.InOrder.{CellOrder, mirrored}
 use Rattle.grid.specs.Alike.{one-index}
 use Rattle.sheet_file.specs.declared.Settings.{Settings}
 use Rattle.patches.specs.Patches.{at, survives, linked, patchLabels}
-use Rattle.patches.specs.Reach.{Mirrored}
+use Rattle.patches.specs.Reach.{Reach, here, step, Mirrored}
 use Rattle.patches.specs.Search.{Fit}
 use Rattle.patches.proofs.Surviving.{survives-lt}
 use Rattle.patches.proofs.Closure.{reach-to}
@@ -28,7 +29,7 @@ use Rattle.components.specs.Kept.{Kept, Counted}
 use Rattle.components.proofs.Whole.{kept, counted}
 use Rattle.components.proofs.Marking.{mark-distinct, other-not}
 use Rattle.kept.specs.Marks.{earlierMark, droppedOf, componentsOf, countIn, isKept}
-use Rattle.kept.specs.Words.{Distinct, survivor, joined, keptRank}
+use Rattle.kept.specs.Words.{shareEdge, Distinct, marksIn, hasEarlier, survivor, joined, keptRank}
 use Rattle.kept.specs.Depends.{bit-zero, kept-means}
 use Rattle.kept.specs.Shared.{touch-share}
 
@@ -164,3 +165,32 @@ module _ (s : Settings) (ps : List Point) (o : CellOrder ps) where
   pub count-on : s .«apply_largest_component» ≡ true → countIn s (viewOf ps) (keysOf ps) ≡ tally roots (length ps)
   unfolding countOf viewOf
   count-on on = count-is s (viewOf ps) (keysOf ps) true on
+
+-- ---- what follows
+
+below : (s : Settings) (ps : List Point) (k : ℕ) → survivor s ps k ≡ true → k < length ps
+below s ps k e = ltb-true k (length ps) (and-left (ltb k (length ps)) (not (hasEarlier s ps k)) e)
+
+-- what is reached is a point
+pub reached-below : (s : Settings) (ps : List Point) {a k : ℕ} → Reach (survivor s ps) (joined s ps) a k → k < length ps
+reached-below s ps {a} (here e) = below s ps a e
+reached-below s ps {k = c} (step {b} r e) =
+    let t = shareEdge (cellOf (getD ps b nowhere)) (cellOf (getD ps c nowhere)) in
+    below s ps c (and-left (survivor s ps c) t (and-right (survivor s ps b) (survivor s ps c && t) e))
+
+not-false : (b : Bool) → not b ≡ false → b ≡ true
+not-false true e = refl
+not-false false e = sym e
+
+module _ (s : Settings) (ps : List Point) where
+  pub none-kept : ((k : ℕ) → k < length ps → hasEarlier s ps k ≡ true) → (k : ℕ) → keptRank s ps k ≡ false
+  none-kept f k = not-true (keptRank s ps k) (λ e. false≢true (sym (marked k (ltb-true k (length ps) (and-left (ltb k (length ps)) (eqb (marksIn s ps k) 0) e))) ∙ and-right (ltb k (length ps)) (eqb (marksIn s ps k) 0) e))
+    where
+      marked : (k : ℕ) → k < length ps → eqb (marksIn s ps k) 0 ≡ false
+      marked k h = kept-means s (viewOf ps) (keysOf ps) k ∙ rw (f k h)
+
+  -- where there is a survivor, its patch or another is kept
+  pub all-marked : Kept (survivor s ps) (joined s ps) (length ps) (keptRank s ps) → ((k : ℕ) → keptRank s ps k ≡ false) → (k : ℕ) → k < length ps → hasEarlier s ps k ≡ true
+  all-marked most f k h =
+      not-false (hasEarlier s ps k)
+      (not-true (not (hasEarlier s ps k)) (λ t. let p = most .whole k (and-both (ltb k (length ps)) (not (hasEarlier s ps k)) (lt-ltb k (length ps) h) t) in false≢true (sym (f (p .seed)) ∙ p .outer (p .seed) (here (p .survives)))))

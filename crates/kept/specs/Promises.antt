@@ -1,7 +1,7 @@
 -- Demand 3: what document 01 promises of an accepted, rearranged, moved or switched sheet, as theorems about the definitions that the call is
 -- proved equal to. Assumes nothing.
-use mathlib.Core.Path.{_≡_, refl, sym, ap, _∙_}
-use mathlib.Core.Bool.{Bool, true, false, not, _&&_, false≢true}
+use mathlib.Core.Path.{_≡_, sym, ap, _∙_}
+use mathlib.Core.Bool.{Bool, true, false, _&&_}
 use mathlib.Core.Logic.{_⊎_, inl, inr}
 use mathlib.Core.List.{List}
 use Prim.Native.Nat.{ℕ, _+_, _*_, _/_, _%_, _<_}
@@ -9,11 +9,10 @@ use native.Mathlib.Omega.{arith}
 use lib.Dec.{eqb, ltb}
 use lib.IntN.{ℤ}
 use lib.ListN.{length, getD}
-use borrow.Author.Tests.{lt-ltb, ltb-true}
+use borrow.Author.Tests.{lt-ltb}
 use Rattle.folds.specs.Among.{anyIn}
-use Rattle.folds.specs.Below.{tally, and-both, and-left, and-right, and-under, not-true}
+use Rattle.folds.specs.Below.{tally}
 use Rattle.folds.specs.Marked.{bit}
-use Rattle.view.specs.View.{View}
 use Rattle.cells.specs.Points.{Point, nowhere, keyOf, keysOf}
 use Rattle.cells.specs.Cell.{cellOf, before, key-order}
 use Rattle.grid.specs.Views.{viewOf}
@@ -25,7 +24,6 @@ use Rattle.sheet_file.specs.declared.Layout.{Layout}
 use Rattle.sheet_file.specs.declared.Settings.{Settings}
 use Rattle.points.specs.Records.{pointsIn}
 use Rattle.points.specs.Refusals.{offRange}
-use Rattle.patches.specs.Reach.{Reach, here, step}
 use Rattle.components.specs.Kept.{WholePatch, Smallest, Kept, Counted}
 use Rattle.ruling.specs.Ruling.{accepted, rulingOf, applies}
 use Rattle.ruling.specs.Header.{frame-same}
@@ -34,15 +32,16 @@ use Rattle.ruling.specs.Order.{Relisted, order}
 use Rattle.ruling.specs.Offset.{Offset, MovedAlong, offset}
 use Rattle.validate.specs.Validate.{validateMark}
 use Rattle.orientation.specs.Orientation.{orientationMark}
-use Rattle.kept.specs.Marks.{wrongMark, earlierMark, marksAt, countIn, isKept}
+use Rattle.kept.specs.Marks.{countIn}
 use Rattle.kept.specs.Answer.{answerBy, rowsBy, answerOf, rowsAfter}
 use Rattle.kept.specs.declared.Answer.the-variants.{Accepted}
-use Rattle.kept.specs.Words.{shareEdge, Distinct, survivor, joined, keptRank}
-use Rattle.kept.specs.Depends.{kept-means, kept-same, low-bits, low-bit, middle-bits, one-bit}
-use Rattle.kept.specs.Patch.{largest-kept, roots, patchOf, all-counted, count-on, count-off}
+use Rattle.kept.specs.Words.{Distinct, marksIn, hasValidate, hasOrientation, hasWrong, hasEarlier, survivor, joined, keptRank, marksByte}
+use Rattle.kept.specs.Depends.{low-bits}
+use Rattle.kept.specs.Patch.{none-kept, all-marked, reached-below, largest-kept, roots, patchOf, all-counted, count-on, count-off}
 use Rattle.kept.specs.Switched.{Switched, switchedOn, same-points, same-settings}
 use Rattle.kept.specs.Unswitched.{validate-unswitched}
-use Rattle.kept.specs.RowMarks.{row-marks}
+use Rattle.kept.specs.RowMarks.{row-marks, kept-rows}
+use Rattle.kept.specs.Moving.{orientation-stays, wrong-stays, kept-stays, middle-stays, rows-stay}
 
 -- ---- ranks, and the rows
 
@@ -53,57 +52,33 @@ ranks-are-cells file room s ps b e i j ij jn =
     let o = accepted-order file room s ps b e in
     sym (key-order (getD ps i nowhere) (getD ps j nowhere) (o .inside i (omega arith)) (o .inside j jn)) ∙ lt-ltb (keyOf (getD ps i nowhere)) (keyOf (getD ps j nowhere)) (o .rising i j ij jn)
 
--- the first of the 28 bytes of row k: "Byte 0: marks"
-abbrev pub marksByte : List ℕ → List ℕ → ℕ → ℕ
-marksByte file buffer k = getD (rowsAfter file buffer) (28 * k) 0
-
--- "On any accepted sheet the kept patch is the points whose row has no mark": the ranks with 0 there
-pub kept-rows : (file buffer : List ℕ) (s : Settings) (ps : List Point) → rulingOf file (length buffer) ≡ accepted s ps → (k : ℕ) → keptRank s ps k ≡ ltb k (length ps) && eqb (marksByte file buffer k) 0
-kept-rows file buffer s ps e k = and-under (ltb k (length ps)) (λ l. ap (λ (b : ℕ). eqb b 0) (sym (row-marks file buffer s ps e k (ltb-true k (length ps) l))))
+-- "On any accepted sheet the kept patch is the points whose row has no mark": the ranks with 0 in the first byte of the row
+pub kept-by-rows : (file buffer : List ℕ) (s : Settings) (ps : List Point) → rulingOf file (length buffer) ≡ accepted s ps → (k : ℕ) → keptRank s ps k ≡ ltb k (length ps) && eqb (marksByte file buffer k) 0
+kept-by-rows = kept-rows
 
 -- ---- (a) the kept patch
 
 -- The kept patch is empty exactly when the other filters mark every point; else it is one whole patch, every other whole patch has at most
 -- as many points, and any with as many has a later smallest cell, by rank and so by u, then v.
 pub record LargestPatch (s : Settings) (ps : List Point) : Type 0 where
-  pub empty : ((k : ℕ) → k < length ps → earlierMark s (viewOf ps) (keysOf ps) k ≡ true) → (k : ℕ) → k < length ps → isKept s (viewOf ps) (keysOf ps) k ≡ false
-  pub empty-only : ((k : ℕ) → k < length ps → isKept s (viewOf ps) (keysOf ps) k ≡ false) → (k : ℕ) → k < length ps → earlierMark s (viewOf ps) (keysOf ps) k ≡ true
+  pub empty : ((k : ℕ) → k < length ps → hasEarlier s ps k ≡ true) → (k : ℕ) → keptRank s ps k ≡ false
+  pub empty-only : ((k : ℕ) → keptRank s ps k ≡ false) → (k : ℕ) → k < length ps → hasEarlier s ps k ≡ true
   pub largest : Kept (survivor s ps) (joined s ps) (length ps) (keptRank s ps)
   pub later : (W : ℕ → Bool) → WholePatch (survivor s ps) (joined s ps) W → tally W (length ps) ≡ tally (keptRank s ps) (length ps)
       → ((k : ℕ) → W k ≡ keptRank s ps k) ⊎ ((x y : ℕ) → Smallest W x → Smallest (keptRank s ps) y → before (cellOf (getD ps y nowhere)) (cellOf (getD ps x nowhere)) ≡ true)
 
--- what is reached is a point
-reached-below : (s : Settings) (ps : List Point) {a k : ℕ} → Reach (survivor s ps) (joined s ps) a k → k < length ps
-reached-below s ps {a} (here e) = ltb-true a (length ps) (and-left (ltb a (length ps)) (not (earlierMark s (viewOf ps) (keysOf ps) a)) e)
-reached-below s ps {k = c} (step {b} r e) =
-    let f = and-left (survivor s ps c) (shareEdge (cellOf (getD ps b nowhere)) (cellOf (getD ps c nowhere))) (and-right (survivor s ps b) (survivor s ps c && shareEdge (cellOf (getD ps b nowhere)) (cellOf (getD ps c nowhere))) e) in
-    ltb-true c (length ps) (and-left (ltb c (length ps)) (not (earlierMark s (viewOf ps) (keysOf ps) c)) f)
-
-not-false : (b : Bool) → not b ≡ false → b ≡ true
-not-false true e = refl
-not-false false e = sym e
-
 pub kept-patch : (file : List ℕ) (room : ℕ) (s : Settings) (ps : List Point) → Bytes file → rulingOf file room ≡ accepted s ps → Distinct ps → s .«apply_largest_component» ≡ true → LargestPatch s ps
-kept-patch file room s ps b e one on = record {
-  empty = λ f k h. kept-means s (viewOf ps) (keysOf ps) k ∙ rw (f k h);
-  empty-only = λ f k h. not-false (earlierMark s (viewOf ps) (keysOf ps) k) (not-true (not (earlierMark s (viewOf ps) (keysOf ps) k)) (λ t. some-kept f k (and-both (ltb k (length ps)) (not (earlierMark s (viewOf ps) (keysOf ps) k)) (lt-ltb k (length ps) h) t)));
-  largest = most;
-  later = λ W p t. elim (most .tie W p t) [
-    | inl q ↦ inl q
-    | inr q ↦ inr (λ x y f g. ranks-are-cells file room s ps b e y x (q x y f g) (reached-below s ps (p .inner x (f .member))))
-  ];
-}
-  where
-    most : Kept (survivor s ps) (joined s ps) (length ps) (keptRank s ps)
-    most = largest-kept s ps (accepted-order file room s ps b e) one on
-
-    some-kept : ((k : ℕ) → k < length ps → isKept s (viewOf ps) (keysOf ps) k ≡ false) → (k : ℕ) → survivor s ps k ≡ true → ⊥
-    some-kept f k t =
-        let p = most .whole k t in
-        let m = p .outer (p .seed) (here (p .survives)) in
-        false≢true
-        (sym (f (p .seed) (ltb-true (p .seed) (length ps) (and-left (ltb (p .seed) (length ps)) (isKept s (viewOf ps) (keysOf ps) (p .seed)) m)))
-        ∙ and-right (ltb (p .seed) (length ps)) (isKept s (viewOf ps) (keysOf ps) (p .seed)) m)
+kept-patch file room s ps b e one on =
+    let most = largest-kept s ps (accepted-order file room s ps b e) one on in
+    record {
+      empty = none-kept s ps;
+      empty-only = all-marked s ps most;
+      largest = most;
+      later = λ W p t. elim (most .tie W p t) [
+        | inl q ↦ inl q
+        | inr q ↦ inr (λ x y f g. ranks-are-cells file room s ps b e y x (q x y f g) (reached-below s ps (p .inner x (f .member))))
+      ];
+    }
 
 -- "with the switch on, the component count is how many whole patches there are": one for each rank that `first` picks, whose patch is `patch`
 pub record PatchCount (file : List ℕ) (room : ℕ) (s : Settings) (ps : List Point) : Type 0 where
@@ -151,18 +126,9 @@ another-order file other f b e r = record {
 -- wrong-label marks; if each has the same validate mark too, "the kept patch has moved along".
 pub record MovedMarks (file : List ℕ) (room : ℕ) (a b : ℤ) (s : Settings) (ps : List Point) : Type 0 where
   pub along : MovedAlong file room a b s ps
-  pub orientation : (k : ℕ) → k < length ps → orientationMark (viewOf (along .points)) k ≡ orientationMark (viewOf ps) k
-  pub wrong : (k : ℕ) → k < length ps → wrongMark s (viewOf (along .points)) (keysOf (along .points)) k ≡ wrongMark s (viewOf ps) (keysOf ps) k
-  pub kept : ((k : ℕ) → k < length ps → validateMark s (viewOf (along .points)) (keysOf (along .points)) k ≡ validateMark s (viewOf ps) (keysOf ps) k)
-      → (k : ℕ) → keptRank s (along .points) k ≡ keptRank s ps k
-
-module _ (s : Settings) (ps qs : List Point) (size : length qs ≡ length ps) (v : viewOf qs ≡ viewOf ps) where
-  inside : ((k : ℕ) → k < length ps → validateMark s (viewOf qs) (keysOf qs) k ≡ validateMark s (viewOf ps) (keysOf ps) k) → (k : ℕ) → k < length ps → isKept s (viewOf ps) (keysOf qs) k ≡ isKept s (viewOf ps) (keysOf ps) k
-  unfolding viewOf
-  inside same k h = kept-same s (viewOf ps) (keysOf qs) (keysOf ps) (λ k h. ap (λ (w : View). validateMark s w (keysOf qs) k) (sym v) ∙ same k h) k h
-
-  kept-moves : ((k : ℕ) → k < length ps → validateMark s (viewOf qs) (keysOf qs) k ≡ validateMark s (viewOf ps) (keysOf ps) k) → (k : ℕ) → keptRank s qs k ≡ keptRank s ps k
-  kept-moves same k = rw (size, v) (and-under (ltb k (length ps)) (λ e. inside same k (ltb-true k (length ps) e)))
+  pub orientation : (k : ℕ) → hasOrientation s (along .points) k ≡ hasOrientation s ps k
+  pub wrong : (k : ℕ) → hasWrong s (along .points) k ≡ hasWrong s ps k
+  pub kept : ((k : ℕ) → k < length ps → hasValidate s (along .points) k ≡ hasValidate s ps k) → (k : ℕ) → keptRank s (along .points) k ≡ keptRank s ps k
 
 -- "In range means that the condition of number 6 fails."
 pub moved-sheet : (file other : List ℕ) (a b : ℤ) → Bytes file → Bytes other → Offset file other (layoutOf file) a b
@@ -175,9 +141,9 @@ moved-sheet file other a b bf bo o room in-range s ps e =
     let v = view-moved a b ps (m .points) (m .size) (m .along) in
     record {
       along = m;
-      orientation = λ k h. ap (λ (w : View). orientationMark w k) v;
-      wrong = λ k h. ap (λ (w : View). wrongMark s w (keysOf ps) k) v;
-      kept = kept-moves s ps (m .points) (m .size) v;
+      orientation = orientation-stays s ps (m .points) (m .size) v;
+      wrong = wrong-stays s ps (m .points) (m .size) v;
+      kept = kept-stays s ps (m .points) (m .size) v;
     }
 
 -- the same, of the rows in one buffer: bits 1 and 2 stay; if bit 0 stays too, the same rows have no mark
@@ -187,42 +153,15 @@ pub record MovedRows (file other buffer : List ℕ) (n : ℕ) : Type 0 where
 
 pub moved-rows : (file other buffer : List ℕ) (a b : ℤ) → Bytes file → Bytes other → Offset file other (layoutOf file) a b
     → applies other (length buffer) 6 ≡ false → (s : Settings) (ps : List Point) → rulingOf file (length buffer) ≡ accepted s ps → MovedRows file other buffer (length ps)
-moved-rows file other buffer a b bf bo o in-range s ps e = record {
-  marks = λ k h. ap (λ (x : ℕ). x / 2 % 4) (new k h) ∙ middle-bits s (viewOf qs) (keysOf qs) k ∙ both k h ∙ sym (middle-bits s (viewOf ps) (keysOf ps) k) ∙ ap (λ (x : ℕ). x / 2 % 4) (sym (old k h));
-  kept = λ f k h.
-      sym (under (length qs) k (eqb (marksByte other buffer k) 0) (within k h)) ∙ sym (kept-rows other buffer s qs (m .along .ruling) k)
-      ∙ m .kept (λ j l. one-bit (validateMark s (viewOf qs) (keysOf qs) j) (validateMark s (viewOf ps) (keysOf ps) j)
-      (sym (low-bit s (viewOf qs) (keysOf qs) j) ∙ ap (λ (x : ℕ). x % 2) (sym (new j l)) ∙ f j l ∙ ap (λ (x : ℕ). x % 2) (old j l) ∙ low-bit s (viewOf ps) (keysOf ps) j)) k
-      ∙ kept-rows file buffer s ps e k ∙ under (length ps) k (eqb (marksByte file buffer k) 0) h;
-}
-  where
-    m : MovedMarks other (length buffer) a b s ps
-    m = moved-sheet file other a b bf bo o (length buffer) in-range s ps e
-
-    qs : List Point
-    qs = m .along .points
-
-    within : (k : ℕ) → k < length ps → k < length qs
-    within k h = omega (arith, m .along .size)
-
-    new : (k : ℕ) → k < length ps → marksByte other buffer k ≡ marksAt s (viewOf qs) (keysOf qs) k
-    new k h = row-marks other buffer s qs (m .along .ruling) k (within k h)
-
-    old : (k : ℕ) → k < length ps → marksByte file buffer k ≡ marksAt s (viewOf ps) (keysOf ps) k
-    old k h = row-marks file buffer s ps e k h
-
-    both : (k : ℕ) → k < length ps → bit (orientationMark (viewOf qs) k) + 2 * bit (wrongMark s (viewOf qs) (keysOf qs) k) ≡ bit (orientationMark (viewOf ps) k) + 2 * bit (wrongMark s (viewOf ps) (keysOf ps) k)
-    both k h =
-        ap (λ (x : Bool). bit x + 2 * bit (wrongMark s (viewOf qs) (keysOf qs) k)) (m .orientation k h)
-        ∙ ap (λ (x : Bool). bit (orientationMark (viewOf ps) k) + 2 * bit x) (m .wrong k h)
-
-    under : (n k : ℕ) (x : Bool) → k < n → ltb k n && x ≡ x
-    under n k x h = ap (λ (y : Bool). y && x) (lt-ltb k n h)
+moved-rows file other buffer a b bf bo o in-range s ps e =
+    let m = moved-sheet file other a b bf bo o (length buffer) in-range s ps e .along in
+    let v = view-moved a b ps (m .points) (m .size) (m .along) in
+    record { marks = middle-stays s ps (m .points) (m .size) v file other buffer e (m .ruling); kept = rows-stay s ps (m .points) (m .size) v file other buffer e (m .ruling) }
 
 -- ---- (d) the switches
 
 -- "Changing only the two switches alters neither bit 0 nor bit 1": of any settings that differ in the switches alone
-pub switch-free : (s t : Settings) → switchedOn t ≡ switchedOn s → (ps : List Point) (k : ℕ) → marksAt t (viewOf ps) (keysOf ps) k % 4 ≡ marksAt s (viewOf ps) (keysOf ps) k % 4
+pub switch-free : (s t : Settings) → switchedOn t ≡ switchedOn s → (ps : List Point) (k : ℕ) → marksIn t ps k % 4 ≡ marksIn s ps k % 4
 switch-free s t e ps k =
     let w = viewOf ps in
     let keys = keysOf ps in
@@ -233,14 +172,14 @@ switch-free s t e ps k =
 -- of two accepted files that differ in the bytes of the switches alone: the same points in the same order, each with the same two bits
 pub record SameBits (s t : Settings) (ps qs : List Point) : Type 0 where
   pub points : qs ≡ ps
-  pub bits : (k : ℕ) → marksAt t (viewOf qs) (keysOf qs) k % 4 ≡ marksAt s (viewOf ps) (keysOf ps) k % 4
+  pub bits : (k : ℕ) → marksIn t qs k % 4 ≡ marksIn s ps k % 4
 
 pub switches : (file other : List ℕ) → Bytes file → Bytes other → Switched file other → (room room′ : ℕ) (s t : Settings) (ps qs : List Point)
     → rulingOf file room ≡ accepted s ps → rulingOf other room′ ≡ accepted t qs → SameBits s t ps qs
 switches file other bf bo w room room′ s t ps qs e f =
     let p = same-points file other w bf bo room room′ s t ps qs e f in
     let x = same-settings file other w bf bo room room′ s t ps qs e f in
-    record { points = p; bits = λ k. ap (λ (l : List Point). marksAt t (viewOf l) (keysOf l) k % 4) p ∙ switch-free s t x ps k }
+    record { points = p; bits = λ k. ap (λ (l : List Point). marksIn t l k % 4) p ∙ switch-free s t x ps k }
 
 -- the same, of the bytes of the rows in one buffer
 pub switched-rows : (file other buffer : List ℕ) → Bytes file → Bytes other → Switched file other → (s t : Settings) (ps qs : List Point)
