@@ -1,15 +1,14 @@
 -- Keys that rise have places that rise. Assumes nothing.
-use mathlib.Core.Path.{_≡_, refl, sym, ap, _∙_, subst}
-use mathlib.Core.Bool.{Bool, true, false, cond, not, true≢false, false≢true}
-use Prim.Native.Nat.{ℕ, zero, suc, _+_, _-_, _*_, _≤_, _<_}
+use mathlib.Core.Path.{_≡_, refl, sym, ap, _∙_}
+use mathlib.Core.Bool.{Bool, true, false, cond, false≢true}
+use Prim.Native.Nat.{ℕ, _+_, _-_, _*_, _≤_, _<_}
 use native.Mathlib.Omega.{arith}
-use native.Mathlib.Decide.{decLe, decLt}
-use Prim.{Dec, yes, no}
-use lib.Dec.{T, ltb, ltb→lt, lt→ltb}
-use lib.IntN.{ℤ}
-use borrow.Author.Tests.{lt-ltb, le-ltb, ltb-true, ltb-false}
+use native.Mathlib.Decide.{decLt}
+use Prim.{yes, no}
+use lib.Dec.{T, ltb, lt→ltb}
+use borrow.Author.Tests.{lt-ltb, ltb-true, ltb-false}
 use lib.Ieee.{Float, nan, inf, fin, binary32, up, down, lt, neg, fits, toBits, ofBits}
-use lib.Ieee.Fits.{neg-fits, down-pos}
+use lib.Ieee.Fits.{neg-fits}
 use lib.Ieee.Positive.{above, first-pos}
 use Rattle.folds.specs.Arith.{zeroF}
 use Rattle.median.specs.Order.{above-zero}

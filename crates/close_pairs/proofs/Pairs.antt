@@ -1,28 +1,25 @@
 -- The pairs that the sweep marks are all the close pairs. Assumes nothing.
 use mathlib.Core.Path.{_≡_, refl, sym, ap, _∙_}
-use mathlib.Core.Bool.{Bool, true, false, not, _&&_, _||_, true≢false, false≢true}
+use mathlib.Core.Bool.{Bool, true, false, not, _&&_, _||_, true≢false}
 use mathlib.Core.List.{List, [], _++_}
-use Prim.Native.Nat.{ℕ, _+_, _-_, _*_, _≤_, _<_}
+use Prim.Native.Nat.{ℕ, _+_, _-_, _≤_, _<_}
 use native.Mathlib.Omega.{arith}
 use native.Mathlib.Decide.{ℕ-discrete, decLt}
-use Prim.{Dec, yes, no}
-use lib.Dec.{T, eqb, ltb}
-use lib.Ieee.Scale.{finite}
+use Prim.{yes, no}
+use lib.Dec.{eqb, ltb}
 use borrow.Author.Tests.{lt-ltb, le-ltb, ltb-true, eq-eqb, ne-eqb, eqb-true}
-use lib.ListN.{length, getD, take, drop, replicate, List·getD-append}
+use lib.ListN.{getD, take, drop, replicate, List·getD-append}
 use lib.Seq.{take-at}
 use Rattle.folds.specs.Lists.{listOf, length-list}
 use Rattle.sort.specs.Numbers.{sorted, sorted-length}
 use lib.Ieee.{Float, nan, lt}
-use Rattle.folds.specs.Arith.{_⊖_}
-use Rattle.folds.specs.Below.{some, some-yes, some-at, some-no, some-ext, both-ways, not-true, and-left, and-right, and-both, and-false, or-true}
+use Rattle.folds.specs.Below.{some, some-yes, some-at, some-no, both-ways, and-left, and-right, and-false, or-true}
 use Rattle.folds.specs.Column.{column, column-at}
-use Rattle.folds.specs.Marked.{Marked, marked-as}
-use Rattle.view.specs.View.{maxPoints, View}
-use Rattle.sort.specs.Packed.{packed, inOrder, placed, placed-below, placed-is, place-of, placed-rises}
-use Rattle.marks.specs.Arrays.{Ranks, Finite, placedView}
+use Rattle.view.specs.View.{maxPoints}
+use Rattle.sort.specs.Packed.{packed, inOrder, placed-below, placed-is, place-of, placed-rises}
+use Rattle.marks.specs.Arrays.{Finite, placedView}
 use Rattle.close_pairs.specs.Close.{close, squareOf, closeMark, limitOf}
-use Rattle.close_pairs.specs.Keys.{Number, keyOf, rankIn, Ordered}
+use Rattle.close_pairs.specs.Keys.{keyOf, rankIn, Ordered}
 use Rattle.close_pairs.specs.Sweep.{closeIn, squareX, pairHits, sweepHits, Sweepable}
 use Rattle.close_pairs.proofs.Places.{place}
 use Rattle.close_pairs.proofs.Squares.{far, square-turned}

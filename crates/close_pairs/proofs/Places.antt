@@ -1,9 +1,9 @@
 -- Finite f32 numbers as whole numbers: an f32 is a whole number of 2 ^ -149, and its place is that number, counted from far below 0. The order
 -- of numbers is that of their places, and their difference is the rounded distance of the places. Assumes nothing.
 use mathlib.Core.Path.{_≡_, refl, sym, ap, _∙_, subst}
-use mathlib.Core.Bool.{Bool, true, false, cond, not, _&&_}
+use mathlib.Core.Bool.{Bool, true, false, cond, _&&_}
 use Prim.Native.Nat.{ℕ, zero, suc, _+_, _-_, _*_, _/_, _%_, _^_, _≤_, _<_}
-use native.Mathlib.Nat.{mul-one, one-mul, zero-mul, le-of-mul-le-mul-right, mul-assoc, mul-comm, mul-left-comm, mul-right-comm, mul-pos, mul-sub, add-mul, mul-le-mul-right, mul-lt-mul-of-pos-right, lt-of-mul-lt-mul-right, mul-div-cancel, le-of-lt, eq-or-lt-of-le, zero-div, lt-of-not-le}
+use native.Mathlib.Nat.{mul-one, one-mul, zero-mul, le-of-mul-le-mul-right, mul-assoc, mul-comm, mul-right-comm, mul-pos, mul-sub, add-mul, mul-le-mul-right, mul-lt-mul-of-pos-right, lt-of-mul-lt-mul-right, mul-div-cancel, zero-div}
 use native.Mathlib.Omega.{arith}
 use native.Mathlib.Decide.{decLe}
 use lib.Dec.{T, ltb, leb, eqb, ltb→lt}
@@ -12,7 +12,7 @@ use lib.Pow.{pow-pos, pow-add, pow-lt}
 use borrow.Author.Tests.{lt-ltb, le-ltb, leb-true, ltb-true, ltb-false}
 use lib.Ieee.{Float, nan, inf, fin, binary32, up, down, fits, lt, neg, add, sub, sum, round}
 use lib.Ieee.Bits.{is-true}
-use lib.Ieee.Fits.{up-pos, down-pos, and-l, and-r}
+use lib.Ieee.Fits.{down-pos, and-l, and-r}
 use lib.Ieee.Scale.{round-same}
 use Rattle.close_pairs.specs.Keys.{Number}
 
@@ -97,14 +97,6 @@ module _ (s : Bool) (e : ℤ) where
       (subst (λ (a : ℕ). a < 2 ^ 277 * down e) (sym (exact m f))
       (subst (λ (a : ℕ). m * up e * 2 ^ 149 < a) (mul-right-comm (2 ^ 128) (down e) (2 ^ 149)) (mul-lt-mul-of-pos-right (small m f) (pow-pos 149))))
 
--- ---- the sizes of two numbers over one denominator
-
-abbrev A : (s t : Bool) (m n : ℕ) (e d : ℤ) → ℕ
-A s t m n e d = m * up e * down d
-
-abbrev B : (s t : Bool) (m n : ℕ) (e d : ℤ) → ℕ
-B s t m n e d = n * up d * down e
-
 -- ---- two numbers over one denominator: A / Q and B / Q are a / P and b / P
 
 module _ (A B a b P Q : ℕ) (pp : 0 < P) (qp : 0 < Q) (f : A * P ≡ a * Q) (g : B * P ≡ b * Q) where
@@ -131,23 +123,23 @@ module _ (A B a b P Q : ℕ) (pp : 0 < P) (qp : 0 < Q) (f : A * P ≡ a * Q) (g 
   gap-scaled = mul-comm (A - B) P ∙ mul-sub P A B ∙ rw (mul-comm P A, mul-comm P B, f, g, mul-comm a Q, mul-comm b Q) (sym (mul-sub Q a b)) ∙ mul-comm Q (a - b)
 
 module _ (s t : Bool) (m n : ℕ) (e d : ℤ) (f : T (fits binary32 (fin s m e))) (g : T (fits binary32 (fin t n d))) where
-  over-a : A s t m n e d * 2 ^ 149 ≡ steps (fin s m e) * (down e * down d)
+  over-a : m * up e * down d * 2 ^ 149 ≡ steps (fin s m e) * (down e * down d)
   over-a = mul-right-comm (m * up e) (down d) (2 ^ 149) ∙ ap (λ (x : ℕ). x * down d) (sym (exact s e m f)) ∙ mul-assoc (steps (fin s m e)) (down e) (down d)
 
-  over-b : B s t m n e d * 2 ^ 149 ≡ steps (fin t n d) * (down e * down d)
+  over-b : n * up d * down e * 2 ^ 149 ≡ steps (fin t n d) * (down e * down d)
   over-b = mul-right-comm (n * up d) (down e) (2 ^ 149) ∙ ap (λ (x : ℕ). x * down e) (sym (exact t d n g)) ∙ mul-assoc (steps (fin t n d)) (down d) (down e) ∙ ap (λ (x : ℕ). steps (fin t n d) * x) (mul-comm (down d) (down e))
 
   common : 0 < down e * down d
   common = mul-pos (down-pos e) (down-pos d)
 
-  abbrev sizes : ltb (A s t m n e d) (B s t m n e d) ≡ ltb (steps (fin s m e)) (steps (fin t n d))
-  sizes = same-order (A s t m n e d) (B s t m n e d) (steps (fin s m e)) (steps (fin t n d)) (2 ^ 149) (down e * down d) (pow-pos 149) common over-a over-b
+  abbrev sizes : ltb (m * up e * down d) (n * up d * down e) ≡ ltb (steps (fin s m e)) (steps (fin t n d))
+  sizes = same-order (m * up e * down d) (n * up d * down e) (steps (fin s m e)) (steps (fin t n d)) (2 ^ 149) (down e * down d) (pow-pos 149) common over-a over-b
 
-  abbrev sizes-back : ltb (B s t m n e d) (A s t m n e d) ≡ ltb (steps (fin t n d)) (steps (fin s m e))
-  sizes-back = same-order (B s t m n e d) (A s t m n e d) (steps (fin t n d)) (steps (fin s m e)) (2 ^ 149) (down e * down d) (pow-pos 149) common over-b over-a
+  abbrev sizes-back : ltb (n * up d * down e) (m * up e * down d) ≡ ltb (steps (fin t n d)) (steps (fin s m e))
+  sizes-back = same-order (n * up d * down e) (m * up e * down d) (steps (fin t n d)) (steps (fin s m e)) (2 ^ 149) (down e * down d) (pow-pos 149) common over-b over-a
 
-  abbrev sizes-sum : ltb 0 ((A s t m n e d) + (B s t m n e d)) ≡ ltb 0 (steps (fin s m e) + steps (fin t n d))
-  sizes-sum = same-order 0 ((A s t m n e d) + (B s t m n e d)) 0 (steps (fin s m e) + steps (fin t n d)) (2 ^ 149) (down e * down d) (pow-pos 149) common (zero-mul (2 ^ 149) ∙ sym (zero-mul (down e * down d))) (sum-scaled (A s t m n e d) (B s t m n e d) (steps (fin s m e)) (steps (fin t n d)) (2 ^ 149) (down e * down d) (pow-pos 149) common over-a over-b)
+  abbrev sizes-sum : ltb 0 ((m * up e * down d) + (n * up d * down e)) ≡ ltb 0 (steps (fin s m e) + steps (fin t n d))
+  sizes-sum = same-order 0 ((m * up e * down d) + (n * up d * down e)) 0 (steps (fin s m e) + steps (fin t n d)) (2 ^ 149) (down e * down d) (pow-pos 149) common (zero-mul (2 ^ 149) ∙ sym (zero-mul (down e * down d))) (sum-scaled (m * up e * down d) (n * up d * down e) (steps (fin s m e)) (steps (fin t n d)) (2 ^ 149) (down e * down d) (pow-pos 149) common over-a over-b)
 
 ltb-as : (p q r s : ℕ) → (p < q → r < s) → (q ≤ p → s ≤ r) → ltb p q ≡ ltb r s
 ltb-as p q r s f g = elim (decLe q p) [ yes h ↦ le-ltb p q h ∙ sym (le-ltb r s (g h)) | no h ↦ (let l : p < q = omega (arith, h) in lt-ltb p q l ∙ sym (lt-ltb r s (f l))) ]
@@ -182,30 +174,30 @@ as-round s N C D E h e q = round-same binary32 s N C D (2 ^ 149) h (pow-pos 149)
 
 -- the smaller of two sizes is taken from the larger, and the sign is s or that of the larger
 differ : (s t : Bool) (m n : ℕ) (e d : ℤ) (r u : Bool) (E : ℕ) → T (fits binary32 (fin s m e)) → T (fits binary32 (fin t n d)) → apart (steps (fin s m e)) (steps (fin t n d)) ≡ E
-    → Rounded (cond (ltb (A s t m n e d) (B s t m n e d)) (round binary32 r (B s t m n e d - A s t m n e d) (down e * down d)) (round binary32 u (A s t m n e d - B s t m n e d) (down e * down d))) E
-differ s t m n e d r u E f g q = go (ltb (A s t m n e d) (B s t m n e d)) (sizes s t m n e d f g)
+    → Rounded (cond (ltb (m * up e * down d) (n * up d * down e)) (round binary32 r (n * up d * down e - m * up e * down d) (down e * down d)) (round binary32 u (m * up e * down d - n * up d * down e) (down e * down d))) E
+differ s t m n e d r u E f g q = go (ltb (m * up e * down d) (n * up d * down e)) (sizes s t m n e d f g)
   where
-    go : (v : Bool) → v ≡ ltb (steps (fin s m e)) (steps (fin t n d)) → Rounded (cond v (round binary32 r (B s t m n e d - A s t m n e d) (down e * down d)) (round binary32 u (A s t m n e d - B s t m n e d) (down e * down d))) E
+    go : (v : Bool) → v ≡ ltb (steps (fin s m e)) (steps (fin t n d)) → Rounded (cond v (round binary32 r (n * up d * down e - m * up e * down d) (down e * down d)) (round binary32 u (m * up e * down d - n * up d * down e) (down e * down d))) E
     go true h = record {
       sign = r;
-      is = as-round r (B s t m n e d - A s t m n e d) (down e * down d) (steps (fin t n d) - steps (fin s m e)) E (common s t m n e d f g)
-          (gap-scaled (B s t m n e d) (A s t m n e d) (steps (fin t n d)) (steps (fin s m e)) (2 ^ 149) (down e * down d) (pow-pos 149) (common s t m n e d f g) (over-b s t m n e d f g) (over-a s t m n e d f g))
+      is = as-round r (n * up d * down e - m * up e * down d) (down e * down d) (steps (fin t n d) - steps (fin s m e)) E (common s t m n e d f g)
+          (gap-scaled (n * up d * down e) (m * up e * down d) (steps (fin t n d)) (steps (fin s m e)) (2 ^ 149) (down e * down d) (pow-pos 149) (common s t m n e d f g) (over-b s t m n e d f g) (over-a s t m n e d f g))
           (omega (arith, ltb-true (steps (fin s m e)) (steps (fin t n d)) (sym h)));
     }
     go false h = record {
       sign = u;
-      is = as-round u (A s t m n e d - B s t m n e d) (down e * down d) (steps (fin s m e) - steps (fin t n d)) E (common s t m n e d f g)
-          (gap-scaled (A s t m n e d) (B s t m n e d) (steps (fin s m e)) (steps (fin t n d)) (2 ^ 149) (down e * down d) (pow-pos 149) (common s t m n e d f g) (over-a s t m n e d f g) (over-b s t m n e d f g))
+      is = as-round u (m * up e * down d - n * up d * down e) (down e * down d) (steps (fin s m e) - steps (fin t n d)) E (common s t m n e d f g)
+          (gap-scaled (m * up e * down d) (n * up d * down e) (steps (fin s m e)) (steps (fin t n d)) (2 ^ 149) (down e * down d) (pow-pos 149) (common s t m n e d f g) (over-a s t m n e d f g) (over-b s t m n e d f g))
           (omega (arith, ltb-false (steps (fin s m e)) (steps (fin t n d)) (sym h)));
     }
 
 -- two sizes are added
 join : (s t : Bool) (m n : ℕ) (e d : ℤ) (r : Bool) (E : ℕ) → T (fits binary32 (fin s m e)) → T (fits binary32 (fin t n d)) → steps (fin s m e) + steps (fin t n d) ≡ E
-    → Rounded (round binary32 r (A s t m n e d + B s t m n e d) (down e * down d)) E
+    → Rounded (round binary32 r (m * up e * down d + n * up d * down e) (down e * down d)) E
 join s t m n e d r E f g q = record {
   sign = r;
-  is = as-round r (A s t m n e d + B s t m n e d) (down e * down d) (steps (fin s m e) + steps (fin t n d)) E (common s t m n e d f g)
-      (sum-scaled (A s t m n e d) (B s t m n e d) (steps (fin s m e)) (steps (fin t n d)) (2 ^ 149) (down e * down d) (pow-pos 149) (common s t m n e d f g) (over-a s t m n e d f g) (over-b s t m n e d f g)) q;
+  is = as-round r (m * up e * down d + n * up d * down e) (down e * down d) (steps (fin s m e) + steps (fin t n d)) E (common s t m n e d f g)
+      (sum-scaled (m * up e * down d) (n * up d * down e) (steps (fin s m e)) (steps (fin t n d)) (2 ^ 149) (down e * down d) (pow-pos 149) (common s t m n e d f g) (over-a s t m n e d f g) (over-b s t m n e d f g)) q;
 }
 
 pub sub-is : (x y : Float) → Number x → Number y → Rounded (sub binary32 x y) (apart (place x) (place y))
@@ -218,5 +210,5 @@ sub-is (fin false m e) (fin true n d) p q = join false true m n e d false (apart
 sub-is (fin true m e) (fin false n d) p q = join true false m n e d true (apart (origin - steps (fin true m e)) (origin + steps (fin false n d))) (p .is-f32) (q .is-f32) (omega (arith, bounded true e m (p .is-f32)))
 sub-is (fin false m e) (fin false n d) p q = differ false false m n e d true false (apart (origin + steps (fin false m e)) (origin + steps (fin false n d))) (p .is-f32) (q .is-f32) (omega arith)
 sub-is (fin true m e) (fin true n d) p q =
-    differ true true m n e d false (ltb (B true true m n e d) (A true true m n e d)) (apart (origin - steps (fin true m e)) (origin - steps (fin true n d))) (p .is-f32) (q .is-f32)
+    differ true true m n e d false (ltb (n * up d * down e) (m * up e * down d)) (apart (origin - steps (fin true m e)) (origin - steps (fin true n d))) (p .is-f32) (q .is-f32)
     (omega (arith, bounded true e m (p .is-f32), bounded true d n (q .is-f32)))

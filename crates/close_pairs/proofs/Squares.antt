@@ -8,7 +8,7 @@ use lib.Dec.{T, ltb}
 use borrow.Author.Tests.{ltb-true, ltb-false}
 use lib.Ieee.Scale.{finite}
 use lib.IntN.{ℤ}
-use lib.Pow.{pow-pos, pow-add}
+use lib.Pow.{pow-pos}
 use lib.Ieee.{Float, Format, nan, inf, fin, binary32, up, down, low, prec, emax, fits, lt, le, eq, neg, add, sub, mul, sum, round, units, odd}
 use lib.Ieee.Exact.{HasValue, round-exact}
 use lib.Ieee.Fits.{round-is, down-pos, mul-fits}
@@ -17,7 +17,7 @@ use Rattle.folds.specs.Arith.{_⊕_, _⊖_, _⊗_}
 use Rattle.folds.specs.Below.{not-true}
 use Rattle.median.specs.Order.{plain, plain-round, plain-le-inf, lt-after, lt-or-eq}
 use Rattle.close_pairs.specs.Keys.{Number}
-use Rattle.close_pairs.proofs.Places.{place, apart, Rounded, sub-is, exponent, Digits, digits}
+use Rattle.close_pairs.proofs.Places.{place, apart, sub-is, exponent, digits}
 
 -- ---- the square does not see the sign
 

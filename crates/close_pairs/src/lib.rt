@@ -6,17 +6,15 @@ ghost use mathlib.Core.Bool.{_&&_, _||_};
 ghost use mathlib.Core.List.{[]};
 ghost use Prim.Native.Nat.{ℕ, _+_, _*_, _%_, _≤_, _<_};
 ghost use lib.Dec.{T, eqb, ltb};
-ghost use lib.ListN.{length, getD};
 ghost use lib.Ieee.Scale.{finite};
 ghost use Rattle.folds.specs.Below.{some};
-ghost use Rattle.folds.specs.Column.{column};
 ghost use Rattle.folds.specs.Marked.{Marked};
 ghost use Rattle.view.specs.View.{maxPoints};
 ghost use Rattle.sort.specs.Packed.{packed};
 ghost use Rattle.marks.specs.Arrays.{Finite, placedView};
-ghost use Rattle.close_pairs.specs.Close.{limitOf, closeMark};
-ghost use Rattle.close_pairs.specs.Keys.{Rising, keyOf, rankIn, Keyed, Ordered};
-ghost use Rattle.close_pairs.specs.Sweep.{pairHits, sweepHits, Sweepable};
+ghost use Rattle.close_pairs.specs.Close.{closeMark};
+ghost use Rattle.close_pairs.specs.Keys.{Rising, Keyed, Ordered};
+ghost use Rattle.close_pairs.specs.Sweep.{sweepHits, Sweepable};
 
 // A number that rises with x, which is finite.
 fn rising(x: f32) -> u64

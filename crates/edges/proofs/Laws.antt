@@ -1,8 +1,8 @@
 -- The columns of lengths and of unit vectors are those of the definition. Assumes nothing.
-use mathlib.Core.Path.{_≡_, refl, sym, ap, _∙_}
+use mathlib.Core.Path.{_≡_, refl, sym, _∙_}
 use mathlib.Core.Bool.{Bool, true, false, cond}
 use mathlib.Core.List.{List}
-use Prim.Native.Nat.{ℕ, _+_, _*_, _<_}
+use Prim.Native.Nat.{ℕ, _<_}
 use lib.Dec.{ltb}
 use lib.ListN.{getD}
 use lib.Ieee.{Float, nan}
@@ -12,7 +12,6 @@ use Rattle.float.specs.Scalar.{normOf}
 use Rattle.view.specs.View.{maxPoints, viewAt}
 use Rattle.edges.specs.Edges.{Edge, edgeBy, noEdge, edgeAt, edgesOf}
 use Rattle.edges.specs.Parts.{otherEnd, along, lengthAt, unitAt}
-use Rattle.edges.specs.declared.EdgeColumns.{EdgeColumns}
 
 -- a part of an edge that may be none
 part : (f : Edge → Float) (b : Bool) (dx dy : Float) → f noEdge ≡ zeroF → cond b (f (edgeBy dx dy)) zeroF ≡ f (cond b (edgeBy dx dy) noEdge)

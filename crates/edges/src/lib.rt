@@ -2,11 +2,8 @@
 use view::MAX_POINTS;
 use view::NEAR_SIZE;
 ghost use mathlib.Core.Path.{_≡_};
-ghost use mathlib.Core.Bool.{cond};
 ghost use mathlib.Core.List.{List};
 ghost use Prim.Native.Nat.{ℕ, _+_, _*_, _≤_, _<_};
-ghost use lib.Dec.{ltb};
-ghost use lib.ListN.{getD};
 ghost use lib.Ieee.{nan};
 ghost use Rattle.folds.specs.Column.{column};
 ghost use Rattle.view.specs.View.{maxPoints, viewAt};

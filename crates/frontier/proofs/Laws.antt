@@ -1,5 +1,5 @@
 -- Steps of the loops over line ends. Assumes nothing.
-use mathlib.Core.Path.{_≡_, refl, sym, ap, _∙_}
+use mathlib.Core.Path.{_≡_, refl, sym, _∙_}
 use mathlib.Core.Bool.{Bool, true, false, cond, _&&_, _||_}
 use mathlib.Core.List.{List, []}
 use Prim.Native.Nat.{ℕ, _+_, _≤_, _<_}
@@ -8,7 +8,7 @@ use native.Mathlib.Decide.{ℕ-discrete, decLt}
 use Prim.{Dec, yes, no}
 use lib.Dec.{eqb, ltb, leb}
 use borrow.Author.Tests.{lt-ltb, le-ltb, eq-eqb, ne-eqb}
-use lib.ListN.{length, getD, set, replicate, length-set, length-replicate}
+use lib.ListN.{getD, set, replicate, length-set, length-replicate}
 use lib.Seq.{getD-set-same, getD-set-other}
 use lib.Ieee.{Float, nan}
 use Rattle.folds.specs.Arith.{_⊖_}
@@ -19,7 +19,7 @@ use Rattle.float.specs.Scalar.{normOf}
 use Rattle.view.specs.View.{View, maxPoints, viewAt, rankAt, present, degreeAt, nextU, prevU, nextV, prevV}
 use Rattle.marks.specs.Arrays.{nearView, placedView}
 use Rattle.marks.proofs.Guards.{guard, past}
-use Rattle.frontier.specs.Frontier.{distance, kink, kinkAt, lastOf, endMark, frontierMark}
+use Rattle.frontier.specs.Frontier.{kink, kinkAt, lastOf, endMark, frontierMark}
 use Rattle.frontier.specs.Lasts.{lastIn, Lasts}
 
 pub at-most : (t : Bool) (c r : ℕ) → r ≡ cond t (c + 1) c → r ≤ c + 1

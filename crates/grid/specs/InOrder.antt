@@ -1,18 +1,13 @@
 -- Points in cell order, and what the tables say of their cells. Assumes nothing.
-use mathlib.Core.Path.{_≡_, refl, sym, _∙_}
-use mathlib.Core.Bool.{Bool}
-use mathlib.Core.List.{List, [], _∷_, map}
+use mathlib.Core.Path.{_≡_, sym, _∙_}
+use mathlib.Core.List.{List}
 use Prim.Native.Nat.{ℕ, _+_, _-_, _≤_, _<_}
 use native.Mathlib.Omega.{arith}
-use lib.Dec.{ltb}
-use lib.ListN.{length, getD, length-map, List·getD-map}
-use Rattle.folds.specs.Lists.{All, getD-any}
+use lib.ListN.{length, getD}
 use Rattle.folds.specs.Column.{column, column-at, length-column}
 use Rattle.view.specs.View.{rankAt, maxPoints}
 use Rattle.cells.specs.Points.{Point, nowhere, keyOf, keysOf, stepOf}
 use Rattle.cells.specs.Cell.{InRange, cellOf, moved, duOf, dvOf, key-small, key-of-neighbour, neighbour-of-key}
-use Rattle.sort.specs.Sorted.{sort, sort-length, sort-all, all-at, at-all, Agree, sort-map}
-use Rattle.sort.specs.Numbers.{sorted, sorted-strict}
 use Rattle.grid.specs.Tables.{Keys, at}
 use Rattle.grid.specs.Standing.{Rising, standing-true, standing-hit, near-own, near-mirror}
 use Rattle.grid.specs.Views.{viewOf, keyList, key-read, near-read}
@@ -22,35 +17,6 @@ pub record CellOrder (ps : List Point) : Type 0 where
   pub few : length ps ≤ maxPoints
   pub inside : (k : ℕ) → k < length ps → InRange (getD ps k nowhere)
   pub rising : (i j : ℕ) → i < j → j < length ps → keyOf (getD ps i nowhere) < keyOf (getD ps j nowhere)
-
--- points in range with no two in one cell, sorted by their keys
-pub in-cell-order : (ps : List Point) → length ps ≤ maxPoints → All InRange ps → ((i j : ℕ) → i < j → j < length ps → keyOf (getD ps i nowhere) ≡ keyOf (getD ps j nowhere) → ⊥)
-    → CellOrder (sort (λ (p q : Point). ltb (keyOf p) (keyOf q)) ps)
-in-cell-order ps few inside apart = record {
-  few = omega (arith, same);
-  inside = λ k h. all-at InRange nowhere (sort byKey ps) (sort-all byKey InRange ps inside) k h;
-  rising = λ i j ij h. rw (← key-at (sort byKey ps) i (omega arith), ← key-at (sort byKey ps) j h, keys) (strict i j ij (omega (arith, same)));
-}
-  where
-    byKey : Point → Point → Bool
-    byKey p q = ltb (keyOf p) (keyOf q)
-
-    same : length (sort byKey ps) ≡ length ps
-    same = sort-length byKey ps
-
-    agree : (l : List Point) → Agree keyOf byKey ltb l
-    agree [] = tt
-    agree (p ∷ l) = (at-all (λ (q : Point). byKey q p ≡ ltb (keyOf q) (keyOf p)) nowhere l (λ k h. refl), agree l)
-
-    keys : map keyOf (sort byKey ps) ≡ sorted (map keyOf ps)
-    keys = sym (sort-map keyOf byKey ltb ps (agree ps))
-
-    key-at : (l : List Point) (k : ℕ) → k < length l → getD (map keyOf l) k 0 ≡ keyOf (getD l k nowhere)
-    key-at l k h = getD-any (map keyOf l) k 0 (keyOf nowhere) (omega (arith, length-map l keyOf)) ∙ List·getD-map keyOf l k nowhere
-
-    strict : (i j : ℕ) → i < j → j < length ps → getD (sorted (map keyOf ps)) i 0 < getD (sorted (map keyOf ps)) j 0
-    strict i j ij h =
-        sorted-strict (map keyOf ps) (λ a b ab hb e. let n : b < length ps = omega (arith, hb, length-map ps keyOf) in apart a b ab n (sym (key-at ps a (omega arith)) ∙ e ∙ key-at ps b n)) i j ij (omega (arith, length-map ps keyOf))
 
 module _ (ps : List Point) (o : CellOrder ps) where
   -- their keys are as the code asks

@@ -1,22 +1,19 @@
 -- Points whose cells are all moved by one offset have the same view; only their keys move. Assumes nothing.
-use mathlib.Core.Path.{_≡_, sym, ap}
+use mathlib.Core.Path.{_≡_, ap}
 use mathlib.Core.List.{List}
 use Prim.Native.Nat.{ℕ, _+_, _-_, _*_, _/_, _%_, _<_}
 use native.Mathlib.Omega.{arith}
-use lib.Dec.{eqb, ltb}
+use lib.Dec.{eqb}
 use lib.IntN.{ℤ}
 use lib.Ieee.{nan}
 use lib.ListN.{length, getD}
-use borrow.Author.Tests.{lt-ltb, ltb-true}
 use Rattle.folds.specs.Arith.{f32}
-use Rattle.folds.specs.Below.{first-ext, both-ways}
+use Rattle.folds.specs.Below.{first-ext}
 use Rattle.folds.specs.Lists.{list-ext}
 use Rattle.folds.specs.Column.{column-at}
 use Rattle.view.specs.View.{maxPoints}
 use Rattle.cells.specs.Points.{Point, nowhere, keyOf, keysOf}
 use Rattle.cells.specs.Cell.{InRange, cellOf, moved, upOf, downOf, keyUp, keyDown, u-moved, v-moved, key-moved}
-use Rattle.sort.specs.Sorted.{sort}
-use Rattle.sort.specs.Along.{Along, along-length, along-at, sort-along}
 use Rattle.grid.specs.Tables.{nearEntry, rowAt, columnAt, at}
 use Rattle.grid.specs.Standing.{same-test, near-shift}
 use Rattle.grid.specs.Views.{viewOf, keyList, indexList, key-read}
@@ -79,17 +76,3 @@ module _ (a b : ℤ) (ps qs : List Point) (size : length qs ≡ length ps) (all 
         list-ext nan n (λ (k : ℕ). f32 (getD qs k nowhere .x)) (λ (k : ℕ). f32 (getD ps k nowhere .x)) (λ k h. ap f32 (all k h .x)),
         list-ext nan n (λ (k : ℕ). f32 (getD qs k nowhere .y)) (λ (k : ℕ). f32 (getD ps k nowhere .y)) (λ k h. ap f32 (all k h .y)),
       )
-
--- a move of all points of a listing: their order stays, and what the filters see of them
-module _ (a b : ℤ) where
-  less-moved : (p r q w : Point) → Moved a b p q → Moved a b r w → ltb (keyOf p) (keyOf r) ≡ ltb (keyOf q) (keyOf w)
-  less-moved p r q w m n =
-      let e = key-moved a b p q (m .old) (m .new) (m .cell) in
-      let f = key-moved a b r w (n .old) (n .new) (n .cell) in
-      both-ways (ltb (keyOf p) (keyOf r)) (ltb (keyOf q) (keyOf w)) (λ t. lt-ltb (keyOf q) (keyOf w) (omega (arith, e, f, ltb-true (keyOf p) (keyOf r) t))) (λ t. lt-ltb (keyOf p) (keyOf r) (omega (arith, e, f, ltb-true (keyOf q) (keyOf w) t)))
-
-  pub order-moved : {ps qs : List Point} → Along (Moved a b) ps qs → Along (Moved a b) (sort (λ (p q : Point). ltb (keyOf p) (keyOf q)) ps) (sort (λ (p q : Point). ltb (keyOf p) (keyOf q)) qs)
-  order-moved r = sort-along (λ (p q : Point). ltb (keyOf p) (keyOf q)) (λ (p q : Point). ltb (keyOf p) (keyOf q)) less-moved r
-
-  pub view-along : {ps qs : List Point} → Along (Moved a b) ps qs → viewOf qs ≡ viewOf ps
-  view-along {ps} {qs} r = view-moved a b ps qs (sym (along-length r)) (along-at nowhere nowhere r)

@@ -14,13 +14,13 @@ use lib.Ieee.Positive.{positive as positive-float}
 use Rattle.folds.specs.Arith.{_⊗_, zeroF}
 use Rattle.folds.specs.Below.{tally, tally-more, sumOf, sum-more, sum-ext, some, some-ext, some-no, and-false, and-under, and-left, and-right}
 use Rattle.folds.specs.Lists.{listed, listed-length, listed-ext}
-use Rattle.folds.specs.Column.{column, column-at}
+use Rattle.folds.specs.Column.{column-at}
 use Rattle.float.specs.Constants.{overlongRatio, globalOverlongRatio}
 use Rattle.median.specs.Median.{medianOf, over-median-of}
 use Rattle.view.specs.View.{View, maxPoints, viewAt, own, rankAt, present}
 use Rattle.marks.specs.Arrays.{nearView}
 use Rattle.edges.specs.declared.EdgeColumns.{EdgeColumns}
-use Rattle.edges.specs.Edges.{Edge, noEdge, edgeBy, edgeAt, edgesOf}
+use Rattle.edges.specs.Edges.{Edge, edgeAt, edgesOf}
 use Rattle.judged_edges.specs.Judged.{positive, inWindow, windowLens, sheetLens, windowX, windowY, overlong, offAxis, fails, endOfFailing}
 use Rattle.judged_edges.specs.Inner.{held, windowTo, stepped, failingEnds}
 use Rattle.judged_edges.specs.declared.Window.{Window}

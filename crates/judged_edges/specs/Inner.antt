@@ -1,5 +1,4 @@
 -- Words of the inner contracts: edges read from three arrays, and a window so far. Assumes nothing.
-use mathlib.Core.Path.{_≡_}
 use mathlib.Core.Bool.{Bool, cond, _&&_, _||_}
 use mathlib.Core.List.{List}
 use Prim.Native.Nat.{ℕ, _+_}

@@ -3,7 +3,7 @@ ghost use mathlib.Core.Path.{_≡_};
 ghost use mathlib.Core.Bool.{Bool, true};
 ghost use Prim.Native.Nat.{ℕ, _+_, _≤_, _<_};
 ghost use lib.ListN.{length, getD, take, replicate};
-ghost use mathlib.Core.List.{[]};
+ghost use mathlib.Core.List.{List};
 ghost use Rattle.folds.specs.Below.{first};
 ghost use Rattle.folds.specs.Lists.{Gathered, over};
 ghost use Rattle.folds.specs.Marked.{bit};
@@ -260,7 +260,7 @@ fn count(
     }
 }
 
-// How many flags each index has from the rows and columns of its cells, at the last of its ranks. Nothing here goes by `near`.
+// How many flags each index has from the rows and columns of its cells, at the last of its ranks.
 pub fn line_flags(
     row: &[u16; MAX_POINTS],
     column: &[u16; MAX_POINTS],
@@ -273,7 +273,7 @@ pub fn line_flags(
     minimum: u16,
 ) -> [u16; MAX_POINTS]
     requires { ⌜ Lined n (now row) (now column) ⌝ }
-    ensures { λ r. ⌜ r ≡ columnOf maxPoints 0 n (flagsAt (viewAt n [] (now (row .entry)) (now (column .entry)) (now («by_idx» .entry)) (now (x .entry)) (now (y .entry))) (valueAt (now (scale .entry))) tolerance minimum) ⌝ }
+    ensures { λ r. ⌜ ((near : List ℕ) → r ≡ columnOf maxPoints 0 n (flagsAt (viewAt n near (now (row .entry)) (now (column .entry)) (now («by_idx» .entry)) (now (x .entry)) (now (y .entry))) (valueAt (now (scale .entry))) tolerance minimum)) ⌝ }
 {
     let rows = flagged(row, x, y, scale, n, tolerance, minimum);
     let columns = flagged(column, x, y, scale, n, tolerance, minimum);

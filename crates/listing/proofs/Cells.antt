@@ -1,6 +1,7 @@
--- The cell numbers that a listing prints are the point's own. Assumes nothing.
+-- How the code prints a cell number, and that the cell numbers of a listing are the point's own. Assumes nothing.
 use mathlib.Core.Path.{_≡_, refl, sym, ap, _∙_}
 use mathlib.Core.Bool.{Bool, true, false}
+use mathlib.Core.List.{_++_}
 use Prim.Native.Nat.{ℕ, suc, _+_, _-_, _*_, _/_, _%_, _^_, _≤_, _<_}
 use native.Mathlib.Omega.{arith}
 use borrow.Author.Tests.{lt-ltb, le-ltb, ltb-true, ltb-false, leb-true}
@@ -10,7 +11,17 @@ use mir.Val.{sel}
 use Rattle.folds.specs.Below.{and-left, and-right}
 use Rattle.cells.specs.Points.{Point, biased, keyOf}
 use Rattle.cells.specs.Cell.{signed, within, cellOf, InRange, range-is}
+use Rattle.text.specs.Text.{bytes, decimal, whole}
 use Rattle.listing.specs.Listing.{uOf, vOf}
+
+-- the two cases of a number that is printed as its distance from 8,003
+pub whole-below : (b : ℕ) → b < 8003 → whole (pos b -ℤ pos 8003) ≡ bytes "-" ++ decimal (8003 - b)
+unfolding whole
+whole-below b h = let e : suc (8003 - suc b) ≡ 8003 - b = omega arith in rw (lt-ltb b 8003 h, e)
+
+pub whole-from : (b : ℕ) → 8003 ≤ b → whole (pos b -ℤ pos 8003) ≡ decimal (b - 8003)
+unfolding whole
+whole-from b h = rw (le-ltb b 8003 h)
 
 -- a coordinate in range lies 3 to 16,003 with 8,003 added
 bounds : (b : ℕ) → b < 2 ^ 32 → within (signed b) ≡ true → (3 ≤ biased b) × (biased b ≤ 16003)

@@ -5,7 +5,7 @@ use Prim.Native.Nat.{ℕ, _+_, _*_}
 use lib.ListN.{replicate}
 use Rattle.folds.specs.Below.{fold, tally, first, firstIn}
 use Rattle.folds.specs.Lists.{listOf, upFrom}
-use Rattle.listing.specs.Text.{bytes, each, digit, digits, decimal, whole, hex}
+use Rattle.text.specs.Text.{bytes, each, digit, digits, decimal, whole, hex}
 use Rattle.listing.specs.Listing.{cellText, marksText, residualText, rowText, lineOf, headText, countOf, countsOf, tallyText, listingOf, refusalOf}
 
 -- the key of the cell (u, v)

@@ -1,7 +1,5 @@
-pub mod Numbers
-pub mod Stores
-pub mod Fourth
+pub mod LastArm
+pub mod Cells
 pub mod Counts
 pub mod Examples
 pub mod Size
-pub mod Cells

@@ -12,11 +12,12 @@ use lib.ListN.{length, getD, length-append}
 use Rattle.folds.specs.Below.{every, every-at, tally-le}
 use Rattle.folds.specs.Lists.{list-at}
 use Rattle.view.specs.View.{maxPoints}
-use Rattle.listing.specs.Text.{bytes, each, decimal, whole, hex, digit}
+use Rattle.text.specs.Text.{bytes, each, decimal, whole, hex, digit}
 use Rattle.listing.specs.Filters.{filterCount, firstMark, marked, filterAt}
 use Rattle.listing.specs.Listing.{cellText, markText, marksText, reasonText, residualText, residualBits, rowByte, rowText, lineOf, linesOf, headText, countOf, countsOf, countText, tallyText, listingOf, listingSize}
-use Rattle.listing.proofs.Numbers.{decimal-length, hex-length, whole-below, whole-from}
-use Rattle.listing.proofs.Stores.{each-length}
+use Rattle.text.proofs.Numbers.{decimal-length, hex-length}
+use Rattle.listing.proofs.Cells.{whole-below, whole-from}
+use Rattle.text.proofs.Stores.{each-length}
 
 record AtMost (c : ℕ) (t : List ℕ) : Type 0 where
   pub within : length t ≤ c

@@ -1,6 +1,6 @@
 -- "What the program `sheet` prints". Assumes nothing.
 use mathlib.Core.Bool.{cond, _&&_}
-use mathlib.Core.List.{List, [], _∷_, _++_}
+use mathlib.Core.List.{List, _++_}
 use Prim.Native.Nat.{ℕ, _+_, _*_, _/_, _%_}
 use lib.Dec.{eqb, leb}
 use lib.IntN.{ℤ, pos, _-ℤ_}
@@ -8,7 +8,7 @@ use lib.ListN.{getD}
 use Rattle.folds.specs.Below.{tally, first}
 use Rattle.folds.specs.Lists.{listOf}
 use Rattle.view.specs.View.{maxPoints}
-use Rattle.listing.specs.Text.{bytes, each, digit, digits, decimal, whole, hex}
+use Rattle.text.specs.Text.{bytes, each, digit, decimal, whole, hex}
 use Rattle.listing.specs.Filters.{filterAt, filterCount, marked, firstMark}
 
 -- the cell numbers in a key, which is (u + 8003) * 2^14 + (v + 8003)
@@ -89,6 +89,7 @@ tallyText counts =
     ++ each (λ k. countText k (getD counts k 0)) filterCount
     ++ bytes "\n"
 
+-- a line for each point
 abbrev pub linesOf : List ℕ → List ℕ → List ℕ → ℕ → List ℕ
 linesOf keys idx rows n = each (λ k. lineOf (getD keys k 0) (getD idx k 0) rows k) n
 

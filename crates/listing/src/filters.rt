@@ -4,10 +4,9 @@ ghost use mathlib.Core.Bool.{cond};
 ghost use mathlib.Core.List.{[], _∷_, _++_};
 ghost use Prim.Native.Nat.{_<_, _≤_};
 ghost use lib.ListN.{getD};
-ghost use Rattle.listing.specs.Text.{bytes};
+ghost use Rattle.text.specs.Text.{bytes};
 ghost use Rattle.listing.specs.Filters.{filterAt, filterCount, marked, firstMark};
-ghost use Rattle.listing.specs.Stored.{Stored};
-use crate::text;
+ghost use Rattle.text.specs.Stored.{Stored};
 
 pub(crate) const FILTERS: usize = 4;
 

@@ -1,27 +1,19 @@
 // The text that the program `sheet` prints, into a buffer that the caller lends. What it is stands in specs/Listing.antt.
 mod filters;
 mod line;
-mod text;
 
 ghost use mathlib.Core.Path.{_≡_};
 ghost use Prim.Native.Nat.{_≤_, _<_};
 ghost use Rattle.view.specs.View.{maxPoints};
-ghost use Rattle.listing.specs.Answer.{answerOf, Shows};
+ghost use Rattle.text.specs.Answer.{Shows};
 ghost use Rattle.listing.specs.Filters.{filterCount};
 ghost use Rattle.listing.specs.Listing.{headText, linesOf, countsOf, tallyText, listingOf, refusalOf, listingSize, countText};
-ghost use Rattle.listing.specs.Stored.{Stored};
-ghost use Rattle.listing.specs.Text.{each};
+ghost use Rattle.text.specs.Stored.{Stored};
+ghost use Rattle.text.specs.Text.{each};
 ghost use lib.ListN.{getD};
 use filters::FILTERS;
+use text::Written;
 use view::MAX_POINTS;
-
-// What became of a text.
-pub enum Written {
-    // All of it stands at the start of the buffer: so many bytes.
-    Whole(usize),
-    // The buffer is too short, and holds the text's first bytes.
-    NoRoom,
-}
 
 // A buffer of this size has room for every listing.
 pub const LISTING_SIZE: usize = 40 * MAX_POINTS + 128;
@@ -40,16 +32,6 @@ fn wide(x: u32) -> usize
     ensures { λ r. ⌜ r ≡ x ⌝ }
 {
     x as usize
-}
-
-// What to answer where the place after the text is `next`.
-fn answer(next: usize, size: usize) -> Written
-    ensures { λ r. ⌜ r ≡ answerOf next size ⌝ }
-{
-    if next <= size {
-        return Written::Whole(next);
-    }
-    Written::NoRoom
 }
 
 fn put_head(n: usize, components: usize, out: &mut [u8], at: usize) -> usize
@@ -138,7 +120,7 @@ pub fn write_listing(
     let b = put_lines(n, keys, idx, rows, out, a);
     let counts = tally(n, rows);
     let c = put_tally(&counts, out, b);
-    answer(c, out.len())
+    text::answer(c, out.len())
 }
 
 // `refused` and the number.
@@ -148,5 +130,5 @@ pub fn write_refusal(number: u8, out: &mut [u8]) -> Written
     let a = text::put_text(b"refused ", out, 0);
     let b = text::put_decimal(number as usize, out, a);
     let c = text::put_byte(b'\n', out, b);
-    answer(c, out.len())
+    text::answer(c, out.len())
 }

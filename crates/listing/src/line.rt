@@ -2,13 +2,14 @@
 ghost use mathlib.Core.Path.{_≡_};
 ghost use mathlib.Core.List.{[], _∷_};
 ghost use Prim.Native.Nat.{_<_, _^_};
+ghost use lib.IntN.{pos, _-ℤ_};
 ghost use Rattle.view.specs.View.{maxPoints};
 ghost use Rattle.listing.specs.Filters.{filterCount};
 ghost use Rattle.listing.specs.Listing.{cellText, markText, marksText, reasonText, rowByte, residualBits, residualText, rowText, lineOf};
-ghost use Rattle.listing.specs.Stored.{Stored};
+ghost use Rattle.text.specs.Stored.{Stored};
+ghost use Rattle.text.specs.Text.{whole};
 use crate::filters;
 use crate::filters::FILTERS;
-use crate::text;
 
 // Byte j of row k, or 0 past the end.
 pub(crate) fn row_byte(rows: &[u8], k: usize, j: usize) -> u8
@@ -91,12 +92,23 @@ fn put_row(rows: &[u8], k: usize, out: &mut [u8], at: usize) -> usize
     put_residual(rows, k, out, d)
 }
 
+// The cell number b - 8003.
+fn put_cell_number(b: usize, out: &mut [u8], at: usize) -> usize
+    ensures { λ r. ⌜ Stored (now (out .entry)) at (whole (pos b -ℤ pos 8003)) (now (out .exit)) r ⌝ }
+{
+    if b < 8003 {
+        let next = text::put_byte(b'-', out, at);
+        return text::put_decimal(8003 - b, out, next);
+    }
+    text::put_decimal(b - 8003, out, at)
+}
+
 fn put_cell(key: usize, out: &mut [u8], at: usize) -> usize
     ensures { λ r. ⌜ Stored (now (out .entry)) at (cellText key) (now (out .exit)) r ⌝ }
 {
-    let a = text::put_cell_number(key / 16384, out, at);
+    let a = put_cell_number(key / 16384, out, at);
     let b = text::put_byte(b' ', out, a);
-    text::put_cell_number(key % 16384, out, b)
+    put_cell_number(key % 16384, out, b)
 }
 
 pub(crate) fn put_line(

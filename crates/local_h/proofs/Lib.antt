@@ -2,3 +2,4 @@ pub mod Ordered
 pub mod Coordinate
 pub mod Bases
 pub mod Indexing
+pub mod Worked

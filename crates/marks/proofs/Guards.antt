@@ -1,13 +1,13 @@
 -- A place below n that is hit: the guard that it is below n tells nothing where m is. Assumes nothing.
-use mathlib.Core.Path.{_≡_, refl, sym, ap, _∙_}
+use mathlib.Core.Path.{_≡_, refl, ap, _∙_}
 use mathlib.Core.Bool.{Bool, true, false, _&&_}
 use mathlib.Core.List.{List}
 use Prim.Native.Nat.{ℕ, _≤_, _<_}
 use native.Mathlib.Omega.{arith}
 use native.Mathlib.Decide.{ℕ-discrete}
-use Prim.{Dec, yes, no}
+use Prim.{yes, no}
 use lib.Dec.{eqb, ltb}
-use borrow.Author.Tests.{lt-ltb, le-ltb, eq-eqb, ne-eqb}
+use borrow.Author.Tests.{lt-ltb, le-ltb, ne-eqb}
 use lib.ListN.{getD, replicate}
 use Rattle.folds.specs.Below.{some, some-ext, some-no, and-false}
 use Rattle.folds.specs.Column.{column, column-ext, column-at}

@@ -1,8 +1,8 @@
 -- One number more, and the middle of the sorted patterns. Assumes nothing.
-use mathlib.Core.Path.{_≡_, refl, sym, ap, _∙_, subst}
+use mathlib.Core.Path.{_≡_, refl, sym, ap, _∙_}
 use mathlib.Core.Bool.{Bool, true, false, cond}
-use mathlib.Core.List.{List, [], _∷_, _++_, map}
-use Prim.Native.Nat.{ℕ, zero, suc, _+_, _/_, _≤_, _<_}
+use mathlib.Core.List.{List, [], _∷_, _++_}
+use Prim.Native.Nat.{ℕ, zero, suc, _+_, _/_, _<_}
 use native.Mathlib.Nat.{eq-or-lt-of-le}
 use mathlib.Core.Logic.{⊎-elim}
 use native.Mathlib.Omega.{arith}
@@ -10,9 +10,8 @@ use lib.Dec.{T, ltb}
 use lib.ListN.{length, getD, take, drop, List·getD-append}
 use lib.Ieee.{Float, nan, binary32, lt, fits, toBits}
 use lib.Ieee.Positive.{above}
-use Rattle.folds.specs.Arith.{zeroF}
 use Rattle.folds.specs.Below.{tally, tally-turn}
-use Rattle.folds.specs.Lists.{All, all-listed, listed, listed-none, listed-more, listed-length}
+use Rattle.folds.specs.Lists.{All, all-listed, listed, listed-more, listed-length}
 use Rattle.sort.specs.Sorted.{sort, sort-length, sort-all, sort-map, Agree}
 use Rattle.median.specs.Order.{above-zero}
 use Rattle.median.specs.Bits.{bits-order}

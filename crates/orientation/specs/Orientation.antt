@@ -1,6 +1,6 @@
 -- "A cell with neighbours at u+1 and v+1 votes by the sign of its cross product; zero casts no vote. With votes on both sides, members of the
 -- minority only are marked; on a tie, members of exactly one side." Assumes nothing.
-use mathlib.Core.Bool.{Bool, true, false, cond, not, _&&_, _||_}
+use mathlib.Core.Bool.{Bool, false, cond, not, _&&_, _||_}
 use mathlib.Core.List.{List}
 use Prim.Native.Nat.{ℕ}
 use lib.Dec.{eqb, ltb}

@@ -6,3 +6,4 @@ pub mod Numbered
 pub mod Standing
 pub mod Order
 pub mod Offset
+pub mod Switches

@@ -1,5 +1,4 @@
 pub mod Sorted
 pub mod Numbers
 pub mod Packed
-pub mod Along
 pub mod Parts

@@ -1,7 +1,7 @@
 // The local step of each index, its scale, and the steps that lie too far from their median.
 ghost use mathlib.Core.Path.{_≡_};
 ghost use mathlib.Core.Bool.{_&&_};
-ghost use mathlib.Core.List.{[]};
+ghost use mathlib.Core.List.{List, []};
 ghost use Prim.Native.Nat.{ℕ, _≤_, _<_};
 ghost use lib.ListN.{getD};
 ghost use lib.Ieee.{nan, lt};
@@ -136,7 +136,7 @@ pub fn steps(
     aware: bool,
 ) -> [f32; MAX_POINTS]
     requires { ⌜ n ≤ maxPoints ⌝ }
-    ensures { λ r. ⌜ r ≡ column maxPoints nan n (stepAt (viewAt n (now (near .entry)) [] [] (now («by_idx» .entry)) (now (x .entry)) (now (y .entry))) aware) ⌝ }
+    ensures { λ r. ⌜ ((row col : List ℕ) → r ≡ column maxPoints nan n (stepAt (viewAt n (now (near .entry)) row col (now («by_idx» .entry)) (now (x .entry)) (now (y .entry))) aware)) ⌝ }
 {
     let none: f32 = 0.0 / 0.0;
     let mut out = [none; MAX_POINTS];

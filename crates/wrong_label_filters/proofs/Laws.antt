@@ -2,21 +2,19 @@
 use mathlib.Core.Path.{_≡_, refl, sym, ap, _∙_}
 use mathlib.Core.Bool.{Bool, true, false, _&&_, _||_}
 use mathlib.Core.List.{List, []}
-use Prim.Native.Nat.{ℕ, _≤_, _<_}
-use lib.Dec.{eqb, ltb}
+use Prim.Native.Nat.{ℕ}
+use lib.Dec.{ltb}
 use borrow.Author.Tests.{lt-ltb, le-ltb}
 use lib.ListN.{getD, replicate}
 use lib.Ieee.{Float}
-use Rattle.folds.specs.Below.{some}
 use Rattle.folds.specs.Column.{column, column-ext}
 use Rattle.folds.specs.Marked.{bit, Marked, marked-then}
 use Rattle.view.specs.View.{View, maxPoints, viewAt, nextU, nextV, indexHas}
-use Rattle.edges.specs.Edges.{edgeAt}
 use Rattle.edges.specs.declared.EdgeColumns.{EdgeColumns}
 use Rattle.marks.specs.Arrays.{setFor, placedView}
 use Rattle.marks.proofs.Guards.{marked-as-column, set-for}
 use Rattle.close_pairs.specs.Close.{closeMark}
-use Rattle.judged_edges.specs.Judged.{endOfFailing, edgeMark}
+use Rattle.judged_edges.specs.Judged.{edgeMark}
 use Rattle.judged_edges.proofs.Laws.{hits, marks-are, marks-past}
 use Rattle.frontier.specs.Frontier.{frontierMark}
 use Rattle.wrong_label_filters.specs.WrongLabel.{wrongPoint, wrongLabelMark, wrongLabelOf}

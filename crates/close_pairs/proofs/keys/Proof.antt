@@ -1,5 +1,5 @@
 use Prim.Native.Nat.{ℕ, _-_, _≤_, _<_}
-use mathlib.Core.Path.{_≡_, refl}
+use mathlib.Core.Path.{_≡_}
 use native.Mathlib.Omega.{arith}
 use lib.Ieee.{nan}
 use lib.ListN.{getD, replicate, length-replicate}
@@ -7,7 +7,7 @@ use Rattle.folds.specs.Column.{Filling, fill-start, fill-more, filled}
 use Rattle.view.specs.View.{maxPoints}
 use Rattle.sort.specs.Packed.{packed}
 use Rattle.close_pairs.specs.Keys.{Number, keyOf}
-use borrow.Author.Count.{below-none, below-more}
+use borrow.Author.Count.{below-more}
 use borrow.Author.Needs.{needs}
 use Rattle.close_pairs.proofs.keys.Statement.{statement}
 use Rattle.close_pairs.proofs.keys.Tie as tie

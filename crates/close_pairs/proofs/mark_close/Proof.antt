@@ -1,5 +1,3 @@
-use mathlib.Core.Path.{_≡_, refl}
-use mathlib.Core.Bool.{_&&_}
 use lib.Dec.{ltb}
 use Rattle.folds.specs.Below.{and-false}
 use Rattle.folds.specs.Marked.{marked-none, marked-as}

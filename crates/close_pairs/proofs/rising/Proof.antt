@@ -3,11 +3,11 @@ use Rattle.median.specs.Order.{above-zero}
 use Rattle.close_pairs.specs.Keys.{risingOf}
 use Rattle.close_pairs.proofs.KeyOrder.{below-zero}
 use lib.Dec.{T}
-use lib.Ieee.{Float, neg, binary32, fits, toBits}
+use lib.Ieee.{neg, binary32, fits, toBits}
 use lib.Ieee.Fits.{neg-fits}
 use native.Mathlib.Omega.{arith}
 use Prim.Native.Nat.{_<_}
-use mathlib.Core.Path.{_≡_, sym, subst}
+use mathlib.Core.Path.{sym, subst}
 use Rattle.close_pairs.proofs.rising.Statement.{statement}
 use Rattle.close_pairs.proofs.rising.Tie as tie
 

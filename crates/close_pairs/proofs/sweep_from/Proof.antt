@@ -1,11 +1,11 @@
-use Prim.Native.Nat.{ℕ, _+_, _-_, _≤_, _<_}
-use mathlib.Core.Path.{_≡_, sym, _∙_}
+use Prim.Native.Nat.{ℕ, _-_, _≤_, _<_}
+use mathlib.Core.Path.{_≡_}
 use native.Mathlib.Omega.{arith}
 use lib.ListN.{getD}
 use Rattle.folds.specs.Below.{some}
 use Rattle.folds.specs.Marked.{Marked, marked-none, marked-as, marked-more}
 use Rattle.close_pairs.specs.Close.{close, squareOf}
-use Rattle.close_pairs.specs.Sweep.{pairHits, sweepHits}
+use Rattle.close_pairs.specs.Sweep.{pairHits}
 use Rattle.close_pairs.proofs.Pairs.{sweep-none, sweep-stop, pair-is}
 use borrow.Author.Needs.{needs}
 use Rattle.close_pairs.proofs.sweep_from.Statement.{statement}

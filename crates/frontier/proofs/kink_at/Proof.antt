@@ -1,7 +1,5 @@
-use borrow.Author.Tests.{lt-ltb, le-ltb, le-leb, lt-leb, eq-eqb, ne-eqb}
-use mathlib.Core.Path.{_≡_, refl, sym, _∙_}
-use Rattle.view.specs.View.{rankAt}
-use Rattle.marks.specs.Arrays.{placedView}
+use borrow.Author.Tests.{lt-ltb, le-ltb, le-leb, lt-leb}
+use mathlib.Core.Path.{refl}
 use Rattle.frontier.proofs.Laws.{kink-is}
 use borrow.Author.Needs.{needs}
 use Rattle.frontier.proofs.kink_at.Statement.{statement}

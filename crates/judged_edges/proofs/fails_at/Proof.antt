@@ -1,7 +1,5 @@
-use borrow.Author.Tests.{lt-ltb, le-ltb, le-leb, lt-leb, eq-eqb, ne-eqb}
-use mathlib.Core.Path.{_∙_}
+use borrow.Author.Tests.{lt-ltb, le-ltb, le-leb, lt-leb}
 use Rattle.marks.specs.Arrays.{nearView}
-use Rattle.judged_edges.specs.Judged.{fails}
 use Rattle.judged_edges.specs.Inner.{held}
 use Rattle.judged_edges.proofs.Laws.{fails-is, fails-by}
 use borrow.Author.Needs.{needs}

@@ -1,4 +1,4 @@
-use borrow.Author.Tests.{lt-ltb, le-ltb, le-leb, lt-leb, eq-eqb, ne-eqb}
+use borrow.Author.Tests.{lt-ltb, le-ltb}
 use Rattle.folds.specs.Marked.{marked-none, marked-one, marked-as, marked-then}
 use borrow.Author.Needs.{needs}
 use Rattle.judged_edges.proofs.mark_edge.Statement.{statement}

@@ -1,12 +1,10 @@
 use Prim.Native.Nat.{ℕ, _-_, _≤_}
 use mathlib.Core.Path.{_≡_, refl}
-use mathlib.Core.Bool.{_&&_}
 use native.Mathlib.Omega.{arith}
 use lib.ListN.{getD}
 use lib.Ieee.{nan, lt}
-use Rattle.folds.specs.Arith.{_⊗_, zeroF}
+use Rattle.folds.specs.Arith.{zeroF}
 use Rattle.folds.specs.Below.{tally, tally-turn, tally-le}
-use Rattle.float.specs.Constants.{globalOverlongRatio}
 use borrow.Author.Needs.{needs}
 use Rattle.judged_edges.proofs.sheet_count.Statement.{statement}
 use Rattle.judged_edges.proofs.sheet_count.Tie as tie

@@ -1,4 +1,4 @@
-use borrow.Author.Tests.{lt-ltb, le-ltb, le-leb, lt-leb, eq-eqb, ne-eqb}
+use borrow.Author.Tests.{lt-ltb, le-ltb, eq-eqb, ne-eqb}
 use Rattle.judged_edges.specs.Judged.{inWindow}
 use borrow.Author.Needs.{needs}
 use Rattle.judged_edges.proofs.step.Statement.{statement}

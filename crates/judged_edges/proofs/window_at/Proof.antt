@@ -1,13 +1,8 @@
-use Prim.Native.Nat.{ℕ, _-_, _≤_}
-use mathlib.Core.Path.{_≡_, sym, ap, _∙_}
-use mathlib.Core.Bool.{_&&_}
+use Prim.Native.Nat.{_-_, _≤_}
+use mathlib.Core.Path.{_≡_, sym, _∙_}
 use native.Mathlib.Omega.{arith}
-use lib.Ieee.{lt}
-use Rattle.folds.specs.Arith.{_⊗_}
 use Rattle.folds.specs.Below.{tally-le}
-use Rattle.float.specs.Constants.{overlongRatio}
 use Rattle.marks.specs.Arrays.{nearView}
-use Rattle.judged_edges.specs.Judged.{inWindow}
 use Rattle.judged_edges.specs.Inner.{held, windowTo}
 use Rattle.judged_edges.proofs.Laws.{window-none, window-more}
 use borrow.Author.Needs.{needs}

@@ -21,7 +21,7 @@ count-requires-2 c κs = let s = c .before .before .before .before .before .befo
     (s .pre .rows .few, d .size ∙ length-replicate {A = ℕ} maxPoints 0, λ m l. omega (arith, counted-le _ _ _ (s .args .n) m _ (omega (arith, length-replicate {A = ℕ} maxPoints 0)) d, replicate-at {A = ℕ} maxPoints 0 m, s .pre .rows .few))
 
 returns : tie.Need-returns
-returns c = let f = c .before .before .before .before .before .before in let a = f .before .before .args in
+returns c near = let f = c .before .before .before .before .before .before in let a = f .before .before .args in
     line-counts (a .by-idx .now) (ruleBy (a .x .now) (a .y .now) (a .scale .now) (a .tolerance)) (a .minimum) (lineAt (a .row .now)) (lineAt (a .column .now)) maxPoints (a .n) (f .before .before .pre .rows .few) (f .before .flagged .ensures) (f .flagged2 .ensures) (c .before .before .before .count .ensures) (c .count2 .ensures)
 
 pub line-flags-spec : {M : Type 1} → statement M

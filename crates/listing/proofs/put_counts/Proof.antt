@@ -1,12 +1,13 @@
+-- `listing::put_counts` meets its contract. Assumes nothing.
 use mathlib.Core.Path.{_≡_}
 use Prim.Native.Nat.{_≤_, _-_}
 use native.Mathlib.Omega.{arith}
 use lib.ListN.{getD}
-use Rattle.listing.specs.Text.{each}
-use Rattle.listing.specs.Stored.{Stored}
+use Rattle.text.specs.Text.{each}
+use Rattle.text.specs.Stored.{Stored}
 use Rattle.listing.specs.Filters.{filterCount}
 use Rattle.listing.specs.Listing.{countText}
-use Rattle.listing.proofs.Stores.{stored-start, stored-then, stored-more, stored-length}
+use Rattle.text.proofs.Stores.{stored-start, stored-then, stored-more, stored-length}
 use borrow.Author.Needs.{needs}
 use Rattle.listing.proofs.put_counts.Statement.{statement}
 use Rattle.listing.proofs.put_counts.Tie as tie

@@ -1,5 +1,6 @@
+-- `listing::put_head` meets its contract. Assumes nothing.
 use Rattle.listing.specs.Listing.{headText}
-use Rattle.listing.proofs.Stores.{stored-then}
+use Rattle.text.proofs.Stores.{stored-then}
 use borrow.Author.Needs.{needs}
 use Rattle.listing.proofs.put_head.Statement.{statement}
 use Rattle.listing.proofs.put_head.Tie as tie

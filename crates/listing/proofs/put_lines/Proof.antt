@@ -1,10 +1,11 @@
+-- `listing::put_lines` meets its contract. Assumes nothing.
 use mathlib.Core.Path.{_≡_}
 use Prim.Native.Nat.{_≤_, _-_}
 use native.Mathlib.Omega.{arith}
 use lib.ListN.{getD}
-use Rattle.listing.specs.Stored.{Stored}
+use Rattle.text.specs.Stored.{Stored}
 use Rattle.listing.specs.Listing.{lineOf, linesOf}
-use Rattle.listing.proofs.Stores.{stored-start, stored-more, stored-length}
+use Rattle.text.proofs.Stores.{stored-start, stored-more, stored-length}
 use borrow.Author.Needs.{needs}
 use Rattle.listing.proofs.put_lines.Statement.{statement}
 use Rattle.listing.proofs.put_lines.Tie as tie

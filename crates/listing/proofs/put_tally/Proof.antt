@@ -1,5 +1,6 @@
+-- `listing::put_tally` meets its contract. Assumes nothing.
 use Rattle.listing.specs.Listing.{tallyText}
-use Rattle.listing.proofs.Stores.{stored-then}
+use Rattle.text.proofs.Stores.{stored-then}
 use borrow.Author.Needs.{needs}
 use Rattle.listing.proofs.put_tally.Statement.{statement}
 use Rattle.listing.proofs.put_tally.Tie as tie

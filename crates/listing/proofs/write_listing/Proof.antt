@@ -1,5 +1,6 @@
+-- `listing::write_listing` meets its contract. Assumes nothing.
 use Rattle.listing.specs.Listing.{listingOf}
-use Rattle.listing.proofs.Stores.{stored-then, shows}
+use Rattle.text.proofs.Stores.{stored-then, shows}
 use borrow.Author.Needs.{needs}
 use Rattle.listing.proofs.write_listing.Statement.{statement}
 use Rattle.listing.proofs.write_listing.Tie as tie

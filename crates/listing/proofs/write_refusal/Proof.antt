@@ -1,5 +1,6 @@
+-- `listing::write_refusal` meets its contract. Assumes nothing.
 use Rattle.listing.specs.Listing.{refusalOf}
-use Rattle.listing.proofs.Stores.{stored-then, shows}
+use Rattle.text.proofs.Stores.{stored-then, shows}
 use borrow.Author.Needs.{needs}
 use Rattle.listing.proofs.write_refusal.Statement.{statement}
 use Rattle.listing.proofs.write_refusal.Tie as tie

@@ -2,13 +2,13 @@ use Rattle.median.proofs.Steps.{Ok, value, value-ok}
 use Rattle.median.specs.Packed.{positive, positives}
 use Rattle.median.specs.Bits.{bits-top, below-nan}
 use Rattle.median.specs.Median.{medianOf}
-use Rattle.folds.specs.Below.{tally, tally-le}
-use Rattle.folds.specs.Lists.{listed, listed-length}
+use Rattle.folds.specs.Below.{tally-le}
+use Rattle.folds.specs.Lists.{listed-length}
 use lib.Ieee.Bits.{ofBits-toBits}
-use lib.Ieee.{Float, binary32, nan, lt, toBits, ofBits, div}
+use lib.Ieee.{Float, binary32, nan, toBits, ofBits, div}
 use lib.ListN.{length, getD}
 use native.Mathlib.Omega.{arith}
-use Prim.Native.Nat.{_/_, _≤_, _<_}
+use Prim.Native.Nat.{_/_, _≤_}
 use mathlib.Core.List.{List, [], _∷_}
 use mathlib.Core.Path.{_≡_, refl, sym, ap, _∙_}
 use Rattle.sort.specs.Sorted.{sort}

@@ -1,6 +1,6 @@
 use Rattle.median.specs.Bits.{bits-top, no-nan}
 use Rattle.median.specs.Order.{above-zero}
-use lib.ListN.{length, length-set}
+use lib.ListN.{length-set}
 use lib.Seq.{take-suc-set}
 use lib.Dec.{T}
 use native.Mathlib.Numerals.{add-one}

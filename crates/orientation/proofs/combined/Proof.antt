@@ -1,11 +1,11 @@
 use Prim.Native.Nat.{ℕ, _-_, _≤_}
-use mathlib.Core.Path.{_≡_, refl, sym, ap, _∙_}
+use mathlib.Core.Path.{_≡_, ap, _∙_}
 use native.Mathlib.Omega.{arith}
-use lib.ListN.{getD, replicate, length-replicate}
+use lib.ListN.{replicate, length-replicate}
 use Rattle.folds.specs.Column.{Filling, fill-start, fill-more, filled}
 use Rattle.folds.specs.Marked.{bit}
 use Rattle.view.specs.View.{maxPoints}
-use Rattle.marks.specs.Arrays.{isSet, placedView}
+use Rattle.marks.specs.Arrays.{isSet}
 use Rattle.orientation.specs.Orientation.{turned}
 use borrow.Author.Needs.{needs}
 use Rattle.orientation.proofs.combined.Statement.{statement}

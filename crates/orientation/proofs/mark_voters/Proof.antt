@@ -1,4 +1,4 @@
-use borrow.Author.Tests.{lt-ltb, le-ltb, eq-eqb, ne-eqb}
+use borrow.Author.Tests.{eq-eqb, ne-eqb}
 use Rattle.folds.specs.Marked.{marked-none, marked-as, marked-then}
 use Rattle.orientation.specs.Voters.{voters}
 use borrow.Author.Needs.{needs}

@@ -1,4 +1,4 @@
-use borrow.Author.Tests.{lt-ltb, le-ltb, eq-eqb, ne-eqb}
+use borrow.Author.Tests.{lt-ltb, le-ltb}
 use Rattle.orientation.specs.Orientation.{voteAt}
 use borrow.Author.Needs.{needs}
 use Rattle.orientation.proofs.vote_at.Statement.{statement}

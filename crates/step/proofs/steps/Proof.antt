@@ -1,11 +1,11 @@
 use mathlib.Core.List.{[]}
-use Rattle.step.specs.Step.{stepAt}
+use Rattle.step.specs.Step.{stepAt, step-of}
 use lib.Ieee.{Float, nan, div, ofBits}
 use lib.ListN.{replicate, length-replicate}
-use Rattle.folds.specs.Column.{Filling, fill-start, fill-more, filled}
+use Rattle.folds.specs.Column.{Filling, fill-start, fill-more, filled, column-ext}
 use Rattle.view.specs.View.{maxPoints, viewAt}
 use native.Mathlib.Omega.{arith}
-use mathlib.Core.Path.{_≡_}
+use mathlib.Core.Path.{_≡_, sym, _∙_}
 use Prim.Native.Nat.{_≤_, _-_}
 use borrow.Author.Needs.{needs}
 use Rattle.step.proofs.steps.Statement.{statement}
@@ -25,7 +25,12 @@ loop-again : tie.Need-loop-again Inv-loop μ-loop
 loop-again c = (omega arith, fill-more (replicate maxPoints nan) nan _ _ (omega (arith, length-replicate {A = Float} maxPoints nan)) (c .step-at .ensures) (c .before .before .loop .inv .1))
 
 returns : tie.Need-returns Inv-loop μ-loop
-returns c = let h : c .before .loop .m ≡ c .before .before .args .n = omega arith in filled _ (omega arith) (rw h at (c .before .loop .inv .1))
+returns c row col =
+    let h : c .before .loop .m ≡ c .before .before .args .n = omega arith in
+    let a = c .before .before .args in
+    filled _ (omega arith) (rw h at (c .before .loop .inv .1))
+    ∙ column-ext maxPoints nan (a .n) (stepAt (viewAt (a .n) (a .near .now) [] [] (a .by-idx .now) (a .x .now) (a .y .now)) (a .aware)) (stepAt (viewAt (a .n) (a .near .now) row col (a .by-idx .now) (a .x .now) (a .y .now)) (a .aware))
+    (λ m l. step-of (a .n) (a .near .now) [] [] (a .by-idx .now) (a .x .now) (a .y .now) (a .aware) m ∙ sym (step-of (a .n) (a .near .now) row col (a .by-idx .now) (a .x .now) (a .y .now) (a .aware) m))
 
 pub steps-spec : {M : Type 1} → statement M
 steps-spec =

@@ -1,3 +1,4 @@
+-- `listing::filters::is_marked` meets its contract. Assumes nothing.
 use borrow.Author.Needs.{needs}
 use Rattle.listing.proofs.filters.is_marked.Statement.{statement}
 use Rattle.listing.proofs.filters.is_marked.Tie as tie

@@ -1,4 +1,5 @@
-use Rattle.listing.proofs.Fourth.{last}
+-- `listing::filters::letter` meets its contract. Assumes nothing.
+use Rattle.listing.proofs.LastArm.{last}
 use Rattle.listing.proofs.filters.letter.Statement.{statement}
 use Rattle.listing.proofs.filters.letter.Tie as tie
 

@@ -1,4 +1,5 @@
-use Rattle.listing.proofs.Fourth.{last}
+-- `listing::filters::put_word` meets its contract. Assumes nothing.
+use Rattle.listing.proofs.LastArm.{last}
 use borrow.Author.Needs.{needs}
 use Rattle.listing.proofs.filters.put_word.Statement.{statement}
 use Rattle.listing.proofs.filters.put_word.Tie as tie

@@ -1,3 +1,4 @@
+-- `listing::line::mark_byte` meets its contract. Assumes nothing.
 use mathlib.Core.Path.{sym, _∙_}
 use borrow.Author.Needs.{needs}
 use Rattle.listing.proofs.line.mark_byte.Statement.{statement}

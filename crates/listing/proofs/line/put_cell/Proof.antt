@@ -1,5 +1,6 @@
+-- `listing::line::put_cell` meets its contract. Assumes nothing.
 use Rattle.listing.specs.Listing.{cellText}
-use Rattle.listing.proofs.Stores.{stored-then}
+use Rattle.text.proofs.Stores.{stored-then}
 use borrow.Author.Needs.{needs}
 use Rattle.listing.proofs.line.put_cell.Statement.{statement}
 use Rattle.listing.proofs.line.put_cell.Tie as tie

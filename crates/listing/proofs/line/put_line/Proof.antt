@@ -1,5 +1,6 @@
+-- `listing::line::put_line` meets its contract. Assumes nothing.
 use Rattle.listing.specs.Listing.{lineOf}
-use Rattle.listing.proofs.Stores.{stored-then}
+use Rattle.text.proofs.Stores.{stored-then}
 use borrow.Author.Needs.{needs}
 use Rattle.listing.proofs.line.put_line.Statement.{statement}
 use Rattle.listing.proofs.line.put_line.Tie as tie

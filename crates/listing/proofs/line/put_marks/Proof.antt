@@ -1,11 +1,12 @@
+-- `listing::line::put_marks` meets its contract. Assumes nothing.
 use mathlib.Core.Path.{_≡_}
 use Prim.Native.Nat.{_≤_, _-_}
 use native.Mathlib.Omega.{arith}
-use Rattle.listing.specs.Text.{each}
-use Rattle.listing.specs.Stored.{Stored}
+use Rattle.text.specs.Text.{each}
+use Rattle.text.specs.Stored.{Stored}
 use Rattle.listing.specs.Filters.{filterCount}
 use Rattle.listing.specs.Listing.{markText, marksText}
-use Rattle.listing.proofs.Stores.{stored-start, stored-more, stored-length}
+use Rattle.text.proofs.Stores.{stored-start, stored-more, stored-length}
 use borrow.Author.Needs.{needs}
 use Rattle.listing.proofs.line.put_marks.Statement.{statement}
 use Rattle.listing.proofs.line.put_marks.Tie as tie

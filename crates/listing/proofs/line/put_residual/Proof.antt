@@ -1,3 +1,4 @@
+-- `listing::line::put_residual` meets its contract. Assumes nothing.
 use borrow.Author.Tests.{eq-eqb, ne-eqb}
 use Rattle.listing.specs.Listing.{residualText}
 use borrow.Author.Needs.{needs}

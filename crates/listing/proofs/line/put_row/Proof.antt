@@ -1,5 +1,6 @@
+-- `listing::line::put_row` meets its contract. Assumes nothing.
 use Rattle.listing.specs.Listing.{rowText}
-use Rattle.listing.proofs.Stores.{stored-then}
+use Rattle.text.proofs.Stores.{stored-then}
 use borrow.Author.Needs.{needs}
 use Rattle.listing.proofs.line.put_row.Statement.{statement}
 use Rattle.listing.proofs.line.put_row.Tie as tie

@@ -1,3 +1,4 @@
+-- `listing::line::reason_byte` meets its contract. Assumes nothing.
 use borrow.Author.Tests.{le-leb, lt-leb}
 use borrow.Author.Needs.{needs}
 use Rattle.listing.proofs.line.reason_byte.Statement.{statement}

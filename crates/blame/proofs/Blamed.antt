@@ -1,0 +1,133 @@
+-- The members of a base are ranks; whom a corner blames; and the marks of all rules together. Assumes nothing.
+use mathlib.Core.Path.{_≡_, refl, sym, ap, _∙_}
+use mathlib.Core.Bool.{Bool, true, false, cond, not, _&&_, _||_}
+use mathlib.Core.List.{List, []}
+use Prim.Native.Nat.{ℕ, _+_, _≤_, _<_}
+use native.Mathlib.Omega.{arith}
+use borrow.Author.Tests.{eqb-true, lt-ltb, le-ltb, ltb-true, le-leb, lt-leb, eq-eqb, ne-eqb}
+use lib.Dec.{eqb, ltb, leb}
+use lib.ListN.{length, getD, set}
+use lib.Ieee.{Float}
+use Rattle.folds.specs.Below.{first, first-holds, some, some-ext, and-left, and-false, and-true, or-false}
+use Rattle.folds.specs.Column.{column, column-at, column-ext, length-column}
+use Rattle.folds.specs.Marked.{bit, Marked, marked-none, marked-one, marked-as}
+use Rattle.folds.specs.Scattered.{counts}
+use Rattle.view.specs.View.{View, viewAt, maxPoints}
+use Rattle.local_h.specs.Base.{memberAt, onLine, isOther, isFourth, baseOf}
+use Rattle.local_h.specs.declared.Base.{Base}
+use Rattle.blame.specs.declared.Worst.{Worst}
+use Rattle.blame.specs.Marks.{Evidence, evidenceBy, rule1, rule2, rule3, rule4, isOutlier, worseOf, noOne, worstOf, blamed, isVisited, isMarked, marked-of}
+use Rattle.blame.specs.Blaming.{viewBy, blames}
+
+-- ---- the members of a base
+
+other-there : (w : View) (k p : ℕ) → isOther w k p ≡ true → memberAt w k p < w .count
+unfolding isOther
+other-there w k p e = ltb-true (memberAt w k p) (w .count) (and-left (ltb (memberAt w k p) (w .count)) _ e)
+
+fourth-there : (w : View) (k a b c p : ℕ) → isFourth w k a b c p ≡ true → memberAt w k p < w .count
+unfolding isFourth
+fourth-there w k a b c p e = other-there w k p (and-left (isOther w k p) _ e)
+
+module _ (w : View) (k : ℕ) where
+  pub a-there : baseOf w k .a < 24 → memberAt w k (baseOf w k .a) < w .count
+  unfolding baseOf
+  a-there h = other-there w k _ (first-holds (isOther w k) _ 24 h)
+
+  pub b-there : baseOf w k .b < 24 → memberAt w k (baseOf w k .b) < w .count
+  unfolding baseOf
+  b-there h = other-there w k _ (first-holds (isOther w k) _ 24 h)
+
+  pub c-there : baseOf w k .c < 24 → memberAt w k (baseOf w k .c) < w .count
+  unfolding baseOf
+  c-there h = other-there w k _ (first-holds (isOther w k) _ 24 h)
+
+  pub d-there : baseOf w k .d < 24 → memberAt w k (baseOf w k .d) < w .count
+  unfolding baseOf
+  d-there h = fourth-there w k _ _ _ _ (first-holds (isFourth w k _ _ _) _ 24 h)
+
+-- ---- whom a corner blames
+
+module _ (w : View) (flags : ℕ → ℕ) (k : ℕ) where
+  worst-is : (b : Base) → worseOf w flags k (worseOf w flags k (worseOf w flags k (worseOf w flags k (noOne w flags) (b .a)) (b .b)) (b .c)) (b .d) ≡ worstOf w flags k b
+  unfolding worstOf
+  worst-is b = refl
+
+  blamed-is : worstOf w flags k (baseOf w k) .at ≡ blamed w flags k
+  unfolding blamed
+  blamed-is = refl
+
+  pub blamed-by : (b : Base) {w₁ w₂ w₃ w₄ : Worst} → b ≡ baseOf w k → w₁ ≡ worseOf w flags k (noOne w flags) (b .a) → w₂ ≡ worseOf w flags k w₁ (b .b)
+      → w₃ ≡ worseOf w flags k w₂ (b .c) → w₄ ≡ worseOf w flags k w₃ (b .d) → w₄ .at ≡ blamed w flags k
+  blamed-by b e h₁ h₂ h₃ h₄ = rw (h₄, h₃, h₂, h₁, worst-is b, e) blamed-is
+
+module _ (w : View) (e : Evidence) (k : ℕ) where
+  blames-is : (m : ℕ) → blames w e k m ≡ isVisited w e k && (ltb (blamed w (e .flags) k) (w .count) && eqb (blamed w (e .flags) k) m)
+  unfolding blames
+  blames-is m = refl
+
+  pub blames-one : (m : ℕ) (a : List ℕ) → isVisited w e k ≡ true → m ≡ blamed w (e .flags) k → m < w .count → Marked (blames w e k) a (set a m 1)
+  blames-one m a v d l =
+      marked-as (eqb m) (blames w e k) (λ i g. sym (blames-is i ∙ rw (v, ← d, lt-ltb m (w .count) l))) (marked-one m a)
+
+  pub blames-none : (m : ℕ) (a : List ℕ) → m ≡ blamed w (e .flags) k → w .count ≤ m → Marked (blames w e k) a a
+  blames-none m a d l = marked-none (blames w e k) a (λ i. blames-is i ∙ rw (← d, le-ltb m (w .count) l) (and-false (isVisited w e k)))
+
+  pub not-visited : (a : List ℕ) → isVisited w e k ≡ false → Marked (blames w e k) a a
+  not-visited a v = marked-none (blames w e k) a (λ i. blames-is i ∙ rw v)
+
+  -- at the place of an index
+  blames-at : (m : ℕ) → m < w .count → blames w e k m ≡ counts (blamed w (e .flags)) (isVisited w e) m k
+  blames-at m l = blames-is m ∙ go (isVisited w e k) (eqb (blamed w (e .flags) k) m) refl
+    where
+      go : (v b : Bool) → eqb (blamed w (e .flags) k) m ≡ b → v && (ltb (blamed w (e .flags) k) (w .count) && b) ≡ b && v
+      go v true d = rw (lt-ltb (blamed w (e .flags) k) (w .count) (omega (arith, eqb-true (blamed w (e .flags) k) m d))) (and-true v)
+      go v false d = rw (and-false (ltb (blamed w (e .flags) k) (w .count))) (and-false v)
+
+-- ---- the rules that look at an index alone
+
+module _ (f : ℕ) (high deviates : Bool) where
+  pub no-flag : f ≡ 0 → leb 2 f || ((high && leb 1 f) || (deviates && leb 1 f)) ≡ false
+  no-flag z = rw (lt-leb 2 f (omega arith), lt-leb 1 f (omega arith), and-false high) (and-false deviates)
+
+  pub two-flags : 1 < f → leb 2 f || ((high && leb 1 f) || (deviates && leb 1 f)) ≡ true
+  two-flags h = rw (le-leb 2 f (omega arith))
+
+  pub one-flag : (f ≡ 0 → ⊥) → f ≤ 1 → leb 2 f || ((high && leb 1 f) || (deviates && leb 1 f)) ≡ high || deviates
+  one-flag z h = rw (lt-leb 2 f (omega arith), le-leb 1 f (omega (arith, z)), and-true high, and-true deviates)
+
+-- ---- all rules
+
+marked-is : (w : View) (e : Evidence) (m : ℕ) → isMarked w e m ≡ rule1 e m || (rule2 e m || (rule3 w e m || rule4 e m))
+unfolding isMarked
+marked-is w e m = refl
+
+-- the marks of rule 3 put over those of the others
+module _ (n : ℕ) (near byIdx flags over high deviates : List ℕ) (few : n ≤ maxPoints) where
+  abbrev whole : Evidence
+  whole = evidenceBy flags over high deviates
+
+  all-rules : (a b : List ℕ) → a ≡ column maxPoints 0 n (λ (m : ℕ). bit (isOutlier (evidenceBy flags [] high deviates) m))
+      → Marked (λ (m : ℕ). some (λ (k : ℕ). blames (viewBy n near byIdx) (evidenceBy flags over [] []) k m) n) a b
+      → (m : ℕ) → m < n → getD b m 0 ≡ bit (isMarked (viewBy n near byIdx) whole m)
+  all-rules a b s t m l =
+      t .at m (rw s (omega (arith, length-column maxPoints 0 n (λ (m : ℕ). bit (isOutlier (evidenceBy flags [] high deviates) m)) few)))
+      ∙ rw (s, column-at maxPoints 0 n (λ (m : ℕ). bit (isOutlier (evidenceBy flags [] high deviates) m)) m l, some-ext (λ (k : ℕ). blames (viewBy n near byIdx) (evidenceBy flags over [] []) k m) (counts (blamed (viewBy n near byIdx) (whole .flags)) (isVisited (viewBy n near byIdx) whole) m) n (λ k g. blames-at (viewBy n near byIdx) (evidenceBy flags over [] []) k m l))
+      (regroup (rule1 whole m) (rule2 whole m) (rule3 (viewBy n near byIdx) whole m) (rule4 whole m) ∙ ap bit (sym (marked-is (viewBy n near byIdx) whole m)))
+    where
+      regroup : (p q r s : Bool) → cond r 1 (bit (p || (q || s))) ≡ bit (p || (q || (r || s)))
+      regroup true q true s = refl
+      regroup true q false s = refl
+      regroup false true true s = refl
+      regroup false true false s = refl
+      regroup false false true s = refl
+      regroup false false false s = refl
+
+  -- at each rank what stands at the place of its index
+  pub by-rank : {a b r : List ℕ} → ((k : ℕ) → k < n → getD byIdx k 0 < n) → a ≡ column maxPoints 0 n (λ (m : ℕ). bit (isOutlier (evidenceBy flags [] high deviates) m))
+      → Marked (λ (m : ℕ). some (λ (k : ℕ). blames (viewBy n near byIdx) (evidenceBy flags over [] []) k m) n) a b → r ≡ column maxPoints 0 n (λ (k : ℕ). getD b (getD byIdx k 0) 0)
+      → (row col : List ℕ) (xs ys : List Float) → r ≡ column maxPoints 0 n (λ (k : ℕ). bit (isMarked (viewAt n near row col byIdx xs ys) whole (getD byIdx k 0)))
+  by-rank {a} {b} ranks s t e row col xs ys =
+      e
+      ∙ column-ext maxPoints 0 n (λ (k : ℕ). getD b (getD byIdx k 0) 0) (λ (k : ℕ). bit (isMarked (viewAt n near row col byIdx xs ys) whole (getD byIdx k 0)))
+      (λ k l. all-rules a b s t (getD byIdx k 0) (ranks k l) ∙ ap bit (sym (marked-of n near row col byIdx xs ys whole (getD byIdx k 0))))

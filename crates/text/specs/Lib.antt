@@ -1,0 +1,3 @@
+pub mod Text
+pub mod Stored
+pub mod Answer
