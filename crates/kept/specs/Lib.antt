@@ -4,7 +4,6 @@ pub mod Words
 pub mod Depends
 pub mod Shared
 pub mod Patch
-pub mod Switched
 pub mod Unswitched
 pub mod RowMarks
 pub mod Moving

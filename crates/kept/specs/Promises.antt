@@ -17,7 +17,7 @@ use Rattle.cells.specs.Points.{Point, nowhere, keyOf, keysOf}
 use Rattle.cells.specs.Cell.{cellOf, before, key-order}
 use Rattle.grid.specs.Views.{viewOf}
 use Rattle.grid.specs.Moved.{view-moved}
-use Rattle.sheet_file.specs.Bytes.{Bytes}
+use Rattle.sheet_file.specs.Bytes.{Bytes, byteAt}
 use Rattle.sheet_file.specs.Frame.{framingOf, layoutOf, layoutIn}
 use Rattle.sheet_file.specs.declared.Framing.the-variants.{Framed}
 use Rattle.sheet_file.specs.declared.Layout.{Layout}
@@ -29,17 +29,15 @@ use Rattle.ruling.specs.Ruling.{accepted, rulingOf, applies}
 use Rattle.ruling.specs.Header.{frame-same}
 use Rattle.ruling.specs.Standing.{taken, accepted-order}
 use Rattle.ruling.specs.Order.{Relisted, order}
+use Rattle.ruling.specs.Switches.{Switched, switched, switches}
 use Rattle.ruling.specs.Offset.{Offset, MovedAlong, offset}
-use Rattle.validate.specs.Validate.{validateMark}
-use Rattle.orientation.specs.Orientation.{orientationMark}
 use Rattle.kept.specs.Marks.{countIn}
 use Rattle.kept.specs.Answer.{answerBy, rowsBy, answerOf, rowsAfter}
 use Rattle.kept.specs.declared.Answer.the-variants.{Accepted}
 use Rattle.kept.specs.Words.{Distinct, marksIn, hasValidate, hasOrientation, hasWrong, hasEarlier, survivor, joined, keptRank, marksByte}
 use Rattle.kept.specs.Depends.{low-bits}
 use Rattle.kept.specs.Patch.{none-kept, all-marked, reached-below, largest-kept, roots, patchOf, all-counted, count-on, count-off}
-use Rattle.kept.specs.Switched.{Switched, switchedOn, same-points, same-settings}
-use Rattle.kept.specs.Unswitched.{validate-unswitched}
+use Rattle.kept.specs.Unswitched.{validate-stays}
 use Rattle.kept.specs.RowMarks.{row-marks, kept-rows}
 use Rattle.kept.specs.Moving.{orientation-stays, wrong-stays, kept-stays, middle-stays, rows-stay}
 
@@ -160,32 +158,27 @@ moved-rows file other buffer a b bf bo o in-range s ps e =
 
 -- ---- (d) the switches
 
--- "Changing only the two switches alters neither bit 0 nor bit 1": of any settings that differ in the switches alone
-pub switch-free : (s t : Settings) → switchedOn t ≡ switchedOn s → (ps : List Point) (k : ℕ) → marksIn t ps k % 4 ≡ marksIn s ps k % 4
-switch-free s t e ps k =
-    let w = viewOf ps in
-    let keys = keysOf ps in
-    low-bits t w keys k
-    ∙ ap (λ (b : Bool). bit b + 2 * bit (orientationMark w k)) (validate-unswitched t w keys k ∙ ap (λ (y : Settings). validateMark y w keys k) e ∙ sym (validate-unswitched s w keys k))
-    ∙ sym (low-bits s w keys k)
+-- of any settings, with any bytes for the switches
+bits-stay : (s : Settings) (a b : ℕ) (ps : List Point) (k : ℕ) → marksIn (switched s a b) ps k % 4 ≡ marksIn s ps k % 4
+bits-stay s a b ps k =
+    low-bits (switched s a b) (viewOf ps) (keysOf ps) k
+    ∙ ap (λ (x : Bool). bit x + 2 * bit (hasOrientation s ps k)) (validate-stays s a b (viewOf ps) (keysOf ps) k)
+    ∙ sym (low-bits s (viewOf ps) (keysOf ps) k)
 
--- of two accepted files that differ in the bytes of the switches alone: the same points in the same order, each with the same two bits
-pub record SameBits (s t : Settings) (ps qs : List Point) : Type 0 where
-  pub points : qs ≡ ps
-  pub bits : (k : ℕ) → marksIn t qs k % 4 ≡ marksIn s ps k % 4
+-- "Changing only the two switches alters neither bit 0 nor bit 1": the file with other switches is accepted with the same points, each with the
+-- same two bits. Only settings of length 21 have the switches.
+pub record SameBits (other : List ℕ) (room : ℕ) (s : Settings) (ps : List Point) : Type 0 where
+  pub settings : Settings
+  pub ruling : rulingOf other room ≡ accepted settings ps
+  pub bits : (k : ℕ) → marksIn settings ps k % 4 ≡ marksIn s ps k % 4
 
-pub switches : (file other : List ℕ) → Bytes file → Bytes other → Switched file other → (room room′ : ℕ) (s t : Settings) (ps qs : List Point)
-    → rulingOf file room ≡ accepted s ps → rulingOf other room′ ≡ accepted t qs → SameBits s t ps qs
-switches file other bf bo w room room′ s t ps qs e f =
-    let p = same-points file other w bf bo room room′ s t ps qs e f in
-    let x = same-settings file other w bf bo room room′ s t ps qs e f in
-    record { points = p; bits = λ k. ap (λ (l : List Point). marksIn t l k % 4) p ∙ switch-free s t x ps k }
+pub switched-sheet : (file other : List ℕ) → Bytes file → Switched file other → layoutOf file .full ≡ true → (room : ℕ) (s : Settings) (ps : List Point) → rulingOf file room ≡ accepted s ps → SameBits other room s ps
+switched-sheet file other b w full room s ps e =
+    record { settings = switched s (byteAt other 22) (byteAt other 23); ruling = switches file other b w full room s ps e; bits = bits-stay s (byteAt other 22) (byteAt other 23) ps }
 
--- the same, of the bytes of the rows in one buffer
-pub switched-rows : (file other buffer : List ℕ) → Bytes file → Bytes other → Switched file other → (s t : Settings) (ps qs : List Point)
-    → rulingOf file (length buffer) ≡ accepted s ps → rulingOf other (length buffer) ≡ accepted t qs → (k : ℕ) → k < length ps
-    → marksByte other buffer k % 4 ≡ marksByte file buffer k % 4
-switched-rows file other buffer bf bo w s t ps qs e f k h =
-    let r = switches file other bf bo w (length buffer) (length buffer) s t ps qs e f in
-    let l : k < length qs = omega (arith, ap length (r .points)) in
-    ap (λ (b : ℕ). b % 4) (row-marks other buffer t qs f k l) ∙ r .bits k ∙ ap (λ (b : ℕ). b % 4) (sym (row-marks file buffer s ps e k h))
+-- the same, of the rows in one buffer
+pub switched-rows : (file other buffer : List ℕ) → Bytes file → Switched file other → layoutOf file .full ≡ true → (s : Settings) (ps : List Point) → rulingOf file (length buffer) ≡ accepted s ps
+    → (k : ℕ) → k < length ps → marksByte other buffer k % 4 ≡ marksByte file buffer k % 4
+switched-rows file other buffer b w full s ps e k h =
+    let r = switched-sheet file other b w full (length buffer) s ps e in
+    ap (λ (x : ℕ). x % 4) (row-marks other buffer (r .settings) ps (r .ruling) k h) ∙ r .bits k ∙ ap (λ (x : ℕ). x % 4) (sym (row-marks file buffer s ps e k h))
