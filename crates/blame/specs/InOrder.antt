@@ -8,6 +8,7 @@ use Prim.Native.Nat.{ℕ, _≤_, _<_}
 use native.Mathlib.Omega.{arith}
 use borrow.Author.Tests.{eqb-true, ne-eqb, ltb-true, lt-leb}
 use lib.Dec.{eqb, ltb, leb}
+use Rattle.folds.specs.Among.{anyIn}
 use Rattle.folds.specs.Below.{some, some-yes, some-at, or-false, and-false, and-left, and-right, both-ways}
 use Rattle.folds.specs.Lists.{over}
 use Rattle.folds.specs.Scattered.{counts}
@@ -20,10 +21,6 @@ use Rattle.blame.specs.Marks.{Evidence, rule1, rule2, rule3, rule4, wors
 -- one turn: k, if it passes q and is not marked, marks its key
 abbrev pub visit : (ℕ → ℕ) → (ℕ → Bool) → (ℕ → Bool) → ℕ → ℕ → Bool
 visit key q s k = cond (q k && not (s k)) (λ m. s m || eqb (key k) m) s
-
-abbrev pub anyIn : (ℕ → Bool) → List ℕ → Bool
-anyIn t [] = false
-anyIn t (a ∷ l) = t a || anyIn t l
 
 regroup : (a b c : Bool) → (a || b) || c ≡ a || ((b && true) || c)
 regroup true b c = refl

@@ -3,17 +3,15 @@ use Prim.Native.Nat.{ℕ}
 use mathlib.Core.Bool.{Bool, true, false, cond}
 use mathlib.Core.List.{List, [], _∷_}
 use lib.ListN.{getD}
-use lib.Count.{trailingZeros}
-use lib.Ieee.{Float, nan, add, sum, sub, mul, div, neg, lt, eq, ofBits, odd, round, units, size, span, climb}
+use lib.Ieee.{Float, nan, neg, lt, eq}
 use Rattle.folds.specs.Arith.{_⊕_, _⊖_, _⊗_, _⊘_, zeroF}
 use Rattle.float.specs.Constants.{one, two, four, negligible, rootTwo}
 use Rattle.float.specs.Root.{rootOf}
 use Rattle.float.specs.Scalar.{normOf, absOf}
-use Rattle.homography.specs.Matrix.{at, entry, matrix, rowTimes, determinantOf, inverseOf, productOf}
-use Rattle.folds.specs.Run.{run, upTo, down}
-use Rattle.folds.specs.Below.{some}
-use Rattle.homography.specs.Linear.{betterRow, pivotRow, reduceEntry, reduceRow, eliminateBy, eliminateColumn, lessEntry, forwardColumn, forwardBy, backwardColumn, backwardBy, zeroDiagonal, substituted, solutionOf}
-use Rattle.homography.specs.declared.linear.Solution.{Solution}
+use Rattle.linear.specs.Rows.{at, entry}
+use Rattle.homography.specs.Matrix.{matrix, rowTimes, determinantOf, inverseOf, productOf}
+use Rattle.linear.specs.Linear.{solutionOf, solution-computes}
+use Rattle.linear.specs.declared.Solution.{Solution}
 use Rattle.homography.specs.declared.Point.{Point}
 use Rattle.homography.specs.declared.Homography.{Homography}
 use Rattle.homography.specs.declared.Fit.{Fit}
@@ -138,6 +136,6 @@ appliedTo h p =
     record { x = (h .h00 ⊗ p .x ⊕ h .h01 ⊗ p .y ⊕ h .h02 ⊗ one) ⊘ w; y = (h .h10 ⊗ p .x ⊕ h .h11 ⊗ p .y ⊕ h .h12 ⊗ one) ⊘ w }
 
 -- This name on an `unfolding` line opens every definition that a fit computes by.
-unfoldable pub computing : Bool
-unfolding add sum sub mul div neg lt eq ofBits odd round units size span climb trailingZeros normOf absOf rootOf some run upTo down betterRow pivotRow reduceEntry reduceRow eliminateBy eliminateColumn lessEntry forwardColumn forwardBy backwardColumn backwardBy zeroDiagonal substituted solutionOf productOf determinantOf inverseOf meanDistance scaleOf normalizationOf normalizedBy equationsOf normalizedMap denormalizedMap mapBy homographyFrom4pt appliedTo
-computing = true
+unfoldable pub fit-computes : Bool
+unfolding solution-computes normOf rootOf productOf determinantOf inverseOf meanDistance scaleOf normalizationOf normalizedBy equationsOf normalizedMap denormalizedMap mapBy homographyFrom4pt appliedTo
+fit-computes = true

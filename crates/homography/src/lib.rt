@@ -3,7 +3,6 @@
 ghost use mathlib.Core.Path.{_≡_};
 ghost use Rattle.homography.specs.Fit.{meanOf, meanDistance, scaleOf, normalizationOf, movedBy, normalizedBy, equationU, equationV, equationsOf, rightSide, matrixOf, normalizedMap, denormalizedMap, homographyFrom4pt, appliedTo};
 
-mod linear;
 mod matrix;
 
 pub struct Point {

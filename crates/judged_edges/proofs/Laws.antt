@@ -107,24 +107,46 @@ module _ (w : View) (E : ℕ → Edge) where
       (λ h. ap (λ r. r || offAxis (sumOf (inWindow w E k) (λ i. E (rankAt w k i) .ux) 25) (sumOf (inWindow w E k) (λ i. E (rankAt w k i) .uy) 25) (E k .ux) (E k .uy)) (local k h))
       (and-under (leb 8 (tally (positive w E) (w .count))) (global k))))
 
--- ---- edges that agree below the count have the same verdicts
+-- ---- what a verdict depends on
 
-module _ (w : View) (E F : ℕ → Edge) (same : (k : ℕ) → k < w .count → E k ≡ F k) where
-  same-window : (k i : ℕ) → inWindow w E k i ≡ inWindow w F k i
+-- Two edges whose windows hold the same edges at the same offsets: rank k among the edges E of the one sheet, rank l among F of the other.
+pub record Alike (w v : View) (E F : ℕ → Edge) (k l : ℕ) : Type 0 where
+  pub own-edge : E k ≡ F l
+  pub there : (j : ℕ) → j < 25 → present w k j ≡ present v l j
+  pub edges : (j : ℕ) → j < 25 → present v l j ≡ true → E (rankAt w k j) ≡ F (rankAt v l j)
+
+module _ (w v : View) (E F : ℕ → Edge) (k l : ℕ) (a : Alike w v E F k l) where
+  same-window : (j : ℕ) → j < 25 → inWindow w E k j ≡ inWindow v F l j
   unfolding inWindow
-  same-window k i = ap (λ b. not (eqb i own) && b) (and-under (present w k i) (λ l. rw (same (rankAt w k i) (ltb-true (rankAt w k i) (w .count) l))))
+  same-window j h = ap (λ b. not (eqb j own) && b) (rw (a .there j h) (and-under (present v l j) (λ p. rw (a .edges j h p))))
 
-  within : (k i : ℕ) → inWindow w F k i ≡ true → E (rankAt w k i) ≡ F (rankAt w k i)
+  within : (j : ℕ) → j < 25 → inWindow v F l j ≡ true → E (rankAt w k j) ≡ F (rankAt v l j)
   unfolding inWindow
-  within k i p = same (rankAt w k i) (ltb-true (rankAt w k i) (w .count) (and-left (present w k i) (positive w F (rankAt w k i)) (and-right (not (eqb i own)) (present w k i && positive w F (rankAt w k i)) p)))
+  within j h p = a .edges j h (and-left (present v l j) (positive v F (rankAt v l j)) (and-right (not (eqb j own)) (present v l j && positive v F (rankAt v l j)) p))
 
-  pub same-fails : (k : ℕ) → k < w .count → fails w E k ≡ fails w F k
-  same-fails k l =
-      let a : windowLens w E k ≡ windowLens w F k = lens-are w E k ∙ listed-ext (inWindow w E k) (inWindow w F k) (λ i. E (rankAt w k i) .len) (λ i. F (rankAt w k i) .len) 25 (λ i g. same-window k i) (λ i g p. ap (λ e. e .len) (within k i p)) ∙ sym (lens-are w F k) in
-      let x : windowX w E k ≡ windowX w F k = x-is w E k ∙ sum-ext (inWindow w E k) (inWindow w F k) (λ i. E (rankAt w k i) .ux) (λ i. F (rankAt w k i) .ux) 25 (λ i g. same-window k i) (λ i g p. ap (λ e. e .ux) (within k i p)) ∙ sym (x-is w F k) in
-      let y : windowY w E k ≡ windowY w F k = y-is w E k ∙ sum-ext (inWindow w E k) (inWindow w F k) (λ i. E (rankAt w k i) .uy) (λ i. F (rankAt w k i) .uy) 25 (λ i g. same-window k i) (λ i g p. ap (λ e. e .uy) (within k i p)) ∙ sym (y-is w F k) in
-      let b : sheetLens w E ≡ sheetLens w F = sheet-is w E ∙ listed-ext (positive w E) (positive w F) (λ i. E i .len) (λ i. F i .len) (w .count) (λ i g. rw (same i g)) (λ i g p. ap (λ e. e .len) (same i g)) ∙ sym (sheet-is w F) in
-      fails-is w E k ∙ rw (a, x, y, b, same k l) (sym (fails-is w F k))
+  same-lens : windowLens w E k ≡ windowLens v F l
+  same-lens = lens-are w E k ∙ listed-ext (inWindow w E k) (inWindow v F l) (λ i. E (rankAt w k i) .len) (λ i. F (rankAt v l i) .len) 25 same-window (λ i g p. ap (λ e. e .len) (within i g p)) ∙ sym (lens-are v F l)
+
+  same-x : windowX w E k ≡ windowX v F l
+  same-x = x-is w E k ∙ sum-ext (inWindow w E k) (inWindow v F l) (λ i. E (rankAt w k i) .ux) (λ i. F (rankAt v l i) .ux) 25 same-window (λ i g p. ap (λ e. e .ux) (within i g p)) ∙ sym (x-is v F l)
+
+  same-y : windowY w E k ≡ windowY v F l
+  same-y = y-is w E k ∙ sum-ext (inWindow w E k) (inWindow v F l) (λ i. E (rankAt w k i) .uy) (λ i. F (rankAt v l i) .uy) 25 same-window (λ i g p. ap (λ e. e .uy) (within i g p)) ∙ sym (y-is v F l)
+
+  -- with the same lengths on the whole sheet the verdicts are the same
+  pub same-verdict : sheetLens w E ≡ sheetLens v F → fails w E k ≡ fails v F l
+  same-verdict b = fails-is w E k ∙ rw (same-lens, same-x, same-y, b, a .own-edge) (sym (fails-is v F l))
+
+  -- An edge that is judged by its own window has the same verdict on every sheet on which its window holds the same edges.
+  pub local-verdict : leb 5 (length (windowLens v F l)) ≡ true → fails w E k ≡ fails v F l
+  local-verdict h = fails-is w E k ∙ rw (same-lens, same-x, same-y, h, a .own-edge) (sym (fails-is v F l ∙ rw h))
+
+-- edges that agree below the count have the same verdicts
+same-fails : (w : View) (E F : ℕ → Edge) → ((k : ℕ) → k < w .count → E k ≡ F k) → (k : ℕ) → k < w .count → fails w E k ≡ fails w F k
+same-fails w E F same k l =
+    same-verdict w w E F k k
+    (record { own-edge = same k l; there = λ j h. refl; edges = λ j h p. same (rankAt w k j) (ltb-true (rankAt w k j) (w .count) p) })
+    (sheet-is w E ∙ listed-ext (positive w E) (positive w F) (λ i. E i .len) (λ i. F i .len) (w .count) (λ i g. rw (same i g)) (λ i g p. ap (λ e. e .len) (same i g)) ∙ sym (sheet-is w F))
 
 -- ---- the marks of a direction
 
@@ -170,24 +192,11 @@ module _ (w : View) (o : ℕ) where
       (λ k l. rw (same-fails w (held len ux uy) (edgeAt w o) (held-is len ux uy e) k l) (turn (present w k o) (fails w (edgeAt w o) k) (eqb k m || eqb (rankAt w k o) m) (two-ends k)))
       ∙ sym (ends-is m)
 
--- ---- only the neighbours of the view count
-
-module _ (n : ℕ) (near row col byIdx : List ℕ) (xs ys : List Float) (E : ℕ → Edge) (k : ℕ) where
-  abbrev full : View
-  full = viewAt n near row col byIdx xs ys
-
-  alike-window : (i : ℕ) → inWindow (nearView n near) E k i ≡ inWindow full E k i
-  unfolding inWindow
-  alike-window i = refl
-
-  pub alike-fails : fails (nearView n near) E k ≡ fails full E k
-  alike-fails =
-      let v = nearView n near in
-      let a : windowLens v E k ≡ windowLens full E k = lens-are v E k ∙ listed-ext (inWindow v E k) (inWindow full E k) (λ i. E (rankAt v k i) .len) (λ i. E (rankAt full k i) .len) 25 (λ i g. alike-window i) (λ i g p. refl) ∙ sym (lens-are full E k) in
-      let x : windowX v E k ≡ windowX full E k = x-is v E k ∙ sum-ext (inWindow v E k) (inWindow full E k) (λ i. E (rankAt v k i) .ux) (λ i. E (rankAt full k i) .ux) 25 (λ i g. alike-window i) (λ i g p. refl) ∙ sym (x-is full E k) in
-      let y : windowY v E k ≡ windowY full E k = y-is v E k ∙ sum-ext (inWindow v E k) (inWindow full E k) (λ i. E (rankAt v k i) .uy) (λ i. E (rankAt full k i) .uy) 25 (λ i g. alike-window i) (λ i g p. refl) ∙ sym (y-is full E k) in
-      let b : sheetLens v E ≡ sheetLens full E = sheet-is v E ∙ sym (sheet-is full E) in
-      fails-is v E k ∙ rw (a, x, y, b) (sym (fails-is full E k))
+-- only the neighbours of the view count
+alike-fails : (n : ℕ) (near row col byIdx : List ℕ) (xs ys : List Float) (E : ℕ → Edge) (k : ℕ) → fails (nearView n near) E k ≡ fails (viewAt n near row col byIdx xs ys) E k
+alike-fails n near row col byIdx xs ys E k =
+    let w = viewAt n near row col byIdx xs ys in
+    same-verdict (nearView n near) w E E k k (record { own-edge = refl; there = λ j h. refl; edges = λ j h p. refl }) (sheet-is (nearView n near) E ∙ sym (sheet-is w E))
 
 -- ---- the marks that a direction's columns give
 

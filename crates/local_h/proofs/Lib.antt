@@ -1,5 +1,6 @@
 pub mod Ordered
 pub mod Coordinate
+pub mod Searching
 pub mod Bases
 pub mod Indexing
 pub mod Worked

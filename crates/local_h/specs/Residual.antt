@@ -10,7 +10,7 @@ use Rattle.float.specs.Scalar.{normOf}
 use Rattle.homography.specs.declared.Point.{Point}
 use Rattle.homography.specs.declared.Fit.{Fit}
 use Rattle.homography.specs.declared.Fit.the-variants as fit
-use Rattle.homography.specs.Fit.{homographyFrom4pt, appliedTo, computing}
+use Rattle.homography.specs.Fit.{homographyFrom4pt, appliedTo, fit-computes}
 use Rattle.view.specs.View.{View}
 use Rattle.local_h.specs.Base.{memberAt, onLine, isOther, isFourth, baseOf}
 use Rattle.local_h.specs.declared.Base.{Base}
@@ -53,5 +53,5 @@ module _ (w : View) (key : ℕ → ℕ) where
 
 -- This name on an `unfolding` line opens every definition that a residual computes by.
 unfoldable pub residuals-compute : Bool
-unfolding computing ofInt first firstIn onLine isOther isFourth baseOf residualBy residualOf residualAt
+unfolding fit-computes ofInt first firstIn onLine isOther isFourth baseOf residualBy residualOf residualAt
 residuals-compute = true

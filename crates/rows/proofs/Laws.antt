@@ -1,12 +1,13 @@
--- A row put into the rows. Assumes nothing.
+-- What the code has read and stored, as the definitions have it. Assumes nothing.
 use mathlib.Core.Path.{_≡_, refl, sym, ap, _∙_}
 use mathlib.Core.Bool.{Bool, cond}
 use mathlib.Core.List.{List, [], _∷_, _++_}
-use Prim.Native.Nat.{ℕ, zero, suc, _+_, _*_, _/_, _%_, _≤_, _<_}
+use Prim.Native.Nat.{ℕ, suc, _+_, _*_, _/_, _%_, _≤_, _<_}
 use native.Mathlib.Omega.{arith}
-use native.Mathlib.Numerals.{add-one}
-use lib.ListN.{length, getD, set, take, drop}
-use lib.Seq.{sets, sets-eq, paste, paste-suc, length-paste, take-all}
+use native.Mathlib.Numerals.{add-one, add-two, add-three, add-four, add-five, add-six, add-seven}
+use native.Mathlib.Nat.{add-zero}
+use lib.ListN.{length, getD, set}
+use lib.Seq.{sets}
 use Rattle.folds.specs.Column.{Filling, fill-more}
 use mathlib.Core.Option.{Option}
 use lib.Ieee.{Float, nan}
@@ -26,37 +27,50 @@ pub presence-is : (x : Option Float) (m o : Measure) {a b c : ℕ} → Counted (
     → a + 6 * b + 24 * c ≡ presence (floatsOf x m o)
 presence-is x m o r s t = rw (both m, both o) (omega (arith, r .is, s .is, t .is))
 
--- a row from its parts
-pub row-is : (s : Shown) {reason floats : ℕ} {a b c d e : List ℕ} → reason ≡ reasonNumber (s .figures .reason)
-    → floats ≡ presence (floatsOf (s .residual) (s .figures .continuation) (s .figures .cells))
-    → a ≡ littleEndian (bitsOf (s .residual)) → b ≡ littleEndian (bitsOf (cosineOf (s .figures .continuation))) → c ≡ littleEndian (bitsOf (ratioOf (s .figures .continuation)))
-    → d ≡ littleEndian (bitsOf (cosineOf (s .figures .cells))) → e ≡ littleEndian (bitsOf (ratioOf (s .figures .cells)))
-    → (s .marks ∷ reason ∷ floats ∷ s .figures .degree ∷ s .boundary ∷ s .figures .adjacent ∷ s .figures .valid ∷ 0
-    ∷ getD a 0 0 ∷ getD a 1 0 ∷ getD a 2 0 ∷ getD a 3 0 ∷ getD b 0 0 ∷ getD b 1 0 ∷ getD b 2 0 ∷ getD b 3 0 ∷ getD c 0 0 ∷ getD c 1 0 ∷ getD c 2 0 ∷ getD c 3 0
-    ∷ getD d 0 0 ∷ getD d 1 0 ∷ getD d 2 0 ∷ getD d 3 0 ∷ getD e 0 0 ∷ getD e 1 0 ∷ getD e 2 0 ∷ getD e 3 0 ∷ []) ≡ rowOf s
-unfolding rowOf
-row-is s r f ea eb ec ed ee = rw (r, f, ea, eb, ec, ed, ee)
-
 -- what the row of rank k shows, from what the code has read
-pub shown-is : (marks has : List ℕ) (value : List Float) (gated : Bool) (byIdx : List ℕ) (figures : List Figures) (boundary : List ℕ) (k : ℕ) {r b : ℕ} {f : Figures} {row : List ℕ}
+pub shown-is : (marks has : List ℕ) (value : List Float) (gated : Bool) (byIdx : List ℕ) (figures : List Figures) (boundary : List ℕ) (k : ℕ) {r b : ℕ} {f : Figures}
     → r ≡ getD byIdx k 0 → f ≡ cond gated (getD figures r noFigures) noFigures → b ≡ cond gated (getD boundary r 0) 0
-    → row ≡ rowOf (record { marks = getD marks k 0; residual = residualOf (getD has k 0) (getD value k nan); figures = f; boundary = b })
-    → row ≡ rowOf (shownAt marks has value gated byIdx figures boundary k)
+    → _≡_ {A = Shown} (record { marks = getD marks k 0; residual = residualOf (getD has k 0) (getD value k nan); figures = f; boundary = b })
+    (shownAt marks has value gated byIdx figures boundary k)
 unfolding shownAt
-shown-is marks has value gated byIdx figures boundary k er ef eb e = rw (← er, ← ef, ← eb) e
+shown-is marks has value gated byIdx figures boundary k er ef eb = rw (← er, ← ef, ← eb)
 
--- the row s, put into the rows l from a place on, byte by byte
-module _ (l s : List ℕ) (at : ℕ) (e : length s ≡ 28) (h : at + 28 ≤ length l) where
-  pub put-length : {j : ℕ} {m : List ℕ} → j ≤ 28 → m ≡ paste l at s j → length m ≡ length l
-  put-length {j} g q = ap length q ∙ length-paste l at s j (omega arith) (omega arith)
+-- ---- a row put into the rows
 
-  pub put-more : (j : ℕ) {m : List ℕ} → j < 28 → m ≡ paste l at s j → set m (at + j) (getD s j 0) ≡ paste l at s (j + 1)
-  put-more j g q = rw (q, add-one j) (paste-suc l at s j 0 (omega arith) (omega arith))
+sets-then : (l : List ℕ) (i : ℕ) (a b : List ℕ) → sets (sets l i a) (i + length a) b ≡ sets l i (a ++ b)
+sets-then l i [] b = rw (add-zero i)
+sets-then l i (x ∷ a) b = let w : i + suc (length a) ≡ suc i + length a = omega arith in rw w (sets-then (set l i x) (suc i) a b)
 
-  pub put-done : (j : ℕ) {m : List ℕ} → j ≡ 28 → m ≡ paste l at s j → m ≡ sets l at s
-  put-done j g q =
-      let w : j ≡ length s = omega arith in
-      q ∙ rw (w, take-all (length s) s (omega arith)) (sym (sets-eq s l at (omega arith)))
+-- one list after another
+then : (l : List ℕ) (at : ℕ) (a b : List ℕ) {m o : List ℕ} → m ≡ sets l at a → o ≡ sets m (at + length a) b → o ≡ sets l at (a ++ b)
+then l at a b e q = q ∙ rw e (sets-then l at a b)
+
+-- the stores of the first eight bytes
+abbrev headPut : List ℕ → ℕ → ℕ → ℕ → ℕ → ℕ → ℕ → ℕ → ℕ → List ℕ
+headPut l at marks reason floats degree boundary adjacent valid =
+    set (set (set (set (set (set (set (set l at marks) (at + 1) reason) (at + 2) floats) (at + 3) degree) (at + 4) boundary) (at + 5) adjacent) (at + 6) valid) (at + 7) 0
+
+head-put : (l : List ℕ) (at a b c d e f g : ℕ) → headPut l at a b c d e f g ≡ sets l at (a ∷ b ∷ c ∷ d ∷ e ∷ f ∷ g ∷ 0 ∷ [])
+head-put l at a b c d e f g = rw (add-one at, add-two at, add-three at, add-four at, add-five at, add-six at, add-seven at)
+
+-- the stores of a row
+pub row-put : (s : Shown) (l : List ℕ) (at : ℕ) {reason floats p q t u v : ℕ} {m1 m2 m3 m4 m5 : List ℕ}
+    → reason ≡ reasonNumber (s .figures .reason) → floats ≡ presence (floatsOf (s .residual) (s .figures .continuation) (s .figures .cells))
+    → p ≡ bitsOf (s .residual) → q ≡ bitsOf (cosineOf (s .figures .continuation)) → t ≡ bitsOf (ratioOf (s .figures .continuation))
+    → u ≡ bitsOf (cosineOf (s .figures .cells)) → v ≡ bitsOf (ratioOf (s .figures .cells))
+    → m1 ≡ sets (headPut l at (s .marks) reason floats (s .figures .degree) (s .boundary) (s .figures .adjacent) (s .figures .valid)) (at + 8) (littleEndian p)
+    → m2 ≡ sets m1 (at + 12) (littleEndian q) → m3 ≡ sets m2 (at + 16) (littleEndian t) → m4 ≡ sets m3 (at + 20) (littleEndian u) → m5 ≡ sets m4 (at + 24) (littleEndian v)
+    → m5 ≡ sets l at (rowOf s)
+unfolding rowOf
+row-put s l at {reason} {floats} {p} {q} {t} {u} {v} r f ep eq et eu ev e1 e2 e3 e4 e5 =
+    let g = s .figures in
+    let h = s .marks ∷ reason ∷ floats ∷ g .degree ∷ s .boundary ∷ g .adjacent ∷ g .valid ∷ 0 ∷ [] in
+    let a = then l at h (littleEndian p) (head-put l at (s .marks) reason floats (g .degree) (s .boundary) (g .adjacent) (g .valid)) e1 in
+    let b = then l at (h ++ littleEndian p) (littleEndian q) a e2 in
+    let c = then l at (h ++ littleEndian p ++ littleEndian q) (littleEndian t) b e3 in
+    let d = then l at (h ++ littleEndian p ++ littleEndian q ++ littleEndian t) (littleEndian u) c e4 in
+    let z : h ++ littleEndian p ++ littleEndian q ++ littleEndian t ++ littleEndian u ++ littleEndian v ≡ rowOf s = rw (r, f, ep, eq, et, eu, ev) in
+    then l at (h ++ littleEndian p ++ littleEndian q ++ littleEndian t ++ littleEndian u) (littleEndian v) d e5 ∙ ap (λ (w : List ℕ). sets l at w) z
 
 -- a run of stores fills as far as it goes
 pub fill-sets : (l₀ : List ℕ) (f : ℕ → ℕ) (i : ℕ) (l s : List ℕ) → i + length s ≤ length l₀ → ((j : ℕ) → j < length s → getD s j 0 ≡ f (i + j)) → Filling l₀ 0 f i l
@@ -80,9 +94,9 @@ row-byte shown k j h =
     rw (d, m)
 
 -- one row more
-pub fill-row : (l₀ : List ℕ) (shown : ℕ → Shown) (k : ℕ) {l row m : List ℕ} → row ≡ rowOf (shown k) → m ≡ sets l (28 * k) row → 28 * k + 28 ≤ length l₀
+pub fill-row : (l₀ : List ℕ) (shown : ℕ → Shown) (k : ℕ) {s : Shown} {l m : List ℕ} → s ≡ shown k → m ≡ sets l (28 * k) (rowOf s) → 28 * k + 28 ≤ length l₀
     → Filling l₀ 0 (rowByte shown) (28 * k) l → Filling l₀ 0 (rowByte shown) (28 * (k + 1)) m
-fill-row l₀ shown k {l} e q h r =
+fill-row l₀ shown k {s} {l} e q h r =
     let n = row-length (shown k) in
     let w : 28 * (k + 1) ≡ 28 * k + length (rowOf (shown k)) = omega arith in
     rw (q, e, w) (fill-sets l₀ (rowByte shown) (28 * k) l (rowOf (shown k)) (omega arith) (λ j g. sym (row-byte shown k j (omega arith))) r)

@@ -23,16 +23,13 @@ pub nan-bits : bitsOf (some nan) ≡ 0x7fc0_0000
 unfolding toBits
 nan-bits = refl
 
--- a row with two marks, a residual of 1, continuations at cosine 1/2 and ratio 2, and no cell
-pub worked-row : rowOf (record {
-  marks = marksOf true false true false;
-  residual = some (ofBits binary32 0x3f80_0000);
-  figures = record { degree = 4; adjacent = 3; valid = 0; continuation = Held (ofBits binary32 0x3f00_0000) (ofBits binary32 0x4000_0000); cells = Absent; reason = BadContinuation };
-  boundary = 1;
-})
+-- a sheet of one point, with two marks, a residual of 1, continuations at cosine 1/2 and ratio 2, and no cell
+pub worked-row : rowsOf 1 (shownAt (marksOf true false true false ∷ []) (1 ∷ []) (ofBits binary32 0x3f80_0000 ∷ []) true (0 ∷ [])
+    (record { degree = 4; adjacent = 3; valid = 0; continuation = Held (ofBits binary32 0x3f00_0000) (ofBits binary32 0x4000_0000); cells = Absent; reason = BadContinuation } ∷ [])
+    (1 ∷ []))
     ≡ 5 ∷ 2 ∷ 7 ∷ 4 ∷ 1 ∷ 3 ∷ 0 ∷ 0
     ∷ 0 ∷ 0 ∷ 0x80 ∷ 0x3f ∷ 0 ∷ 0 ∷ 0 ∷ 0x3f ∷ 0 ∷ 0 ∷ 0 ∷ 0x40 ∷ 0 ∷ 0 ∷ 0 ∷ 0 ∷ 0 ∷ 0 ∷ 0 ∷ 0 ∷ []
-unfolding rowOf ofBits
+unfolding rowsOf shownAt ofBits
 worked-row = refl
 
 -- "Without tag 2, bytes 1, 3 to 7 and all edge floats are zero."

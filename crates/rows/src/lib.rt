@@ -5,7 +5,7 @@ use edge_shape::Reason;
 use view::MAX_POINTS;
 ghost use mathlib.Core.Path.{_≡_};
 ghost use mathlib.Core.Bool.{cond};
-ghost use Prim.Native.Nat.{ℕ, _+_, _*_, _≤_, _<_};
+ghost use Prim.Native.Nat.{_+_, _*_, _≤_};
 ghost use lib.ListN.{length};
 ghost use lib.Seq.{sets};
 ghost use Rattle.folds.specs.Column.{overlaid};
@@ -13,21 +13,20 @@ ghost use Rattle.view.specs.View.{maxPoints};
 ghost use Rattle.marks.specs.Arrays.{Ranks};
 ghost use Rattle.edge_shape.specs.Figures.{noFigures};
 ghost use Rattle.edge_shape.specs.Given.{Counted};
-ghost use Rattle.rows.specs.Rows.{littleEndian, bitsOf, isPresent, residualOf, cosineOf, ratioOf, floatsOf, presence, Shown, rowOf, shownAt, rowByte};
+ghost use Rattle.rows.specs.Rows.{littleEndian, bitsOf, isPresent, residualOf, cosineOf, ratioOf, floatsOf, presence, rowOf, shownAt, rowByte};
 
 // The bytes of a row.
 pub const ROW_SIZE: usize = 28;
 
-// The bytes of b, the lowest first.
-fn little_endian(b: u32) -> [u8; 4]
-    ensures { λ r. ⌜ r ≡ littleEndian b ⌝ }
+// Puts the bytes of b into the rows from a place on, the lowest first.
+fn put_word(b: u32, rows: &mut [u8], at: usize)
+    requires { ⌜ at + 4 ≤ length (now rows) ⌝ }
+    ensures { λ r. ⌜ now (rows .exit) ≡ sets (now (rows .entry)) at (littleEndian b) ⌝ }
 {
-    [
-        (b % 256) as u8,
-        (b / 256 % 256) as u8,
-        (b / 65536 % 256) as u8,
-        (b / 16777216 % 256) as u8,
-    ]
+    rows[at] = (b % 256) as u8;
+    rows[at + 1] = (b / 256 % 256) as u8;
+    rows[at + 2] = (b / 65536 % 256) as u8;
+    rows[at + 3] = (b / 16777216 % 256) as u8;
 }
 
 // The pattern of the residual, or 0.
@@ -87,52 +86,6 @@ fn present(has: u8, value: f32, continuation: Measure, cells: Measure) -> u8
     residual_count(has, value) + 6 * measure_count(continuation) + 24 * measure_count(cells)
 }
 
-// The row that shows these.
-fn row_of(marks: u8, has: u8, value: f32, f: Figures, boundary: u8) -> [u8; ROW_SIZE]
-    ensures { λ r. ⌜ r ≡ rowOf (record { marks = marks; residual = residualOf has value; figures = f; boundary = boundary }) ⌝ }
-{
-    let continuation = f.continuation;
-    let cells = f.cells;
-    let a = little_endian(residual_bits(has, value));
-    let b = little_endian(cosine_bits(continuation));
-    let c = little_endian(ratio_bits(continuation));
-    let d = little_endian(cosine_bits(cells));
-    let e = little_endian(ratio_bits(cells));
-    let reason = f.reason;
-    let number = edge_shape::reason_number(reason);
-    let floats = present(has, value, continuation, cells);
-    [
-        marks,
-        number,
-        floats,
-        f.degree,
-        boundary,
-        f.adjacent,
-        f.valid,
-        0,
-        a[0],
-        a[1],
-        a[2],
-        a[3],
-        b[0],
-        b[1],
-        b[2],
-        b[3],
-        c[0],
-        c[1],
-        c[2],
-        c[3],
-        d[0],
-        d[1],
-        d[2],
-        d[3],
-        e[0],
-        e[1],
-        e[2],
-        e[3],
-    ]
-}
-
 // The figures to show: none without the gate.
 fn gated_figures(gated: bool, f: Figures) -> Figures
     ensures { λ r. ⌜ r ≡ cond gated f noFigures ⌝ }
@@ -160,16 +113,29 @@ fn gated_byte(gated: bool, b: u8) -> u8
     0
 }
 
-// Puts a row into the rows, from a place on.
-fn put_row(row: &[u8; ROW_SIZE], rows: &mut [u8], at: usize)
-    requires { ⌜ (length (now row) ≡ 28) × (at + 28 ≤ length (now rows)) ⌝ }
-    ensures { λ r. ⌜ now (rows .exit) ≡ sets (now (rows .entry)) at (now (row .entry)) ⌝ }
+// Puts the row that shows these into the rows, from a place on.
+fn put_row(marks: u8, has: u8, value: f32, f: Figures, boundary: u8, rows: &mut [u8], at: usize)
+    requires { ⌜ at + 28 ≤ length (now rows) ⌝ }
+    ensures { λ r. ⌜ now (rows .exit) ≡ sets (now (rows .entry)) at (rowOf (record { marks = marks; residual = residualOf has value; figures = f; boundary = boundary })) ⌝ }
 {
-    let mut j: usize = 0;
-    while j < ROW_SIZE {
-        rows[at + j] = row[j];
-        j += 1;
-    }
+    let continuation = f.continuation;
+    let cells = f.cells;
+    let reason = f.reason;
+    let number = edge_shape::reason_number(reason);
+    let floats = present(has, value, continuation, cells);
+    rows[at] = marks;
+    rows[at + 1] = number;
+    rows[at + 2] = floats;
+    rows[at + 3] = f.degree;
+    rows[at + 4] = boundary;
+    rows[at + 5] = f.adjacent;
+    rows[at + 6] = f.valid;
+    rows[at + 7] = 0;
+    put_word(residual_bits(has, value), rows, at + 8);
+    put_word(cosine_bits(continuation), rows, at + 12);
+    put_word(ratio_bits(continuation), rows, at + 16);
+    put_word(cosine_bits(cells), rows, at + 20);
+    put_word(ratio_bits(cells), rows, at + 24);
 }
 
 // Writes the rows of ranks 0 to n - 1. `marks` and `value` are by rank what the index holds, and so is `has`: 1 where there is a residual.
@@ -193,8 +159,7 @@ pub fn write_rows(
         let r = view::wide(by_idx[k]);
         let f = gated_figures(gated, figures[r]);
         let b = gated_byte(gated, boundary[r]);
-        let row = row_of(marks[k], has[k], value[k], f, b);
-        put_row(&row, rows, ROW_SIZE * k);
+        put_row(marks[k], has[k], value[k], f, b, rows, ROW_SIZE * k);
         k += 1;
     }
 }

@@ -2,11 +2,11 @@ use mathlib.Core.Bool.{Bool, true, false, cond}
 use mathlib.Core.List.{List}
 use mathlib.Core.Path.{_≡_, _∙_, sym}
 use lib.Ieee.{Float}
-use Rattle.homography.specs.declared.linear.Solution.{Solution}
+use Rattle.linear.specs.declared.Solution.{Solution}
 use Rattle.homography.specs.declared.Point.{Point}
 use Rattle.homography.specs.declared.Fit.{Fit}
 use Rattle.homography.specs.declared.Fit.the-variants.{NoFit}
-use Rattle.homography.specs.Linear.{solutionOf}
+use Rattle.linear.specs.Linear.{solutionOf}
 use Rattle.homography.specs.Fit.{normalizationOf, normalizedBy, equationsOf, rightSide, matrixOf, denormalizedMap, mapBy, homographyFrom4pt}
 use borrow.Author.Needs.{needs}
 use Rattle.homography.proofs.homography_from_4pt.Statement.{statement}

@@ -13,8 +13,8 @@ use borrow.Author.Tests.{ltb-true, eqb-true, lt-ltb, le-ltb}
 use Rattle.folds.specs.Below.{not-true, and-left}
 use Rattle.folds.specs.Run.{run, run-keeps}
 use Rattle.float.specs.Scalar.{absOf}
-use Rattle.homography.specs.Matrix.{entry}
-use Rattle.homography.specs.Linear.{betterRow, pivotRow}
+use Rattle.linear.specs.Rows.{entry}
+use Rattle.linear.specs.Linear.{betterRow, pivotRow}
 
 -- ---- the order of magnitudes; nothing is below a NaN, and a NaN is below nothing
 

@@ -6,9 +6,8 @@ use Prim.Native.Nat.{ℕ}
 use lib.IntN.{pos}
 use lib.Ieee.{Float, binary32, ofInt, neg}
 use Rattle.folds.specs.Arith.{f32}
-use Rattle.homography.specs.declared.linear.Solution.{Solution}
-use Rattle.homography.specs.Linear.{solutionOf}
-use Rattle.homography.specs.Fit.{computing}
+use Rattle.linear.specs.declared.Solution.{Solution}
+use Rattle.linear.specs.Linear.{solutionOf, solution-computes}
 
 -- whole numbers, above and below 0
 abbrev p : ℕ → Float
@@ -31,5 +30,5 @@ dense =
 
 pub dense-solved : solutionOf dense (p 6 ∷ n 9 ∷ n 8 ∷ p 7 ∷ p 7 ∷ n 8 ∷ p 1 ∷ n 2 ∷ [])
     ≡ (record { found = true; x = f32 0x4012_38CF ∷ f32 0x3F4E_7727 ∷ f32 0x3EC3_3BF8 ∷ f32 0xBF1B_3850 ∷ f32 0xBE32_FE41 ∷ f32 0x3F5F_F3B7 ∷ f32 0x3F0E_B231 ∷ f32 0x3F2B_190F ∷ [] })
-unfolding computing ofInt
+unfolding solution-computes ofInt
 dense-solved = refl

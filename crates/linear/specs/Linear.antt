@@ -5,14 +5,15 @@ use Prim.Native.Nat.{ℕ, _+_}
 use mathlib.Core.Bool.{Bool, true, false, cond}
 use mathlib.Core.List.{List, []}
 use lib.ListN.{getD, set, replicate}
-use lib.Ieee.{Float, nan, neg, lt, eq}
+use lib.Count.{trailingZeros}
+use lib.Ieee.{Float, nan, add, sum, sub, mul, div, neg, lt, eq, ofBits, odd, round, units, size, span, climb}
 use Rattle.folds.specs.Arith.{_⊕_, _⊗_, _⊘_, zeroF}
-use Rattle.folds.specs.Run.{run, down}
+use Rattle.folds.specs.Run.{run, upTo, down}
 use Rattle.folds.specs.Below.{some}
 use Rattle.float.specs.Constants.{one}
 use Rattle.float.specs.Scalar.{absOf}
-use Rattle.homography.specs.Matrix.{at, rowAt, entry, withEntry}
-use Rattle.homography.specs.declared.linear.Solution.{Solution}
+use Rattle.linear.specs.Rows.{at, rowAt, entry, withEntry}
+use Rattle.linear.specs.declared.Solution.{Solution}
 
 -- ---- "pivot of largest magnitude, first of equals"
 
@@ -96,3 +97,8 @@ substituted s =
 -- the x with m x = b
 unfoldable pub solutionOf : List (List Float) → List Float → Solution
 solutionOf m b = substituted (run eliminateColumn 0 8 (record { rows = m; right = b }))
+
+-- This name on an `unfolding` line opens every definition that a solution computes by.
+unfoldable pub solution-computes : Bool
+unfolding add sum sub mul div neg lt eq ofBits odd round units size span climb trailingZeros absOf some run upTo down betterRow pivotRow reduceEntry reduceRow eliminateBy eliminateColumn lessEntry forwardColumn forwardBy backwardColumn backwardBy zeroDiagonal substituted solutionOf
+solution-computes = true

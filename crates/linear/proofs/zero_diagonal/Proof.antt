@@ -1,12 +1,12 @@
-use Rattle.homography.specs.Linear.{zeroAt, zeroDiagonal}
+use Rattle.linear.specs.Linear.{zeroAt, zeroDiagonal}
 use Rattle.folds.specs.Below.{some, some-none, some-more, some-yes}
 use mathlib.Core.Bool.{false}
 use mathlib.Core.Path.{_≡_, _∙_, sym}
 use Prim.Native.Nat.{_-_, _≤_}
 use native.Mathlib.Omega.{arith}
 use borrow.Author.Needs.{needs}
-use Rattle.homography.proofs.linear.zero_diagonal.Statement.{statement}
-use Rattle.homography.proofs.linear.zero_diagonal.Tie as tie
+use Rattle.linear.proofs.zero_diagonal.Statement.{statement}
+use Rattle.linear.proofs.zero_diagonal.Tie as tie
 
 abbrev Inv-loop : tie.InvT-loop
 Inv-loop m i₀ i = (i ≤ 8) × (some (zeroAt m) i ≡ false)

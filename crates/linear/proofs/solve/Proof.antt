@@ -8,11 +8,11 @@ use Rattle.folds.specs.Arith.{_⊘_, zeroF}
 use Rattle.folds.specs.Run.{run, run-step, run-done}
 use Rattle.float.specs.Constants.{one}
 use Rattle.float.specs.Scalar.{absOf}
-use Rattle.homography.specs.Matrix.{entry, rowAt, at}
-use Rattle.homography.specs.Linear.{System, betterRow, pivotRow, swapRows, swapEntries, reduceEntry, reduceRow, eliminateBy, eliminateColumn, substituted, solutionOf}
+use Rattle.linear.specs.Rows.{entry, rowAt, at}
+use Rattle.linear.specs.Linear.{System, betterRow, pivotRow, swapRows, swapEntries, reduceEntry, reduceRow, eliminateBy, eliminateColumn, substituted, solutionOf}
 use borrow.Author.Needs.{needs}
-use Rattle.homography.proofs.linear.solve.Statement.{statement}
-use Rattle.homography.proofs.linear.solve.Tie as tie
+use Rattle.linear.proofs.solve.Statement.{statement}
+use Rattle.linear.proofs.solve.Tie as tie
 
 -- a turn of the search, with the test's answer
 searched : (m : List (List Float)) (i k best : ℕ) (a b : Float) (larger : Bool) → k < 8 → a ≡ absOf (entry m best i) → b ≡ absOf (entry m k i) → lt a b ≡ larger

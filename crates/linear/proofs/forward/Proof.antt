@@ -1,10 +1,10 @@
-use Rattle.homography.specs.Linear.{lessEntry, forwardColumn, forwardBy}
+use Rattle.linear.specs.Linear.{lessEntry, forwardColumn, forwardBy}
 use Rattle.folds.specs.Run.{run, run-step, run-done}
 use mathlib.Core.Path.{_≡_, _∙_, sym}
 use Prim.Native.Nat.{_-_}
 use borrow.Author.Needs.{needs}
-use Rattle.homography.proofs.linear.forward.Statement.{statement}
-use Rattle.homography.proofs.linear.forward.Tie as tie
+use Rattle.linear.proofs.forward.Statement.{statement}
+use Rattle.linear.proofs.forward.Tie as tie
 
 abbrev Inv-loop2 : tie.InvT-loop2
 Inv-loop2 m x₀ i t k₀ x k = run (lessEntry m i t) k 8 x ≡ run (lessEntry m i t) k₀ 8 x₀

@@ -1,12 +1,12 @@
-use Rattle.homography.specs.Linear.{lessEntry, backwardColumn, backwardBy}
+use Rattle.linear.specs.Linear.{lessEntry, backwardColumn, backwardBy}
 use Rattle.folds.specs.Run.{down, down-step, down-done}
 use Rattle.folds.specs.Run.{run, run-step, run-done}
 use mathlib.Core.Path.{_≡_, _∙_, sym}
 use Prim.Native.Nat.{_-_, _≤_}
 use native.Mathlib.Omega.{arith}
 use borrow.Author.Needs.{needs}
-use Rattle.homography.proofs.linear.backward.Statement.{statement}
-use Rattle.homography.proofs.linear.backward.Tie as tie
+use Rattle.linear.proofs.backward.Statement.{statement}
+use Rattle.linear.proofs.backward.Tie as tie
 
 abbrev Inv-loop2 : tie.InvT-loop2
 Inv-loop2 m x₀ n t k₀ x k = run (lessEntry m n t) k n x ≡ run (lessEntry m n t) k₀ n x₀

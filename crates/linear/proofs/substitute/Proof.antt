@@ -1,7 +1,7 @@
-use Rattle.homography.specs.Linear.{substituted}
+use Rattle.linear.specs.Linear.{substituted}
 use borrow.Author.Needs.{needs}
-use Rattle.homography.proofs.linear.substitute.Statement.{statement}
-use Rattle.homography.proofs.linear.substitute.Tie as tie
+use Rattle.linear.proofs.substitute.Statement.{statement}
+use Rattle.linear.proofs.substitute.Tie as tie
 
 returns : tie.Need-returns
 unfolding substituted

@@ -1,6 +1,6 @@
 // A system of eight linear equations, solved by elimination with row exchange.
 ghost use mathlib.Core.Path.{_≡_};
-ghost use Rattle.homography.specs.Linear.{System, zeroDiagonal, forwardBy, backwardBy, substituted, solutionOf};
+ghost use Rattle.linear.specs.Linear.{System, zeroDiagonal, forwardBy, backwardBy, substituted, solutionOf};
 
 // The solution x, where there is one.
 pub struct Solution {
