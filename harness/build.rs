@@ -9,9 +9,9 @@ fn main() {
         println!("cargo:rustc-cfg=original_at_hand");
     }
     if env::var_os("CARGO_FEATURE_KEPT").is_some() {
-        let folder = env::var("HIGLAUPTH_KEPT").expect("HIGLAUPTH_KEPT names libkept.a's folder");
-        println!("cargo:rerun-if-changed={folder}/libkept.a");
+        let folder = env::var("HIGLAUPTH_KEPT").expect("HIGLAUPTH_KEPT names libkept_c.a's folder");
+        println!("cargo:rerun-if-changed={folder}/libkept_c.a");
         println!("cargo:rustc-link-search=native={folder}");
-        println!("cargo:rustc-link-lib=static=kept");
+        println!("cargo:rustc-link-lib=static=kept_c");
     }
 }

@@ -1,17 +1,13 @@
 -- What the call answers and what it leaves in the result buffer, for any bytes and any buffer. Assumes nothing.
-use mathlib.Core.Bool.{Bool}
 use mathlib.Core.List.{List}
 use Prim.Native.Nat.{ℕ, _*_}
 use lib.ListN.{length}
-use lib.Ieee.{Float}
 use Rattle.folds.specs.Column.{overlaid}
-use Rattle.view.specs.View.{View}
 use Rattle.cells.specs.Points.{Point, keysOf, indicesOf}
 use Rattle.grid.specs.Tables.{byIdxOf}
 use Rattle.grid.specs.Views.{viewOf}
 use Rattle.sheet_file.specs.declared.Settings.{Settings}
 use Rattle.ruling.specs.Ruling.{Ruling, refused, accepted, rulingOf}
-use Rattle.local_h.specs.declared.Residuals.{Residuals}
 use Rattle.validate.specs.Validate.{residualsOf, figuresOf, boundaryIn, isGated}
 use Rattle.rows.specs.Rows.{Shown, shownAt, rowByte}
 use Rattle.kept.specs.Marks.{marksOf, countIn}

@@ -1,6 +1,6 @@
 -- The marks of a sheet's points and the component count, from its settings s, its view w and the keys of its cells: `drop_set`.
 -- A mark is of an index: each point with the index has it. Assumes nothing.
-use mathlib.Core.Bool.{Bool, true, false, cond, _&&_, _||_}
+use mathlib.Core.Bool.{Bool, cond, _&&_, _||_}
 use mathlib.Core.List.{List}
 use Prim.Native.Nat.{ℕ, _+_, _*_}
 use lib.Dec.{eqb}
