@@ -74,7 +74,7 @@ pub record Star : Type 0 where
 abbrev star : List Point → Said → Star
 star ps s = record { sheet = ps; said = s }
 
--- the sheet is accepted, and the definitions say of its points in cell order just that
+-- none of the numbers 6 to 9 applies to the points, and the definitions say just that of them in cell order
 abbrev pub Right : Star → Type 0
 Right s = (numberFor (s .sheet) ≡ 0) × (saidOf (cellOrder (s .sheet)) ≡ s .said)
 
