@@ -23,12 +23,15 @@ pub fn call(_file: &[u8], _rows: &mut [u8]) -> Option<u64> {
     None
 }
 
+/// Bytes kept before and after the buffer, which the library must leave alone.
+const GUARD: usize = 64;
+
 /// The first place where the library differs from an answer: its number or counts, a row byte, or a
 /// byte after them that it changed.
 pub fn difference(file: &[u8], buffer: usize, answer: &Answer) -> Option<String> {
-    let before: Vec<u8> = (0..buffer).map(|k| (k * 7 + 165) as u8).collect();
-    let mut after = before.clone();
-    let returned = call(file, &mut after)?;
+    let whole: Vec<u8> = (0..buffer + 2 * GUARD).map(|k| (k * 7 + 165) as u8).collect();
+    let mut left = whole.clone();
+    let returned = call(file, &mut left[GUARD..GUARD + buffer])?;
     let (expected, rows) = match answer {
         Answer::Refused(number) => (u64::from(*number), &[][..]),
         Answer::Accepted { rows, components, .. } => {
@@ -38,7 +41,8 @@ pub fn difference(file: &[u8], buffer: usize, answer: &Answer) -> Option<String>
     if returned != expected {
         return Some(format!("library: returned {returned:#x}, expected {expected:#x}"));
     }
-    let right = rows.iter().chain(&before[rows.len()..]);
-    let at = after.iter().zip(right).position(|(a, b)| a != b)?;
-    Some(format!("library: byte {at} of the buffer"))
+    let (front, rest) = whole.split_at(GUARD);
+    let right = front.iter().chain(rows).chain(&rest[rows.len()..]);
+    let at = left.iter().zip(right).position(|(a, b)| a != b)?;
+    Some(format!("library: byte {} of the buffer", at as i64 - GUARD as i64))
 }

@@ -28,6 +28,31 @@ const SHEETS: &[(&str, &str, Says)] = &[
              kept 4 validate 0 orientation 0 wrong 0 component 1\n",
         ),
     ),
+    // What demand 3 says of the kept patch asks for distinct indices ..
+    (
+        "a repeated index: survivors, yet nothing is kept",
+        "settings 100 0.15 3 0.2 0 0 0 1\n0 0 7 0 0\n5 5 7 0 0",
+        Says::Marks(&["---C", "---C"]),
+    ),
+    (
+        "a repeated index: what is kept lies in pieces",
+        "settings 100 0.15 3 0.2 0 0 0 1\n0 0 1 0 0\n1 0 2 100 0\n2 0 3 200 0\n9 9 2 100 0",
+        Says::Marks(&["----", "---C", "----", "---C"]),
+    ),
+    // .. and what it says of a whole move, for the same validate marks: moved by (1, 0), this sheet
+    // loses one.
+    (
+        "a sheet before a whole move",
+        "settings 128 0.02 3 0.25989172 0 0 1 1\n0 0 10 -10 -10\n0 1 11 -2 132\n\
+         1 0 12 131 -9\n1 1 13 125 133\n2 0 14 253 10",
+        Says::Marks(&["V---", "----", "V---", "----", "---C"]),
+    ),
+    (
+        "the sheet after it",
+        "settings 128 0.02 3 0.25989172 0 0 1 1\n1 0 10 -10 -10\n1 1 11 -2 132\n\
+         2 0 12 131 -9\n2 1 13 125 133\n3 0 14 253 10",
+        Says::Marks(&["V---", "----", "----", "----", "----"]),
+    ),
     (
         "two patches of one",
         "cell 100\n5 5 1 500 500\n0 0 2 0 0",
