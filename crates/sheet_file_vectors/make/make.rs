@@ -226,6 +226,20 @@ fn numbers(c: &mut Cases) {
     c.add(&many.file(), 28 * 2048 - 1);
     many.points.push((30, 30, 1, 0, 0));
     c.sheet(&many);
+    // 2,049 points and one other fault.
+    for number in [1, 3, 4, 5, 6, 7, 8, 9] {
+        let mut s = Sheet::new(6);
+        s.points = many.points.clone();
+        if number > 3 {
+            s.spoil(number);
+        }
+        let room = if number == 3 { 28 * 2049 - 1 } else { 28 * 2049 };
+        let mut file = s.file();
+        if number == 1 {
+            file.push(0);
+        }
+        c.add(&file, room);
+    }
     many.settings.copy_from_slice(&INFINITE.to_le_bytes());
     for number in 6..=9 {
         many.spoil(number);
