@@ -25,7 +25,8 @@ use Rattle.sheet_file.specs.declared.Settings.{Settings}
 use Rattle.points.specs.Records.{pointsIn}
 use Rattle.points.specs.Refusals.{offRange}
 use Rattle.components.specs.Kept.{WholePatch, Smallest, Kept, Counted}
-use Rattle.ruling.specs.Ruling.{accepted, rulingOf, applies}
+use Rattle.ruling.specs.Ruling.{Ruling, accepted, rulingOf, applies}
+use Rattle.listing.specs.Listing.{countsOf}
 use Rattle.ruling.specs.Header.{frame-same}
 use Rattle.ruling.specs.Standing.{taken, accepted-order}
 use Rattle.ruling.specs.Order.{Relisted, order}
@@ -110,12 +111,15 @@ no-count file room s ps e off = answer-is file room s ps e ∙ ap (λ (c : ℕ).
 pub record SameResult (file other : List ℕ) : Type 0 where
   pub answer : (room : ℕ) → answerOf other room ≡ answerOf file room
   pub rows : (buffer : List ℕ) → rowsAfter other buffer ≡ rowsAfter file buffer
+  -- "The counts are those of the listing's first line and of its tally": how many of n points are counted under each filter, or kept
+  pub tally : (n : ℕ) (buffer : List ℕ) → countsOf n (rowsAfter other buffer) ≡ countsOf n (rowsAfter file buffer)
 
 pub another-order : (file other : List ℕ) (f : Layout) → Bytes file → framingOf file ≡ Framed f → Relisted file other f → SameResult file other
 unfolding answerOf rowsAfter
 another-order file other f b e r = record {
   answer = λ room. ap answerBy (sym (order file other f b e r room));
   rows = λ buffer. ap (rowsBy buffer) (sym (order file other f b e r (length buffer)));
+  tally = λ n buffer. ap (λ (q : Ruling). countsOf n (rowsBy buffer q)) (sym (order file other f b e r (length buffer)));
 }
 
 -- ---- (c) an offset
