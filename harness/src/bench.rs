@@ -1,6 +1,6 @@
 //! Microseconds a sheet on a clean 45 by 45 board: the least of many runs.
 
-use crate::kept;
+use crate::library;
 use crate::run_original::Prepared;
 use crate::second::{self, Fault};
 use crate::sheet::{Gate, Point, Rest, Settings, Sheet};
@@ -103,9 +103,9 @@ pub fn run(runs: usize) {
         let answer = || second::answer(&file, 1 << 16, Fault::None);
         time("second program, file to rows and listing", runs, answer);
         let mut rows = vec![0; second::ROW * points];
-        if kept::call(&file, &mut rows).is_some() {
+        if library::call(&file, &mut rows).is_some() {
             time("static library, file to rows", runs, || {
-                kept::call(&file, &mut rows)
+                library::call(&file, &mut rows)
             });
         }
     }

@@ -2,7 +2,7 @@
 
 use crate::angles;
 use crate::generate::{self, Case, Expected, Kind};
-use crate::kept;
+use crate::library;
 use crate::run_original::{Held, Prepared};
 use crate::second::{self, Answer, Fault, ROW};
 use crate::sheet::Sheet;
@@ -67,7 +67,7 @@ pub fn check(case: &Case, answer: &Answer) -> Verdict {
     if case.expected != Expected::Unknown && refusal != case.expected {
         return Verdict::Different(format!("expected {:?}, found {refusal:?}", case.expected));
     }
-    if let Some(text) = kept::difference(&case.file, case.buffer, answer) {
+    if let Some(text) = library::difference(&case.file, case.buffer, answer) {
         return Verdict::Different(text);
     }
     if refusal != Expected::Accepted {

@@ -5,7 +5,7 @@ mod bench;
 mod compare;
 mod floats;
 mod generate;
-mod kept;
+mod library;
 mod mutants;
 mod properties;
 mod quick;

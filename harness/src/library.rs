@@ -1,6 +1,6 @@
 //! The static library in the same process.
 //!
-//! With the feature `kept`, `libkept_c.a` is linked from the folder that HIGLAUPTH_KEPT names,
+//! With the feature `library`, `libhiglaupth.a` is linked from the folder that HIGLAUPTH_LIBRARY names,
 //! and `call` reaches it; without it `call` says that there is none. The C function declared
 //! here and what its return value means are the only things to change with the library's
 //! header.
@@ -9,7 +9,7 @@ use crate::second::Answer;
 
 /// What the library returned: a refusal number of 1 to 9, or 2^32 + 2^16 * points + components;
 /// none without the library.
-#[cfg(feature = "kept")]
+#[cfg(feature = "library")]
 pub fn call(file: &[u8], rows: &mut [u8]) -> Option<u64> {
     extern "C" {
         fn higlaupth_keep(file: *const u8, file_len: usize, rows: *mut u8, rows_len: usize) -> u64;
@@ -18,7 +18,7 @@ pub fn call(file: &[u8], rows: &mut [u8]) -> Option<u64> {
     Some(unsafe { higlaupth_keep(file.as_ptr(), file.len(), rows.as_mut_ptr(), rows.len()) })
 }
 
-#[cfg(not(feature = "kept"))]
+#[cfg(not(feature = "library"))]
 pub fn call(_file: &[u8], _rows: &mut [u8]) -> Option<u64> {
     None
 }

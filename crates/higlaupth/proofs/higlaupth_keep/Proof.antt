@@ -1,8 +1,8 @@
-use Rattle.kept_c.specs.Number.{numberOf}
+use Rattle.higlaupth.specs.Number.{numberOf}
 use mathlib.Core.Path.{sym, ap, _∙_}
 use borrow.Author.Needs.{needs}
-use Rattle.kept_c.proofs.higlaupth_keep.Statement.{statement}
-use Rattle.kept_c.proofs.higlaupth_keep.Tie as tie
+use Rattle.higlaupth.proofs.higlaupth_keep.Statement.{statement}
+use Rattle.higlaupth.proofs.higlaupth_keep.Tie as tie
 
 returns : tie.Need-returns
 returns c = (ap numberOf (sym (c .before .a .given .1) ∙ c .before .before .before .before .before .keep .ensures .0), c .before .before .before .before .before .keep .ensures .1)

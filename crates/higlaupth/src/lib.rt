@@ -3,7 +3,7 @@ use kept::Answer;
 ghost use mathlib.Core.Path.{_≡_};
 ghost use lib.ListN.{length};
 ghost use Rattle.kept.specs.Answer.{answerOf, rowsAfter};
-ghost use Rattle.kept_c.specs.Number.{numberOf};
+ghost use Rattle.higlaupth.specs.Number.{numberOf};
 
 // 1 to 9 for a refusal; else 2^32 + 2^16 * points + components.
 #[no_mangle]
