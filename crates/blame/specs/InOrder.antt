@@ -4,12 +4,12 @@ use mathlib.Core.Path.{_≡_, refl, sym, ap, _∙_}
 use mathlib.Core.Logic.{_⊎_, inl, inr}
 use mathlib.Core.Bool.{Bool, true, false, not, cond, _&&_, _||_, false≢true, true≢false}
 use mathlib.Core.List.{List, [], _∷_, List·Memᴰ, List·Memᴰ·head, List·Memᴰ·tail, List·Memᴰ·not-nil, List·Memᴰ·cases-cons}
-use Prim.Native.Nat.{ℕ, _≤_, _<_}
+use Prim.Native.Nat.{ℕ, _<_}
 use native.Mathlib.Omega.{arith}
 use borrow.Author.Tests.{eqb-true, ne-eqb, ltb-true, lt-leb}
-use lib.Dec.{eqb, ltb, leb}
+use lib.Dec.{eqb, ltb}
 use Rattle.folds.specs.Among.{anyIn}
-use Rattle.folds.specs.Below.{some, some-yes, some-at, or-false, and-false, and-left, and-right, both-ways}
+use Rattle.folds.specs.Below.{some, some-yes, some-at, or-false, and-false, and-right, both-ways, or-right-first}
 use Rattle.folds.specs.Lists.{over}
 use Rattle.folds.specs.Scattered.{counts}
 use Rattle.view.specs.View.{View}
@@ -117,9 +117,4 @@ in-order w e l below all m =
     ap (λ (b : Bool). b || rule4 e m)
     (walked (blamed w (e .flags)) (isVisited w e) (w .count) (blamed-apart w e) l below (marked12 e) (fresh w e) m
     ∙ ap (λ (b : Bool). marked12 e m || b) (any-some (counts (blamed w (e .flags)) (isVisited w e) m) l (w .count) below (λ k h c. all k h (and-right (eqb (blamed w (e .flags) k) m) (isVisited w e k) c))))
-    ∙ regrouped (rule1 e m) (rule2 e m) (rule3 w e m) (rule4 e m)
-  where
-    regrouped : (a b c d : Bool) → ((a || b) || c) || d ≡ a || (b || (c || d))
-    regrouped true b c d = refl
-    regrouped false true c d = refl
-    regrouped false false c d = refl
+    ∙ or-right-first (rule1 e m) (rule2 e m) (rule3 w e m) (rule4 e m)

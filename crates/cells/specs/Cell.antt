@@ -165,6 +165,9 @@ range-is b h = go (ltb b (2 ^ 31)) refl
         (λ t. let r = bounds (negsuc (2 ^ 32 - suc b)) t in middle-is (biased b) (omega arith) (omega arith))
         (λ t. let r = middle-at (biased b) t in within-lift (negsuc (2 ^ 32 - suc b)) ∙ middle-is (8002 - (2 ^ 32 - suc b)) (omega arith) (omega arith))
 
+pub biased-range : (b : ℕ) → b < 2 ^ 32 → within (signed b) ≡ true → (3 ≤ biased b) × (biased b ≤ 16003)
+biased-range b h e = middle-at (biased b) (sym (range-is b h) ∙ e)
+
 biased-is : (b : ℕ) → b < 2 ^ 32 → within (signed b) ≡ true → biased b ≡ lift (signed b)
 biased-is b h t = go (ltb b (2 ^ 31)) refl t
   where
@@ -194,10 +197,10 @@ keyed p r = record {
 pub key-small : (p : Point) → InRange p → keyOf p < 2 ^ 28
 key-small p r = let k = keyed p r in omega (arith, k .key, k .u, k .v)
 
-abbrev cellAt : ℤ → ℤ → Cell
+abbrev pub cellAt : ℤ → ℤ → Cell
 cellAt u v = record { u = u; v = v }
 
-same-cell : {u v x y : ℤ} → u ≡ x → v ≡ y → cellAt u v ≡ cellAt x y
+pub same-cell : {u v x y : ℤ} → u ≡ x → v ≡ y → cellAt u v ≡ cellAt x y
 same-cell {u} {v} {x} {y} e f = ap (λ (z : ℤ). cellAt z v) e ∙ ap (cellAt x) f
 
 -- a key's parts: one u (or v) just where the cells have one u (or v)

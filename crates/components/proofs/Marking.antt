@@ -1,13 +1,13 @@
 -- What the component mark says, and what labels and marks depend on. Assumes nothing.
 use mathlib.Core.Path.{_≡_, refl, ap, _∙_}
-use mathlib.Core.Bool.{Bool, true, false, not, _&&_}
+use mathlib.Core.Bool.{Bool, true, not, _&&_}
 use mathlib.Core.List.{List}
 use Prim.Native.Nat.{ℕ, _<_}
 use borrow.Author.Tests.{eq-eqb, eqb-true, lt-ltb}
 use lib.Dec.{eqb}
 use Rattle.folds.specs.Below.{some-ext, some-one, and-under, both-ways}
 use Rattle.folds.specs.Column.{column-at, column-ext}
-use Rattle.folds.specs.Marked.{bit}
+use Rattle.folds.specs.Marked.{bit, bit-is}
 use Rattle.view.specs.View.{View, maxPoints, indexHas}
 use Rattle.patches.specs.Patches.{at, survives, linked, labelsOf, patchLabels}
 use Rattle.components.specs.Components.{winnerOf, inPatch, isOther, othersBy, othersOf, placeHas, indexMarks, componentMark}
@@ -16,10 +16,6 @@ use Rattle.patches.proofs.Closure.{reach-from}
 use Rattle.patches.proofs.Labelling.{joins, label-some}
 
 -- ---- the mark is of indices
-
-bit-test : (b : Bool) → eqb (bit b) 1 ≡ b
-bit-test true = refl
-bit-test false = refl
 
 -- rank k is marked where some point with its index survives outside the winner
 pub mark-is : (w : View) (sides dropped : List ℕ) (k : ℕ) → k < w .count
@@ -35,7 +31,7 @@ mark-is w sides dropped k h =
     each : (j : ℕ) → j < w .count → eqb (at (othersOf (w .count) labels) j) 1 && eqb (w .byIdx j) (w .byIdx k) ≡ isOther (w .count) labels (winnerOf (w .count) labels) j && eqb (w .byIdx j) (w .byIdx k)
     each j l =
         ap (λ (x : ℕ). eqb x 1 && eqb (w .byIdx j) (w .byIdx k)) (column-at maxPoints 0 (w .count) (λ (k : ℕ). bit (isOther (w .count) labels (winnerOf (w .count) labels) k)) j l)
-        ∙ ap (λ (b : Bool). b && eqb (w .byIdx j) (w .byIdx k)) (bit-test (isOther (w .count) labels (winnerOf (w .count) labels) j))
+        ∙ ap (λ (b : Bool). b && eqb (w .byIdx j) (w .byIdx k)) (bit-is (isOther (w .count) labels (winnerOf (w .count) labels) j))
 
 -- where no two points have one index, the marked cells are those outside the winner
 pub mark-distinct : (w : View) (sides dropped : List ℕ) (k : ℕ) → k < w .count → ((j : ℕ) → j < w .count → w .byIdx j ≡ w .byIdx k → j ≡ k)

@@ -3,7 +3,7 @@
 -- Assumes nothing.
 use mathlib.Core.Path.{_≡_, refl, sym, ap, _∙_, subst}
 use mathlib.Core.Bool.{Bool, true, false, cond, not, _||_, _&&_, false≢true, true≢false}
-use mathlib.Core.Logic.{⊎-elim}
+use mathlib.Core.Logic.{_⊎_, inl, inr, ⊎-elim}
 use Prim.Native.Nat.{ℕ, zero, suc, _+_, _-_, _≤_, _<_}
 use native.Mathlib.Decide.{decLe, ℕ-discrete}
 use native.Mathlib.Nat.{lt-suc-self, le-step, eq-or-lt-of-le}
@@ -46,6 +46,33 @@ or-false false = refl
 pub or-true : (a : Bool) → a || true ≡ true
 or-true true = refl
 or-true false = refl
+
+pub or-left : (a b : Bool) → a ≡ true → a || b ≡ true
+or-left a b e = rw e
+
+pub or-right : (a b : Bool) → b ≡ true → a || b ≡ true
+or-right a b e = rw e (or-true a)
+
+pub or-cases : (a b : Bool) → a || b ≡ true → (a ≡ true) ⊎ (b ≡ true)
+or-cases true b e = inl refl
+or-cases false b e = inr e
+
+pub or-none : (a b : Bool) → a || b ≡ false → (a ≡ false) × (b ≡ false)
+or-none true b h = absurd (true≢false h)
+or-none false b h = (refl, h)
+
+pub or-right-first : (a b c d : Bool) → ((a || b) || c) || d ≡ a || (b || (c || d))
+or-right-first true b c d = refl
+or-right-first false true c d = refl
+or-right-first false false c d = refl
+
+pub and-swap : (a b : Bool) → a && b ≡ b && a
+and-swap true b = sym (and-true b)
+and-swap false b = sym (and-false b)
+
+pub not-false : (b : Bool) → not b ≡ false → b ≡ true
+not-false true e = refl
+not-false false e = sym e
 
 -- a test that cannot be true is false
 pub not-true : (b : Bool) → (b ≡ true → ⊥) → b ≡ false
@@ -328,6 +355,15 @@ module _ (p : ℕ → Bool) where
       go true e l r = e
       go false e l r = r (omega arith)
 
+  firstIn-from : (m i : ℕ) → i ≤ firstIn p m i
+  unfolding firstIn
+  firstIn-from zero i = omega arith
+  firstIn-from (suc m) i = go (p i) (firstIn-from m (i + 1))
+    where
+      go : (b : Bool) → i + 1 ≤ firstIn p m (i + 1) → i ≤ cond b i (firstIn p m (i + 1))
+      go true h = omega arith
+      go false h = omega arith
+
   firstIn-le : (m i : ℕ) → firstIn p m i ≤ i + m
   unfolding firstIn
   firstIn-le zero i = omega arith
@@ -350,6 +386,11 @@ module _ (p : ℕ → Bool) where
   pub first-le : (i n : ℕ) → i ≤ n → first p i n ≤ n
   unfolding first
   first-le i n h = omega (arith, firstIn-le (n - i) i)
+
+  -- the first from i on is not before i
+  pub first-from : (i n : ℕ) → i ≤ first p i n
+  unfolding first
+  first-from i n = firstIn-from (n - i) i
 
   -- from 0 on: k is the first
   pub first-hit : (n k : ℕ) → k < n → p k ≡ true → ((j : ℕ) → j < k → p j ≡ false) → first p 0 n ≡ k

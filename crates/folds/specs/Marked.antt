@@ -1,9 +1,9 @@
 -- Marks, 0 or 1, kept at places of an array: what a test hits is set, and all else is as it was. The relation composes, so that filters
 -- and loops that mark need no other invariant. Assumes nothing.
-use mathlib.Core.Path.{_≡_, refl, sym, ap, _∙_}
-use mathlib.Core.Bool.{Bool, true, false, cond, _&&_, _||_}
+use mathlib.Core.Path.{_≡_, refl, sym, _∙_}
+use mathlib.Core.Bool.{Bool, true, false, cond, _||_}
 use mathlib.Core.List.{List}
-use Prim.Native.Nat.{ℕ, zero, suc, _+_, _≤_, _<_}
+use Prim.Native.Nat.{ℕ, _+_, _≤_, _<_}
 use native.Mathlib.Omega.{arith}
 use native.Mathlib.Decide.{decLt}
 use Prim.{Dec, yes, no}
@@ -12,7 +12,7 @@ use borrow.Author.Tests.{eqb-true, eqb-false}
 use lib.ListN.{length, getD, set, length-set, replicate, length-replicate, List·getD-eq-default}
 use lib.Seq.{getD-set-same, getD-set-other}
 use Rattle.folds.specs.Below.{some, some-more, tally, tally-none, tally-more}
-use Rattle.folds.specs.Column.{column, Filling, filled, replicate-at}
+use Rattle.folds.specs.Column.{column, filled, replicate-at}
 
 abbrev pub bit : Bool → ℕ
 bit true = 1
@@ -21,6 +21,10 @@ bit false = 0
 pub bit-le : (b : Bool) → bit b ≤ 1
 bit-le true = omega arith
 bit-le false = omega arith
+
+pub bit-is : (b : Bool) → eqb (bit b) 1 ≡ b
+bit-is true = refl
+bit-is false = refl
 
 -- counting is adding up bits
 pub tally-bit : (p : ℕ → Bool) (i : ℕ) → tally p (i + 1) ≡ tally p i + bit (p i)

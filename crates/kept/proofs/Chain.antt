@@ -1,13 +1,13 @@
 -- What the calls ask of their arrays, and what they give together. Assumes nothing.
 use mathlib.Core.Path.{_≡_, refl, ap, _∙_}
-use mathlib.Core.Bool.{Bool, true, false, _||_}
+use mathlib.Core.Bool.{Bool, _||_}
 use mathlib.Core.List.{List}
 use Prim.Native.Nat.{ℕ, _+_, _*_, _≤_, _<_}
 use lib.Dec.{eqb}
 use lib.ListN.{getD}
 use lib.Ieee.{Float}
 use Rattle.folds.specs.Column.{column-at, column-ext, overlaid}
-use Rattle.folds.specs.Marked.{bit, bit-le}
+use Rattle.folds.specs.Marked.{bit, bit-is, bit-le}
 use Rattle.view.specs.View.{View, viewAt, maxPoints, nextU, nextV}
 use Rattle.edges.specs.Edges.{edgesOf}
 use Rattle.edges.specs.declared.EdgeColumns.{EdgeColumns}
@@ -30,12 +30,8 @@ use Rattle.kept.specs.declared.Answer.the-variants.{Accepted}
 
 -- ---- the marks
 
-set-bit : (b : Bool) → eqb (bit b) 1 ≡ b
-set-bit true = refl
-set-bit false = refl
-
 or-set : {i j k : ℕ} (a b c : Bool) → i ≡ bit a → j ≡ bit b → k ≡ bit c → bit (eqb i 1 || (eqb j 1 || eqb k 1)) ≡ bit (a || (b || c))
-or-set a b c e f g = rw (e, f, g, set-bit a, set-bit b, set-bit c) refl
+or-set a b c e f g = rw (e, f, g, bit-is a, bit-is b, bit-is c) refl
 
 as-byte : {i j k : ℕ} (a b c d : ℕ) → i ≡ a → j ≡ b → k ≡ c → i + 2 * j + 4 * k + 8 * d ≡ a + 2 * b + 4 * c + 8 * d
 as-byte a b c d e f g = rw (e, f, g) refl

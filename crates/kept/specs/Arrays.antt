@@ -1,6 +1,6 @@
 -- The arrays of a sheet's points in cell order, and that they are as the tables and the filters ask. Assumes nothing.
 use mathlib.Core.Path.{_≡_, refl, sym, ap, _∙_}
-use mathlib.Core.Bool.{Bool, true, false, _||_, true≢false}
+use mathlib.Core.Bool.{Bool, true, false, true≢false}
 use mathlib.Core.List.{List}
 use Prim.{Dec, yes, no}
 use Prim.Native.Nat.{ℕ, _*_, _/_, _%_, _≤_, _<_}
@@ -12,7 +12,7 @@ use lib.Ieee.{Float, nan, inf, fin}
 use lib.Ieee.Scale.{finite}
 use borrow.Author.Tests.{eq-eqb, ltb-false}
 use Rattle.folds.specs.Arith.{f32}
-use Rattle.folds.specs.Below.{first, first-before, last-holds, some-yes}
+use Rattle.folds.specs.Below.{first, first-before, last-holds, some-yes, or-none}
 use Rattle.folds.specs.Column.{column-at}
 use Rattle.view.specs.View.{View, viewAt, maxPoints}
 use Rattle.marks.specs.Arrays.{Ranks, Finite}
@@ -75,10 +75,6 @@ inside-finite nan e = absurd (true≢false e)
 inside-finite (inf s) e = absurd (true≢false e)
 inside-finite (fin s m k) e = tt
 
-neither : (a b : Bool) → a || b ≡ false → (a ≡ false) × (b ≡ false)
-neither true b h = absurd (true≢false h)
-neither false b h = (refl, h)
-
 module _ (s : List ℕ) (room : ℕ) (w : Settings) (ps : List Point) (bytes : Bytes s) (e : rulingOf s room ≡ accepted w ps) where
   count-is : length ps ≡ layoutOf s .count
   count-is = let k = taken s room w ps bytes e in ap length (k .points-are) ∙ points-length s (layoutOf s .points) (layoutOf s .count) (k .few)
@@ -91,7 +87,7 @@ module _ (s : List ℕ) (room : ℕ) (w : Settings) (ps : List Point) (bytes : B
       let at = layoutOf s .points in
       let n = layoutOf s .count in
       let l : k < n = omega (arith, count-is) in
-      rw (t .points-are, point-at s at n (t .few) k l) (neither _ _ (none-off s at n offLimit (none-applies s room e 7 (omega arith)) _ (rows-placed s at n false (t .few) k l)))
+      rw (t .points-are, point-at s at n (t .few) k l) (or-none _ _ (none-off s at n offLimit (none-applies s room e 7 (omega arith)) _ (rows-placed s at n false (t .few) k l)))
 
   pub arrays-ready : Arrays (length ps) (keysOf ps) (xsOf ps) (ysOf ps)
   unfolding xsOf ysOf

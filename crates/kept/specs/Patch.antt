@@ -7,7 +7,7 @@ use Prim.Native.Nat.{ℕ, _≤_, _<_}
 use lib.Dec.{eqb, ltb}
 use lib.ListN.{length, getD}
 use borrow.Author.Tests.{lt-ltb, ltb-true}
-use Rattle.folds.specs.Below.{some, some-at, some-fails, and-under, and-left, and-right, and-both, not-true, tally}
+use Rattle.folds.specs.Below.{some, some-at, some-fails, and-under, and-left, and-right, and-both, not-true, tally, not-false}
 use Rattle.folds.specs.Column.{column, column-at}
 use Rattle.folds.specs.Marked.{bit}
 use Rattle.view.specs.View.{View, maxPoints, squareSides}
@@ -177,10 +177,6 @@ reached-below s ps {a} (here e) = below s ps a e
 reached-below s ps {k = c} (step {b} r e) =
     let t = shareEdge (cellOf (getD ps b nowhere)) (cellOf (getD ps c nowhere)) in
     below s ps c (and-left (survivor s ps c) t (and-right (survivor s ps b) (survivor s ps c && t) e))
-
-not-false : (b : Bool) → not b ≡ false → b ≡ true
-not-false true e = refl
-not-false false e = sym e
 
 module _ (s : Settings) (ps : List Point) where
   pub none-kept : ((k : ℕ) → k < length ps → hasEarlier s ps k ≡ true) → (k : ℕ) → keptRank s ps k ≡ false

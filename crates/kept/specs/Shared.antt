@@ -1,7 +1,7 @@
 -- The table of neighbours leads over shared edges: between the cells of two ranks there is one just where one of the four offsets leads from
 -- the one to the other. Assumes nothing.
 use mathlib.Core.Path.{_≡_, refl, sym, ap, _∙_}
-use mathlib.Core.Bool.{Bool, true, false, _&&_, _||_, false≢true}
+use mathlib.Core.Bool.{Bool, true, false, _&&_, false≢true}
 use mathlib.Core.Logic.{_⊎_, inl, inr}
 use mathlib.Core.List.{List}
 use Prim.Native.Nat.{ℕ, zero, suc, _<_}
@@ -10,10 +10,10 @@ use lib.Dec.{eqb}
 use lib.IntN.{ℤ, pos, negsuc, _+ℤ_, _-ℤ_, +ℤ-idr}
 use lib.ListN.{length, getD}
 use borrow.Author.Tests.{eqb-true, eq-eqb}
-use Rattle.folds.specs.Below.{some-at, some-yes, and-left, and-right, and-both, both-ways, or-true}
+use Rattle.folds.specs.Below.{some-at, some-yes, and-left, and-right, and-both, both-ways, or-left, or-right, or-cases}
 use Rattle.view.specs.View.{squareSides, rankAt}
 use Rattle.cells.specs.Points.{Point, nowhere}
-use Rattle.cells.specs.Cell.{Cell, cellOf, moved, duOf, dvOf}
+use Rattle.cells.specs.Cell.{Cell, cellOf, moved, duOf, dvOf, cellAt, same-cell}
 use Rattle.grid.specs.Views.{viewOf}
 use Rattle.grid.specs.InOrder.{CellOrder, near-means, near-found}
 use Rattle.patches.specs.Patches.{touches}
@@ -33,22 +33,6 @@ agree-true (pos a) (negsuc b) e = absurd (false≢true e)
 agree-true (negsuc a) (pos b) e = absurd (false≢true e)
 agree-true (negsuc a) (negsuc b) e = ap negsuc (eqb-true a b e)
 
-either : (a b : Bool) → a || b ≡ true → (a ≡ true) ⊎ (b ≡ true)
-either true b e = inl refl
-either false b e = inr e
-
-left-or : (a b : Bool) → a ≡ true → a || b ≡ true
-left-or a b e = rw e
-
-right-or : (a b : Bool) → b ≡ true → a || b ≡ true
-right-or a b e = rw e (or-true a)
-
-abbrev cellAt : ℤ → ℤ → Cell
-cellAt u v = record { u = u; v = v }
-
-same-cell : {u v x y : ℤ} → u ≡ x → v ≡ y → cellAt u v ≡ cellAt x y
-same-cell {u} {v} {x} {y} e f = ap (λ (z : ℤ). cellAt z v) e ∙ ap (cellAt x) f
-
 abbrev side : ℕ → ℕ
 side i = getD squareSides i 0
 
@@ -63,7 +47,7 @@ module _ (u v x y : ℤ) where
   by-v b e f = same-cell (sym (agree-true u x e) ∙ sym (+ℤ-idr u)) (agree-true y (v +ℤ b) f)
 
   side-of : shareEdge (cellAt u v) (cellAt x y) ≡ true → (i : ℕ) × (i < 4) × Over (side i)
-  side-of e = go (either (differByOne u x && agree v y) (agree u x && differByOne v y) e)
+  side-of e = go (or-cases (differByOne u x && agree v y) (agree u x && differByOne v y) e)
     where
       in-u : agree v y ≡ true → (agree x (u -ℤ pos 1) ≡ true) ⊎ (agree x (u +ℤ pos 1) ≡ true) → (i : ℕ) × (i < 4) × Over (side i)
       in-u f (inl e) = (0, omega arith, by-u (negsuc 0) e f)
@@ -74,8 +58,8 @@ module _ (u v x y : ℤ) where
       in-v f (inr e) = (3, omega arith, by-v (pos 1) f e)
 
       go : (differByOne u x && agree v y ≡ true) ⊎ (agree u x && differByOne v y ≡ true) → (i : ℕ) × (i < 4) × Over (side i)
-      go (inl h) = in-u (and-right (differByOne u x) (agree v y) h) (either (agree x (u -ℤ pos 1)) (agree x (u +ℤ pos 1)) (and-left (differByOne u x) (agree v y) h))
-      go (inr h) = in-v (and-left (agree u x) (differByOne v y) h) (either (agree y (v -ℤ pos 1)) (agree y (v +ℤ pos 1)) (and-right (agree u x) (differByOne v y) h))
+      go (inl h) = in-u (and-right (differByOne u x) (agree v y) h) (or-cases (agree x (u -ℤ pos 1)) (agree x (u +ℤ pos 1)) (and-left (differByOne u x) (agree v y) h))
+      go (inr h) = in-v (and-left (agree u x) (differByOne v y) h) (or-cases (agree y (v -ℤ pos 1)) (agree y (v +ℤ pos 1)) (and-right (agree u x) (differByOne v y) h))
 
   over-u : (a : ℤ) → cellAt x y ≡ moved a (pos 0) (cellAt u v) → (agree x (u +ℤ a) ≡ true) × (agree v y ≡ true)
   over-u a e =
@@ -90,16 +74,16 @@ module _ (u v x y : ℤ) where
       (agree-same u x (sym (f ∙ +ℤ-idr u)), agree-same y (v +ℤ b) g)
 
   in-u-is : differByOne u x ≡ true → agree v y ≡ true → shareEdge (cellAt u v) (cellAt x y) ≡ true
-  in-u-is e f = left-or (differByOne u x && agree v y) (agree u x && differByOne v y) (and-both (differByOne u x) (agree v y) e f)
+  in-u-is e f = or-left (differByOne u x && agree v y) (agree u x && differByOne v y) (and-both (differByOne u x) (agree v y) e f)
 
   in-v-is : agree u x ≡ true → differByOne v y ≡ true → shareEdge (cellAt u v) (cellAt x y) ≡ true
-  in-v-is e f = right-or (differByOne u x && agree v y) (agree u x && differByOne v y) (and-both (agree u x) (differByOne v y) e f)
+  in-v-is e f = or-right (differByOne u x && agree v y) (agree u x && differByOne v y) (and-both (agree u x) (differByOne v y) e f)
 
   of-side : (i : ℕ) → i < 4 → Over (side i) → shareEdge (cellAt u v) (cellAt x y) ≡ true
-  of-side zero h e = let w = over-u (negsuc 0) e in in-u-is (left-or (agree x (u -ℤ pos 1)) (agree x (u +ℤ pos 1)) (w .0)) (w .1)
-  of-side (suc zero) h e = let w = over-u (pos 1) e in in-u-is (right-or (agree x (u -ℤ pos 1)) (agree x (u +ℤ pos 1)) (w .0)) (w .1)
-  of-side (suc (suc zero)) h e = let w = over-v (negsuc 0) e in in-v-is (w .0) (left-or (agree y (v -ℤ pos 1)) (agree y (v +ℤ pos 1)) (w .1))
-  of-side (suc (suc (suc zero))) h e = let w = over-v (pos 1) e in in-v-is (w .0) (right-or (agree y (v -ℤ pos 1)) (agree y (v +ℤ pos 1)) (w .1))
+  of-side zero h e = let w = over-u (negsuc 0) e in in-u-is (or-left (agree x (u -ℤ pos 1)) (agree x (u +ℤ pos 1)) (w .0)) (w .1)
+  of-side (suc zero) h e = let w = over-u (pos 1) e in in-u-is (or-right (agree x (u -ℤ pos 1)) (agree x (u +ℤ pos 1)) (w .0)) (w .1)
+  of-side (suc (suc zero)) h e = let w = over-v (negsuc 0) e in in-v-is (w .0) (or-left (agree y (v -ℤ pos 1)) (agree y (v +ℤ pos 1)) (w .1))
+  of-side (suc (suc (suc zero))) h e = let w = over-v (pos 1) e in in-v-is (w .0) (or-right (agree y (v -ℤ pos 1)) (agree y (v +ℤ pos 1)) (w .1))
   of-side (suc (suc (suc (suc i)))) h e = absurd (omega arith)
 
 module _ (ps : List Point) (o : CellOrder ps) where

@@ -1,6 +1,6 @@
 -- The marks that one line sets, those of all lines together, and the counts of an index from the marks of its ranks. Assumes nothing.
 use mathlib.Core.Path.{_≡_, refl, sym, ap, _∙_}
-use mathlib.Core.Bool.{Bool, true, false, cond, _&&_, _||_, false≢true, true≢false}
+use mathlib.Core.Bool.{Bool, true, false, cond, _&&_}
 use mathlib.Core.List.{List, [], _∷_}
 use Prim.Native.Nat.{ℕ, zero, suc, _+_, _≤_, _<_}
 use Prim.{Dec, yes, no}
@@ -9,12 +9,11 @@ use native.Mathlib.Omega.{arith}
 use borrow.Author.Tests.{eq-eqb, ne-eqb, eqb-true, lt-ltb, le-ltb, le-leb, lt-leb}
 use lib.Dec.{eqb, ltb, leb}
 use lib.ListN.{length, getD, set, replicate, length-replicate, List·getD-eq-default}
-use Rattle.folds.specs.Below.{fold, fold-none, fold-more, some, some-one, some-no, some-ext, tally, tally-ext, tally-none, and-under, and-false, and-true}
+use Rattle.folds.specs.Below.{fold, some, some-one, some-no, some-ext, tally, tally-ext, and-under, and-false, and-true}
 use Rattle.folds.specs.Lists.{over, over-listed, gather}
-use Rattle.folds.specs.Marked.{bit, Marked, marked-none, marked-one, marked-as, marked-then, marked-more, marked-column}
+use Rattle.folds.specs.Marked.{bit, Marked, marked-none, marked-one, marked-as, marked-then, marked-more, marked-column, bit-is}
 use Rattle.folds.specs.Column.{column, column-at, column-ext, filled, replicate-at}
 use Rattle.folds.specs.Scattered.{counts, Scattered, oneMore, fold-tally}
-use Rattle.view.specs.View.{maxPoints}
 use Rattle.lines.specs.Fit.{fitOf}
 use Rattle.lines.specs.declared.Line.{Line}
 use Rattle.lines.specs.Flags.{LineRule, isFar, flaggedBy, isOn, isFlagged, flagCount}
@@ -123,11 +122,7 @@ counted byIdx f size n m = counts (λ (k : ℕ). getD byIdx k 0) (isCounted n by
 counted-tally : (byIdx : List ℕ) (f : ℕ → Bool) (size n m : ℕ) → m < n → tally (counted byIdx f size n m) n ≡ tally (counts (λ (k : ℕ). getD byIdx k 0) f m) n
 counted-tally byIdx f size n m h =
     tally-ext (counted byIdx f size n m) (counts (λ (k : ℕ). getD byIdx k 0) f m) n
-    (λ k l. and-under (eqb (getD byIdx k 0) m) (λ e. rw (eqb-true (getD byIdx k 0) m e, lt-ltb m n h, column-at size 0 n (λ (k : ℕ). bit (f k)) k l) (is-set (f k))))
-  where
-    is-set : (b : Bool) → eqb (bit b) 1 ≡ b
-    is-set true = refl
-    is-set false = refl
+    (λ k l. and-under (eqb (getD byIdx k 0) m) (λ e. rw (eqb-true (getD byIdx k 0) m e, lt-ltb m n h, column-at size 0 n (λ (k : ℕ). bit (f k)) k l) (bit-is (f k))))
 
 never : (n : ℕ) → tally (λ (k : ℕ). false) n ≡ 0
 unfolding tally

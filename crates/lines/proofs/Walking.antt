@@ -1,33 +1,20 @@
 -- The chain of each line, as it is made from the last rank down and walked from the first rank up. Assumes nothing.
-use mathlib.Core.Path.{_≡_, refl, sym, ap, _∙_}
-use mathlib.Core.Bool.{Bool, true, false, cond}
+use mathlib.Core.Path.{_≡_, sym, ap, _∙_}
+use mathlib.Core.Bool.{Bool, false}
 use mathlib.Core.List.{List}
 use Prim.Native.Nat.{ℕ, zero, suc, _+_, _-_, _≤_, _<_}
 use Prim.{Dec, yes, no}
 use native.Mathlib.Decide.{ℕ-discrete}
 use native.Mathlib.Omega.{arith}
 use borrow.Author.Tests.{eq-eqb, ne-eqb, eqb-true}
-use lib.ListN.{length, getD, set, length-set, replicate, length-replicate}
+use lib.ListN.{getD, set, length-set, replicate, length-replicate}
 use lib.Seq.{getD-set-same, getD-set-other}
-use Rattle.folds.specs.Below.{first, firstIn, first-more, first-end, first-le, first-before}
+use Rattle.folds.specs.Below.{first, first-more, first-end, first-le, first-before, first-from}
 use Rattle.folds.specs.Lists.{Gathered, gathered-skip, getD-any}
 use Rattle.folds.specs.Column.{replicate-at}
 use Rattle.view.specs.View.{maxPoints}
 use Rattle.lines.specs.Flags.{isOn}
 use Rattle.lines.specs.Lines.{lineAt, Chained, Onward, Linked}
-
-firstIn-from : (p : ℕ → Bool) (m i : ℕ) → i ≤ firstIn p m i
-unfolding firstIn
-firstIn-from p zero i = omega arith
-firstIn-from p (suc m) i = go (p i) (firstIn-from p m (i + 1))
-  where
-    go : (b : Bool) → i + 1 ≤ firstIn p m (i + 1) → i ≤ cond b i (firstIn p m (i + 1))
-    go true h = omega arith
-    go false h = omega arith
-
-pub first-from : (p : ℕ → Bool) (i n : ℕ) → i ≤ first p i n
-unfolding first
-first-from p i n = firstIn-from p (n - i) i
 
 module _ (n : ℕ) (line : List ℕ) where
   -- no rank is chained yet

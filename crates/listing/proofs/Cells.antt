@@ -1,16 +1,15 @@
 -- How the code prints a cell number, and that the cell numbers of a listing are the point's own. Assumes nothing.
-use mathlib.Core.Path.{_≡_, refl, sym, ap, _∙_}
+use mathlib.Core.Path.{_≡_, refl, ap}
 use mathlib.Core.Bool.{Bool, true, false}
 use mathlib.Core.List.{_++_}
-use Prim.Native.Nat.{ℕ, suc, _+_, _-_, _*_, _/_, _%_, _^_, _≤_, _<_}
+use Prim.Native.Nat.{ℕ, suc, _+_, _-_, _/_, _%_, _^_, _≤_, _<_}
 use native.Mathlib.Omega.{arith}
-use borrow.Author.Tests.{lt-ltb, le-ltb, ltb-true, ltb-false, leb-true}
-use lib.Dec.{ltb, leb}
+use borrow.Author.Tests.{lt-ltb, le-ltb, ltb-true, ltb-false}
+use lib.Dec.{ltb}
 use lib.IntN.{pos, negsuc, _-ℤ_}
 use mir.Val.{sel}
-use Rattle.folds.specs.Below.{and-left, and-right}
 use Rattle.cells.specs.Points.{Point, biased, keyOf}
-use Rattle.cells.specs.Cell.{signed, within, cellOf, InRange, range-is}
+use Rattle.cells.specs.Cell.{signed, within, cellOf, InRange, biased-range}
 use Rattle.text.specs.Text.{bytes, decimal, whole}
 use Rattle.listing.specs.Listing.{uOf, vOf}
 
@@ -23,10 +22,6 @@ pub whole-from : (b : ℕ) → 8003 ≤ b → whole (pos b -ℤ pos 8003) ≡ de
 unfolding whole
 whole-from b h = rw (le-ltb b 8003 h)
 
--- a coordinate in range lies 3 to 16,003 with 8,003 added
-bounds : (b : ℕ) → b < 2 ^ 32 → within (signed b) ≡ true → (3 ≤ biased b) × (biased b ≤ 16003)
-bounds b h t = let r = sym (range-is b h) ∙ t in (leb-true 3 (biased b) (and-left (leb 3 (biased b)) (leb (biased b) 16003) r), leb-true (biased b) 16003 (and-right (leb 3 (biased b)) (leb (biased b) 16003) r))
-
 back : (b : ℕ) → b < 2 ^ 32 → within (signed b) ≡ true → pos (biased b) -ℤ pos 8003 ≡ signed b
 back b h t = go (ltb b (2 ^ 31)) refl
   where
@@ -36,12 +31,12 @@ back b h t = go (ltb b (2 ^ 31)) refl
         rw (le-ltb (biased b) 8003 (omega arith)) (ap pos (omega arith))
     go false e =
         let l = ltb-false b (2 ^ 31) e in
-        let r = bounds b h t in
+        let r = biased-range b h t in
         rw (lt-ltb (biased b) 8003 (omega arith)) (ap negsuc (omega arith))
 
 -- the cell in the key of a point in range
 pub prints-u : (p : Point) → InRange p → uOf (keyOf p) ≡ cellOf p .u
-prints-u p r = let v = bounds (p .v) (r .fits-v) (r .v) in let e : keyOf p / 16384 ≡ biased (p .u) = omega arith in rw e (back (p .u) (r .fits-u) (r .u))
+prints-u p r = let v = biased-range (p .v) (r .fits-v) (r .v) in let e : keyOf p / 16384 ≡ biased (p .u) = omega arith in rw e (back (p .u) (r .fits-u) (r .u))
 
 pub prints-v : (p : Point) → InRange p → vOf (keyOf p) ≡ cellOf p .v
-prints-v p r = let v = bounds (p .v) (r .fits-v) (r .v) in let e : keyOf p % 16384 ≡ biased (p .v) = omega arith in rw e (back (p .v) (r .fits-v) (r .v))
+prints-v p r = let v = biased-range (p .v) (r .fits-v) (r .v) in let e : keyOf p % 16384 ≡ biased (p .v) = omega arith in rw e (back (p .v) (r .fits-v) (r .v))

@@ -1,8 +1,8 @@
 -- What a base is, and the residual that it gives. Assumes nothing.
-use mathlib.Core.Path.{_≡_, refl, sym, ap}
-use mathlib.Core.Bool.{Bool, true, false, not, cond, _&&_}
+use mathlib.Core.Path.{_≡_}
+use mathlib.Core.Bool.{Bool, true, false, not, _&&_}
 use mathlib.Core.List.{List, []}
-use Prim.Native.Nat.{ℕ, zero, suc, _+_, _-_, _*_, _≤_, _<_}
+use Prim.Native.Nat.{ℕ, _+_, _*_, _≤_, _<_}
 use Prim.{Dec, yes, no}
 use native.Mathlib.Decide.{decLt}
 use native.Mathlib.Omega.{arith}
@@ -10,7 +10,7 @@ use lib.Dec.{ltb}
 use lib.ListN.{getD}
 use lib.Ieee.{Float}
 use borrow.Author.Tests.{ltb-true, lt-ltb, le-ltb, not-true}
-use Rattle.folds.specs.Below.{firstIn, first, first-before, first-holds, and-left, and-right}
+use Rattle.folds.specs.Below.{first, first-before, first-holds, and-left, and-right, first-from}
 use Rattle.view.specs.View.{View, viewAt}
 use Rattle.local_h.specs.declared.Base.{Base}
 use Rattle.local_h.specs.declared.Residual.the-variants.{NoFit}
@@ -18,20 +18,6 @@ use Rattle.local_h.specs.Order.{offsetAt, sortKey}
 use Rattle.local_h.specs.Base.{memberAt, onLine, isOther, isFourth, baseOf}
 use Rattle.local_h.specs.Residual.{residualOf, residualAt}
 use Rattle.local_h.proofs.Ordered.{offsets-rise}
-
-firstIn-from : (p : ℕ → Bool) (m i : ℕ) → i ≤ firstIn p m i
-unfolding firstIn
-firstIn-from p zero i = omega arith
-firstIn-from p (suc m) i = go (p i) (firstIn-from p m (i + 1))
-  where
-    go : (b : Bool) → i + 1 ≤ firstIn p m (i + 1) → i ≤ cond b i (firstIn p m (i + 1))
-    go true h = omega arith
-    go false h = omega arith
-
--- the first from i on is not before i
-first-from : (p : ℕ → Bool) (i n : ℕ) → i ≤ first p i n
-unfolding first
-first-from p i n = firstIn-from p (n - i) i
 
 -- Four places of the order, rising, with points of other indices that are not all on one lattice line. Of the places before the third only
 -- the first and the second have such points, and of those between the third and the fourth none would have served.

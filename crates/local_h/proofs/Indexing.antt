@@ -1,24 +1,23 @@
 -- From the marks of ranks to the columns of their indices. Assumes nothing.
-use mathlib.Core.Bool.{Bool, true, false, cond, _&&_, true≢false, false≢true}
-use mathlib.Core.List.{List, []}
+use mathlib.Core.Bool.{Bool, true, false, cond, _&&_}
+use mathlib.Core.List.{List}
 use mathlib.Core.Path.{_≡_, refl, sym, ap, _∙_}
-use Prim.Native.Nat.{ℕ, zero, suc, _+_, _≤_, _<_}
+use Prim.Native.Nat.{ℕ, zero, suc, _<_}
 use native.Mathlib.Omega.{arith}
 use lib.Dec.{eqb, ltb}
 use lib.ListN.{getD, replicate, length-replicate, getD-replicate}
 use lib.Ieee.{Float, nan}
 use borrow.Author.Tests.{lt-ltb, le-ltb, ltb-true}
 use Rattle.folds.specs.Arith.{zeroF}
-use Rattle.folds.specs.Below.{fold, turn, some, last, last-ext, last-holds, last-miss, some-fails, and-left}
+use Rattle.folds.specs.Below.{fold, turn, some, last, last-ext, last-holds, last-miss, some-fails, and-left, and-swap}
 use Rattle.folds.specs.Column.{column, column-at, column-ext}
-use Rattle.folds.specs.Marked.{bit}
+use Rattle.folds.specs.Marked.{bit, bit-is}
 use Rattle.folds.specs.Scattered.{Scattered, counts}
-use Rattle.view.specs.View.{View, viewAt, maxPoints, alike, indexHas}
-use Rattle.local_h.specs.declared.Residual.{Residual}
-use Rattle.local_h.specs.declared.Residual.the-variants.{Value, NoFit}
+use Rattle.view.specs.View.{View, maxPoints, alike, indexHas}
+use Rattle.local_h.specs.declared.Residual.the-variants.{NoFit}
 use Rattle.local_h.specs.declared.Residuals.{Residuals}
 use Rattle.local_h.specs.Residual.{residualAt}
-use Rattle.local_h.specs.ByIndex.{hasValue, valueOf, overAt, highAt, cellColumns, lastFit, indexResidual, indexColumns, isMarked, lastOf, valueAt}
+use Rattle.local_h.specs.ByIndex.{hasValue, valueOf, overAt, highAt, cellColumns, lastFit, indexResidual, indexColumns, lastOf, valueAt}
 
 -- of ranks stored over each other the last stays
 pub fold-rank : (p : ℕ → Bool) (d n : ℕ) → fold (turn p (λ k x. k)) d n ≡ last p d n
@@ -39,22 +38,12 @@ last-some p n = go (some p n) refl
     go true e = lt-ltb (last p n n) n (last-holds p n n e .0)
     go false e = rw (last-miss p n n (some-fails p n e)) (le-ltb n n (omega arith))
 
-bit-one : (b : Bool) → eqb (bit b) 1 ≡ b
-bit-one true = refl
-bit-one false = refl
-
-and-swap : (a b : Bool) → a && b ≡ b && a
-and-swap true true = refl
-and-swap true false = refl
-and-swap false true = refl
-and-swap false false = refl
-
 module _ (w : View) (byIdx : List ℕ) (same : (k : ℕ) → w .byIdx k ≡ getD byIdx k 0) where
   -- the last rank with rank k's index and a mark, where the marks are a column
   last-of : (t : ℕ → Bool) (k : ℕ) → lastOf (column maxPoints 0 (w .count) (λ (j : ℕ). bit (t j))) byIdx (w .count) (getD byIdx k 0) ≡ last (λ (j : ℕ). t j && alike w j k) (w .count) (w .count)
   last-of t k =
       last-ext _ (λ (j : ℕ). t j && alike w j k) (w .count) (w .count)
-      (λ j l. rw (column-at maxPoints 0 (w .count) (λ (j : ℕ). bit (t j)) j l, bit-one (t j), same j, same k) (and-swap (eqb (getD byIdx j 0) (getD byIdx k 0)) (t j)))
+      (λ j l. rw (column-at maxPoints 0 (w .count) (λ (j : ℕ). bit (t j)) j l, bit-is (t j), same j, same k) (and-swap (eqb (getD byIdx j 0) (getD byIdx k 0)) (t j)))
 
   -- that rank for each rank
   abbrev pub ranksOf : (ℕ → Bool) → List ℕ

@@ -1,6 +1,6 @@
 -- A place below n that is hit: the guard that it is below n tells nothing where m is. Assumes nothing.
-use mathlib.Core.Path.{_≡_, refl, ap, _∙_}
-use mathlib.Core.Bool.{Bool, true, false, _&&_}
+use mathlib.Core.Path.{_≡_, ap, _∙_}
+use mathlib.Core.Bool.{Bool, false, _&&_}
 use mathlib.Core.List.{List}
 use Prim.Native.Nat.{ℕ, _≤_, _<_}
 use native.Mathlib.Omega.{arith}
@@ -11,7 +11,7 @@ use borrow.Author.Tests.{lt-ltb, le-ltb, ne-eqb}
 use lib.ListN.{getD, replicate}
 use Rattle.folds.specs.Below.{some, some-ext, some-no, and-false}
 use Rattle.folds.specs.Column.{column, column-ext, column-at}
-use Rattle.folds.specs.Marked.{bit, Marked, marked-column}
+use Rattle.folds.specs.Marked.{bit, bit-is, Marked, marked-column}
 use Rattle.marks.specs.Arrays.{isSet, setFor}
 
 pub guard : (a m n : ℕ) → m < n → ltb a n && eqb a m ≡ eqb a m
@@ -34,13 +34,9 @@ each-as-column hits tests size n h none same r =
     (λ m l. some-no (λ (k : ℕ). hits k m) n (λ k g. none k m g l))
     (λ m l. some-ext (λ (k : ℕ). hits k m) (λ (k : ℕ). tests k m) n (λ k g. same k m g l)) r
 
-bit-set : (b : Bool) → eqb (bit b) 1 ≡ b
-bit-set true = refl
-bit-set false = refl
-
 -- a column of marks is read as its test
 pub set-is : (size n : ℕ) (t : ℕ → Bool) (mark : List ℕ) → mark ≡ column size 0 n (λ (k : ℕ). bit (t k)) → (k : ℕ) → k < n → isSet mark k ≡ t k
-set-is size n t mark e k h = rw (e, column-at size 0 n (λ (k : ℕ). bit (t k)) k h) (bit-set (t k))
+set-is size n t mark e k h = rw (e, column-at size 0 n (λ (k : ℕ). bit (t k)) k h) (bit-is (t k))
 
 -- and what is gathered of it by key is what the test says of the key
 pub set-for : (size n : ℕ) (t : ℕ → Bool) (keys mark : List ℕ) → mark ≡ column size 0 n (λ (k : ℕ). bit (t k)) → (m : ℕ) → setFor keys mark n m ≡ some (λ (k : ℕ). t k && eqb (getD keys k 0) m) n

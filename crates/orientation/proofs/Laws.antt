@@ -1,12 +1,12 @@
 -- The members of a side and the marks, from their columns. Assumes nothing.
-use mathlib.Core.Path.{_≡_, sym, ap, _∙_}
-use mathlib.Core.Bool.{Bool, true, false, _&&_, _||_}
+use mathlib.Core.Path.{_≡_, ap, _∙_}
+use mathlib.Core.Bool.{_&&_, _||_}
 use mathlib.Core.List.{List}
 use Prim.Native.Nat.{ℕ, _≤_, _<_}
 use lib.Dec.{eqb}
 use lib.ListN.{getD, replicate}
 use lib.Ieee.{Float}
-use Rattle.folds.specs.Below.{some, some-ext, tally, tally-ext, and-false}
+use Rattle.folds.specs.Below.{some, some-ext, tally, tally-ext, and-false, and-swap}
 use Rattle.folds.specs.Column.{column, column-at, column-ext}
 use Rattle.folds.specs.Marked.{bit, Marked}
 use Rattle.view.specs.View.{View, maxPoints, viewAt, rankAt, nextU, nextV, indexHas}
@@ -38,15 +38,11 @@ module _ (n : ℕ) (near row col byIdx : List ℕ) (xs ys : List Float) where
     unfolding votesFor
     votes-are s = tally-ext (λ (k : ℕ). eqb (getD vote k 0) s) (λ (k : ℕ). eqb (voteAt w k) s) n (λ k h. rw (vote-is k h))
 
-    swap : (a b : Bool) → a && b ≡ b && a
-    swap true b = sym (Rattle.folds.specs.Below.and-true b)
-    swap false b = sym (and-false b)
-
     members-are : (s m : ℕ) → some (λ (k : ℕ). votersAt n near vote s k m) n ≡ member w s m
     unfolding member ofVote
     members-are s m =
         some-ext (λ (k : ℕ). votersAt n near vote s k m) (λ (k : ℕ). ofVote w k m && eqb (voteAt w k) s) n
-        (λ k h. rw (vote-is k h) (swap (eqb (voteAt w k) s) ((eqb k m || eqb (rankAt w k nextU) m) || eqb (rankAt w k nextV) m)))
+        (λ k h. rw (vote-is k h) (and-swap (eqb (voteAt w k) s) ((eqb k m || eqb (rankAt w k nextU) m) || eqb (rankAt w k nextV) m)))
 
     -- what stands by index of the members of a side
     side-is : (s : ℕ) (part index : List ℕ) → part ≡ column maxPoints 0 n (λ (m : ℕ). bit (some (λ (k : ℕ). votersAt n near vote s k m) n))

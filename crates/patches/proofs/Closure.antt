@@ -10,21 +10,10 @@ use native.Mathlib.Nat.{eq-or-lt-of-le}
 use native.Mathlib.Omega.{arith}
 use borrow.Author.Tests.{eq-eqb, eqb-true}
 use lib.Dec.{eqb}
-use Rattle.folds.specs.Below.{and-left, and-right, and-both, not-true, first, first-hit, first-miss, first-holds, first-before}
+use Rattle.folds.specs.Below.{or-left, or-right, or-cases, and-left, and-right, and-both, not-true, first, first-hit, first-miss, first-holds, first-before}
 use Rattle.folds.specs.Lists.{listOf, list-at}
 use Rattle.patches.specs.Patches.{test, square, via}
 use Rattle.patches.specs.Reach.{Reach, here, step, Labelled}
-
-or-left : (a b : Bool) → a ≡ true → a || b ≡ true
-or-left a b e = rw e
-
-or-right : (a b : Bool) → b ≡ true → a || b ≡ true
-or-right true b e = refl
-or-right false b e = e
-
-or-cases : (a b : Bool) → a || b ≡ true → (a ≡ true) ⊎ (b ≡ true)
-or-cases true b e = inl refl
-or-cases false b e = inr e
 
 pub reach-trans : {alive : ℕ → Bool} {link : ℕ → ℕ → Bool} {a b c : ℕ} → Reach alive link a b → Reach alive link b c → Reach alive link a c
 reach-trans r (here e) = r

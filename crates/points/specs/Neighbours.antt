@@ -1,6 +1,6 @@
 -- In a list in the order of a key, two elements with one key clash somewhere just where two neighbours do. Assumes nothing.
 use mathlib.Core.Path.{_≡_, refl, sym, _∙_}
-use mathlib.Core.Bool.{Bool, true, false, not, _&&_, true≢false}
+use mathlib.Core.Bool.{Bool, true, false, not, _&&_}
 use Prim.{Dec, yes, no}
 use Prim.Native.Nat.{ℕ, zero, suc, _+_, _-_, _≤_, _<_}
 use native.Mathlib.Decide.{ℕ-discrete}
@@ -10,7 +10,7 @@ use mathlib.Core.Logic.{_⊎_, inl, inr}
 use lib.Dec.{eqb, ltb}
 use borrow.Author.Tests.{eq-eqb, ne-eqb}
 use Rattle.folds.specs.Among.{pairIn, pair-yes, pair-no, pair-order}
-use Rattle.folds.specs.Below.{some, some-at, some-fails}
+use Rattle.folds.specs.Below.{some, some-at, some-fails, not-false}
 use Rattle.folds.specs.Lists.{listOf}
 use Rattle.sort.specs.Sorted.{sort-perm}
 use Rattle.sort.specs.Packed.{placed, placed-key, placed-rises, things-in-order}
@@ -35,11 +35,7 @@ module _ {A : Type 0} (key : A → ℕ) (same : A → A → Bool) where
       go (no f) = rw (ne-eqb (key p) (key q) f)
 
   then-same : (p q : A) → clash p q ≡ false → key p ≡ key q → same p q ≡ true
-  then-same p q e k = go (same p q) (rw (eq-eqb (key p) (key q) k) at e)
-    where
-      go : (b : Bool) → not b ≡ false → b ≡ true
-      go true h = refl
-      go false h = absurd (true≢false h)
+  then-same p q e k = not-false (same p q) (rw (eq-eqb (key p) (key q) k) at e)
 
   module _ (through : (p q r : A) → same p q ≡ true → same q r ≡ true → same p r ≡ true) where
     module _ (f : ℕ → A) (n : ℕ) (rises : (i j : ℕ) → i ≤ j → j < n → key (f i) ≤ key (f j)) where

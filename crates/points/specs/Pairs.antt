@@ -4,14 +4,14 @@ use mathlib.Core.Bool.{Bool, true, false, not, _&&_, _||_, true≢false}
 use mathlib.Core.List.{List}
 use Prim.Native.Nat.{ℕ, _+_, _-_, _*_, _^_, _≤_, _<_}
 use native.Mathlib.Omega.{arith}
-use lib.Dec.{eqb, leb}
+use lib.Dec.{eqb}
 use lib.ListN.{getD}
-use borrow.Author.Tests.{eqb-true, eq-eqb, leb-true}
+use borrow.Author.Tests.{eqb-true, eq-eqb}
 use Rattle.folds.specs.Among.{anyIn, pairIn, any-list, pair-ext}
 use Rattle.folds.specs.Below.{some, some-ext, some-fails, and-left, and-right, and-both, both-ways}
 use Rattle.view.specs.View.{maxPoints}
 use Rattle.cells.specs.Points.{Point, biased, keyOf}
-use Rattle.cells.specs.Cell.{signed, within, InRange, range-is}
+use Rattle.cells.specs.Cell.{signed, within, InRange, biased-range}
 use Rattle.sheet_file.specs.Bytes.{Bytes, le32-small}
 use Rattle.sort.specs.Packed.{placed}
 use Rattle.points.specs.Records.{recordOf, pointsIn}
@@ -54,16 +54,11 @@ pub record Ranged (p : Point) : Type 0 where
   pub u : (3 ≤ biased (p .u)) × (biased (p .u) ≤ 16003)
   pub v : (3 ≤ biased (p .v)) × (biased (p .v) ≤ 16003)
 
-one-range : (b : ℕ) → b < 2 ^ 32 → within (signed b) ≡ true → (3 ≤ biased b) × (biased b ≤ 16003)
-one-range b h e =
-    let t = sym (range-is b h) ∙ e in
-    (leb-true 3 (biased b) (and-left (leb 3 (biased b)) (leb (biased b) 16003) t), leb-true (biased b) 16003 (and-right (leb 3 (biased b)) (leb (biased b) 16003) t))
-
 pub ranged : (p : Point) → p .u < 2 ^ 32 → p .v < 2 ^ 32 → offRange p ≡ false → Ranged p
 ranged p hu hv e = go (within (signed (p .u))) (within (signed (p .v))) refl refl e
   where
     go : (a b : Bool) → within (signed (p .u)) ≡ a → within (signed (p .v)) ≡ b → not a || not b ≡ false → Ranged p
-    go true true f g h = record { cell = record { fits-u = hu; fits-v = hv; u = f; v = g }; u = one-range (p .u) hu f; v = one-range (p .v) hv g }
+    go true true f g h = record { cell = record { fits-u = hu; fits-v = hv; u = f; v = g }; u = biased-range (p .u) hu f; v = biased-range (p .v) hv g }
     go true false f g h = absurd (true≢false h)
     go false b f g h = absurd (true≢false h)
 

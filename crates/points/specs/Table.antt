@@ -1,12 +1,13 @@
 -- The table of the points in cell order: a number, and one column a field. Assumes nothing.
-use mathlib.Core.Path.{_≡_, refl, sym, ap, _∙_}
-use mathlib.Core.Bool.{Bool, true, false, _||_, true≢false}
+use mathlib.Core.Path.{_≡_, sym, ap, _∙_}
+use mathlib.Core.Bool.{true, false}
 use mathlib.Core.List.{List, []}
 use Prim.Native.Nat.{ℕ, suc, _+_, _*_, _/_, _%_, _≤_, _<_}
 use native.Mathlib.Omega.{arith}
 use lib.ListN.{length, getD}
 use lib.Ieee.{nan}
 use borrow.Author.Tests.{ne-eqb}
+use Rattle.folds.specs.Below.{or-none}
 use Rattle.folds.specs.Among.{anyIn, pairIn}
 use Rattle.folds.specs.Arith.{f32}
 use Rattle.folds.specs.Column.{column, column-ext}
@@ -78,10 +79,6 @@ module _ (s : List ℕ) (at n : ℕ) (few : n ≤ maxPoints) where
   pub y-column : column maxPoints nan n (λ (k : ℕ). floatAt s (at + 20 * (getD (rowsOf s at n false) k 0 % 4096) + 16)) ≡ ysOf sortedPoints
   unfolding ysOf
   y-column = field-column nan (λ (p : Point). f32 (p .y))
-
-or-none : (a b : Bool) → a || b ≡ false → (a ≡ false) × (b ≡ false)
-or-none true b h = absurd (true≢false h)
-or-none false b h = (refl, h)
 
 module _ (s : List ℕ) (at n : ℕ) (rows : List ℕ) (a : Accepted s at n rows) where
   pub key-fits : (k : ℕ) → k < n → getD rows k 0 / 4096 < 0x1_0000_0000

@@ -1,9 +1,10 @@
 -- What follows where no float of tag 1 or 2 is outside the limit. Assumes nothing.
-use mathlib.Core.Path.{_≡_, refl}
-use mathlib.Core.Bool.{Bool, true, false, _&&_, _||_, true≢false}
+use mathlib.Core.Path.{_≡_}
+use mathlib.Core.Bool.{true, false, _&&_}
 use mathlib.Core.List.{List, [], _∷_}
 use Prim.Native.Nat.{ℕ}
 use lib.Ieee.{Float}
+use Rattle.folds.specs.Below.{or-none}
 use Rattle.folds.specs.Among.{anyIn, none-in}
 use Rattle.folds.specs.Lists.{All}
 use Rattle.sheet_file.specs.Limit.{outside}
@@ -14,10 +15,6 @@ use Rattle.sheet_file.specs.declared.Layout.{Layout}
 -- all are finite and at most 16,384 in magnitude
 abbrev pub Inside : List Float → Type 0
 Inside l = All (λ (x : Float). outside x ≡ false) l
-
-or-none : (a b : Bool) → a || b ≡ false → (a ≡ false) × (b ≡ false)
-or-none true b h = absurd (true≢false h)
-or-none false b h = (refl, h)
 
 module _ (s : List ℕ) (f : Layout) (h : badFloat s f ≡ false) where
   parts : (anyIn outside (settingsFloats s (f .full)) ≡ false) × (f .gated && anyIn outside (gateFloats s (gateStart (f .full))) ≡ false)

@@ -1,13 +1,13 @@
 -- The stages of `validate`, one after the other: what each array that the code makes is. Assumes nothing.
 use mathlib.Core.Path.{_≡_, refl, sym, ap, _∙_}
-use mathlib.Core.Bool.{Bool, true, false, not, _||_}
-use mathlib.Core.List.{List, []}
-use Prim.Native.Nat.{ℕ, _≤_, _<_}
+use mathlib.Core.Bool.{Bool, not, _||_}
+use mathlib.Core.List.{List}
+use Prim.Native.Nat.{ℕ, _≤_}
 use lib.Dec.{eqb}
 use lib.ListN.{getD, replicate}
 use lib.Ieee.{Float, nan}
 use Rattle.folds.specs.Column.{column, column-at, column-ext, filled, replicate-at}
-use Rattle.folds.specs.Marked.{bit}
+use Rattle.folds.specs.Marked.{bit, bit-is}
 use Rattle.view.specs.View.{View, viewAt, maxPoints, degreeAt, squareSides}
 use Rattle.edges.specs.Edges.{edgeAt}
 use Rattle.sheet_file.specs.declared.Settings.{Settings}
@@ -24,7 +24,7 @@ use Rattle.edge_shape.specs.Figures.{figuresAt, noFigures, reasonNumber, sideAt
 use Rattle.edge_shape.specs.Given.{seen, Lengths}
 use Rattle.boxes.specs.Boxes.{boundaryOf}
 use Rattle.edge_shape.specs.declared.Figures.{Figures}
-use Rattle.validate.specs.Validate.{keyAt, stepsOf, scalesOf, flagsOf, residualsOf, deviationsOf, evidenceOf, figuresBy, figuresOf, boundaryBy, boundaryIn, validateMark, validateMarks}
+use Rattle.validate.specs.Validate.{stepsOf, scalesOf, flagsOf, residualsOf, deviationsOf, evidenceOf, figuresBy, figuresOf, boundaryBy, boundaryIn, validateMark, validateMarks}
 
 module _ (s : Settings) (w : View) (keys : List ℕ) where
   pub steps-are : {l : List Float} → l ≡ column maxPoints nan (w .count) (stepAt w (s .«use_step_aware»)) → l ≡ stepsOf s w keys
@@ -65,10 +65,6 @@ module _ (s : Settings) (w : View) (keys : List ℕ) where
       ∙ ap (λ (x : List ℕ). column maxPoints 0 (w .count) (λ (k : ℕ). bit (isMarked w (evidenceBy (flagsOf s w keys) (residualsOf s w keys .over) (residualsOf s w keys .high) x) (w .byIdx k)))) t
 
   -- with rule 5
-  bit-one : (b : Bool) → eqb (bit b) 1 ≡ b
-  bit-one true = refl
-  bit-one false = refl
-
   pub marks-are : {ruled l : List ℕ} {figures : List Figures} → ruled ≡ ruleMarks → figures ≡ figuresOf s w keys
       → l ≡ column maxPoints 0 (w .count) (λ (k : ℕ). bit (eqb (getD ruled k 0) 1 || not (eqb (reasonNumber (getD figures (w .byIdx k) noFigures .reason)) 0)))
       → l ≡ validateMarks s w keys
@@ -78,7 +74,7 @@ module _ (s : Settings) (w : View) (keys : List ℕ) where
       (λ k h.
       ap bit
       (ap (λ (t : Bool). t || not (eqb (reasonNumber (getD figures (w .byIdx k) noFigures .reason)) 0))
-      (ap (λ (x : List ℕ). eqb (getD x k 0) 1) p ∙ ap (λ (x : ℕ). eqb x 1) (column-at maxPoints 0 (w .count) (λ (k : ℕ). bit (isMarked w (evidenceOf s w keys) (w .byIdx k))) k h) ∙ bit-one (isMarked w (evidenceOf s w keys) (w .byIdx k)))
+      (ap (λ (x : List ℕ). eqb (getD x k 0) 1) p ∙ ap (λ (x : ℕ). eqb x 1) (column-at maxPoints 0 (w .count) (λ (k : ℕ). bit (isMarked w (evidenceOf s w keys) (w .byIdx k))) k h) ∙ bit-is (isMarked w (evidenceOf s w keys) (w .byIdx k)))
       ∙ ap (λ (x : List Figures). isMarked w (evidenceOf s w keys) (w .byIdx k) || not (eqb (reasonNumber (getD x (w .byIdx k) noFigures .reason)) 0)) q))
 
   pub figures-of : {l : List Figures} → l ≡ figuresBy (s .«edge_shape») w → l ≡ figuresOf s w keys

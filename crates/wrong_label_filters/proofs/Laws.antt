@@ -1,12 +1,13 @@
 -- The marks of the filters together, by index. Assumes nothing.
 use mathlib.Core.Path.{_≡_, refl, sym, ap, _∙_}
-use mathlib.Core.Bool.{Bool, true, false, _&&_, _||_}
+use mathlib.Core.Bool.{Bool, _&&_, _||_}
 use mathlib.Core.List.{List, []}
 use Prim.Native.Nat.{ℕ}
 use lib.Dec.{ltb}
 use borrow.Author.Tests.{lt-ltb, le-ltb}
 use lib.ListN.{getD, replicate}
 use lib.Ieee.{Float}
+use Rattle.folds.specs.Below.{or-right-first}
 use Rattle.folds.specs.Column.{column, column-ext}
 use Rattle.folds.specs.Marked.{bit, Marked, marked-then}
 use Rattle.view.specs.View.{View, maxPoints, viewAt, nextU, nextV, indexHas}
@@ -47,16 +48,11 @@ module _ (n : ℕ) (near row col byIdx : List ℕ) (xs ys : List Float) (cell : 
   abbrev all : ℕ → Bool
   all m = ((hits n near row col byIdx xs ys nextU u (r .edges-u) m || hits n near row col byIdx xs ys nextV v (r .edges-v) m) || (ltb m n && closeMark (placedView n [] xs ys) cell m)) || (ltb m n && frontierMark (viewAt n near row col [] xs ys) m)
 
-  or-assoc : (a b c d : Bool) → ((a || b) || c) || d ≡ a || (b || (c || d))
-  or-assoc true b c d = refl
-  or-assoc false true c d = refl
-  or-assoc false false c d = refl
-
   point-column : {b : List ℕ} → Marked all (replicate maxPoints 0) b → b ≡ column maxPoints 0 n (λ (m : ℕ). bit (wrongPoint w cell m))
   point-column k =
       marked-as-column all (wrongPoint w cell) maxPoints n (r .few)
       (λ m l. rw (marks-past n near row col byIdx xs ys nextU u (r .edges-u) m l, marks-past n near row col byIdx xs ys nextV v (r .edges-v) m l, le-ltb m n l))
-      (λ m l. rw (marks-are n near row col byIdx xs ys nextU u (r .edges-u) m, marks-are n near row col byIdx xs ys nextV v (r .edges-v) m, lt-ltb m n l, close-same m, ends-same m) (or-assoc (edgeMark w nextU m) (edgeMark w nextV m) (closeMark w cell m) (frontierMark w m) ∙ sym (point-is m))) k
+      (λ m l. rw (marks-are n near row col byIdx xs ys nextU u (r .edges-u) m, marks-are n near row col byIdx xs ys nextV v (r .edges-v) m, lt-ltb m n l, close-same m, ends-same m) (or-right-first (edgeMark w nextU m) (edgeMark w nextV m) (closeMark w cell m) (frontierMark w m) ∙ sym (point-is m))) k
 
   pub labels-are : {a b c d out : List ℕ} → Marked (hits n near row col byIdx xs ys nextU u (r .edges-u)) (replicate maxPoints 0) a → Marked (hits n near row col byIdx xs ys nextV v (r .edges-v)) a b
       → Marked (λ (m : ℕ). ltb m n && closeMark (placedView n [] xs ys) cell m) b c → Marked (λ (m : ℕ). ltb m n && frontierMark (viewAt n near row col [] xs ys) m) c d
