@@ -2,10 +2,13 @@
 
 mod angles;
 mod bench;
+mod clock;
 mod compare;
 mod floats;
 mod generate;
+mod guarded;
 mod library;
+mod load;
 mod mutants;
 mod properties;
 mod quick;
@@ -16,6 +19,7 @@ mod run_original;
 #[cfg(original_at_hand)]
 mod run_original;
 mod second;
+mod shapes;
 mod sheet;
 mod stars;
 mod text;
@@ -43,6 +47,9 @@ harness vectors FILE [--sheets N] [--seed S] [--most BYTES]
 harness floats FILE [--count N] [--seed S]
                                       a bundle of single f32 operations
 harness roots [--step N]              the machine's root against whole numbers
+harness load [--files N] [--seed S] [--heap] [--wrong K]
+                                      the static library under load, at guard pages or in heap blocks
+harness load faults                   whether the load notices deliberate faults
 harness bench [--runs N]              microseconds a sheet
 harness text to-file | from-file      lines of text to a sheet file and back
 ";
@@ -106,6 +113,14 @@ fn mutants(args: &[String]) -> bool {
     let shown = mutants::run(sheets, option(args, "--seed", 0), false);
     mutants::print(sheets, &shown);
     mutants::unseen(&shown) == 0
+}
+
+fn load(args: &[String]) -> bool {
+    let files = option(args, "--files", 20_000) as usize;
+    let heap = args.iter().any(|a| a == "--heap");
+    let wrong = option(args, "--wrong", u64::MAX);
+    let wrong = (wrong != u64::MAX).then_some(wrong as usize);
+    load::run(files, option(args, "--seed", 0), heap, wrong)
 }
 
 /// All floats against 30 degrees, or the floats that acos cannot tell from given cosines.
@@ -195,6 +210,8 @@ fn main() -> ExitCode {
             println!("{count} floats, {otherwise} with another root");
             holds = otherwise == 0;
         }
+        ["load", "faults"] => holds = load::faults(),
+        ["load", ..] => holds = load(&args),
         ["bench", ..] => bench::run(option(&args, "--runs", 200) as usize),
         ["text", "to-file"] => output(&to_file()),
         ["text", "from-file"] => match Sheet::from_file(&input()) {
