@@ -102,7 +102,10 @@ fn points(file: &[u8], count: usize) -> Vec<(i32, i32, u32)> {
             u32::from_le_bytes(four(p, 8)),
         )
     };
-    let mut points: Vec<_> = file[file.len() - 20 * count..].chunks(20).map(point).collect();
+    let mut points: Vec<_> = file[file.len() - 20 * count..]
+        .chunks(20)
+        .map(point)
+        .collect();
     points.sort();
     points
 }
@@ -151,7 +154,10 @@ fn main() -> ExitCode {
             println!("refused {number}: {}", REFUSALS[usize::from(number) - 1]);
             holds = false;
         }
-        Answer::Accepted { points: count, components } => {
+        Answer::Accepted {
+            points: count,
+            components,
+        } => {
             println!("points {count} components {components}");
             for (point, row) in points(&file, count).into_iter().zip(rows.chunks(ROW)) {
                 print_row(point, row);
@@ -163,7 +169,12 @@ fn main() -> ExitCode {
         // Five points in two patches; the last row alone is marked, by the component filter.
         let mut expected = vec![0; 5 * ROW];
         expected[4 * ROW] = 8;
-        if answer != (Answer::Accepted { points: 5, components: 2 }) || !rows.starts_with(&expected)
+        if answer
+            != (Answer::Accepted {
+                points: 5,
+                components: 2,
+            })
+            || !rows.starts_with(&expected)
         {
             println!("not the expected answer");
             holds = false;

@@ -5,7 +5,14 @@ use std::ffi::c_void;
 const PAGE: usize = 4096;
 
 extern "C" {
-    fn mmap(at: *mut c_void, length: usize, access: i32, flags: i32, fd: i32, from: i64) -> *mut c_void;
+    fn mmap(
+        at: *mut c_void,
+        length: usize,
+        access: i32,
+        flags: i32,
+        fd: i32,
+        from: i64,
+    ) -> *mut c_void;
     fn mprotect(at: *mut c_void, length: usize, access: i32) -> i32;
 }
 
@@ -25,7 +32,14 @@ impl Area {
         let size = size.div_ceil(PAGE) * PAGE;
         // Fresh pages of our own; those in the middle are opened.
         let first = unsafe {
-            let whole = mmap(std::ptr::null_mut(), size + 2 * PAGE, NONE, PRIVATE_AND_ANONYMOUS, -1, 0);
+            let whole = mmap(
+                std::ptr::null_mut(),
+                size + 2 * PAGE,
+                NONE,
+                PRIVATE_AND_ANONYMOUS,
+                -1,
+                0,
+            );
             assert!(whole as isize != -1, "no memory");
             let first = whole.cast::<u8>().add(PAGE);
             assert_eq!(mprotect(first.cast(), size, READ_AND_WRITE), 0, "no memory");
@@ -86,7 +100,14 @@ impl Stack {
     /// # Safety
     /// As the function's own; the stack must hold what it needs, or the process faults.
     #[cfg(target_arch = "x86_64")]
-    pub unsafe fn call(&mut self, f: Call, file: *const u8, file_len: usize, rows: *mut u8, rows_len: usize) -> u64 {
+    pub unsafe fn call(
+        &mut self,
+        f: Call,
+        file: *const u8,
+        file_len: usize,
+        rows: *mut u8,
+        rows_len: usize,
+    ) -> u64 {
         let top = self.area.at(self.area.size());
         let returned: u64;
         // The stack pointer is kept in r12, which a C function hands back as it found it.
@@ -110,7 +131,14 @@ impl Stack {
     }
 
     #[cfg(not(target_arch = "x86_64"))]
-    pub unsafe fn call(&mut self, f: Call, file: *const u8, file_len: usize, rows: *mut u8, rows_len: usize) -> u64 {
+    pub unsafe fn call(
+        &mut self,
+        f: Call,
+        file: *const u8,
+        file_len: usize,
+        rows: *mut u8,
+        rows_len: usize,
+    ) -> u64 {
         f(file, file_len, rows, rows_len)
     }
 
@@ -119,7 +147,9 @@ impl Stack {
     fn note(&mut self) {
         let clean = self.clean;
         let words = self.area.bytes()[..clean].chunks_exact(8);
-        let intact = words.take_while(|w| u64::from_le_bytes((*w).try_into().unwrap()) == PAINT).count();
+        let intact = words
+            .take_while(|w| u64::from_le_bytes((*w).try_into().unwrap()) == PAINT)
+            .count();
         self.clean = 8 * intact;
     }
 

@@ -32,9 +32,15 @@ pub fn call(file: &[u8], rows: &mut [u8]) -> Option<u64> {
 pub fn expected(answer: &Answer) -> (u64, &[u8]) {
     match answer {
         Answer::Refused(number) => (u64::from(*number), &[]),
-        Answer::Accepted { points, components, rows, .. } => {
-            ((1 << 32) + ((*points as u64) << 16) + *components as u64, rows)
-        }
+        Answer::Accepted {
+            points,
+            components,
+            rows,
+            ..
+        } => (
+            (1 << 32) + ((*points as u64) << 16) + *components as u64,
+            rows,
+        ),
     }
 }
 
@@ -44,15 +50,22 @@ const GUARD: usize = 64;
 /// The first place where the library differs from an answer: its number or counts, a row byte, or a
 /// byte after them that it changed.
 pub fn difference(file: &[u8], buffer: usize, answer: &Answer) -> Option<String> {
-    let whole: Vec<u8> = (0..buffer + 2 * GUARD).map(|k| (k * 7 + 165) as u8).collect();
+    let whole: Vec<u8> = (0..buffer + 2 * GUARD)
+        .map(|k| (k * 7 + 165) as u8)
+        .collect();
     let mut left = whole.clone();
     let returned = call(file, &mut left[GUARD..GUARD + buffer])?;
     let (expected, rows) = expected(answer);
     if returned != expected {
-        return Some(format!("library: returned {returned:#x}, expected {expected:#x}"));
+        return Some(format!(
+            "library: returned {returned:#x}, expected {expected:#x}"
+        ));
     }
     let (front, rest) = whole.split_at(GUARD);
     let right = front.iter().chain(rows).chain(&rest[rows.len()..]);
     let at = left.iter().zip(right).position(|(a, b)| a != b)?;
-    Some(format!("library: byte {} of the buffer", at as i64 - GUARD as i64))
+    Some(format!(
+        "library: byte {} of the buffer",
+        at as i64 - GUARD as i64
+    ))
 }

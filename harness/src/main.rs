@@ -50,7 +50,8 @@ harness roots [--step N]              the machine's root against whole numbers
 harness load [--files N] [--seed S] [--heap] [--wrong K]
                                       the static library under load, at guard pages or in heap blocks
 harness load faults                   whether the load notices deliberate faults
-harness bench [--runs N]              microseconds a sheet
+harness bench [--runs N]              microseconds a call, in tables
+harness worst [--tries N] [--seed S]  looks for the dearest call
 harness text to-file | from-file      lines of text to a sheet file and back
 ";
 
@@ -213,6 +214,10 @@ fn main() -> ExitCode {
         ["load", "faults"] => holds = load::faults(),
         ["load", ..] => holds = load(&args),
         ["bench", ..] => bench::run(option(&args, "--runs", 200) as usize),
+        ["worst", ..] => {
+            let tries = option(&args, "--tries", 1000) as usize;
+            bench::worst(tries, option(&args, "--seed", 0));
+        }
         ["text", "to-file"] => output(&to_file()),
         ["text", "from-file"] => match Sheet::from_file(&input()) {
             Some(sheet) => output(text::to_text(&sheet).as_bytes()),

@@ -184,7 +184,11 @@ impl Cells {
                     if !r.one_in(3) {
                         out.push((u, v));
                     }
-                    (u, v) = if v + 1 < height { (u, v + 1) } else { (u + 1, 0) };
+                    (u, v) = if v + 1 < height {
+                        (u, v + 1)
+                    } else {
+                        (u + 1, 0)
+                    };
                 }
                 Cells::Patches => {
                     if u % 6 < 5 && v % 6 < 5 {
@@ -194,7 +198,11 @@ impl Cells {
                 }
                 Cells::Comb => {
                     out.push((u, v));
-                    (u, v) = if u % 2 == 0 && v + 1 < side { (u, v + 1) } else { (u + 1, 0) };
+                    (u, v) = if u % 2 == 0 && v + 1 < side {
+                        (u, v + 1)
+                    } else {
+                        (u + 1, 0)
+                    };
                 }
                 Cells::Spiral => {
                     out.push((u, v));
@@ -242,8 +250,8 @@ impl Place {
 
 /// A float of at most 16,384 in magnitude, every exponent alike.
 pub fn any_bits(r: &mut Random) -> f32 {
-    let float = f32::from_bits(r.bits() as u32 & 0xFFFF_FFFF);
-    let bounded = f32::from_bits(float.to_bits() & 0x8000_0000 | r.below(0x4680_0001) as u32);
+    let sign = r.bits() as u32 & 0x8000_0000;
+    let bounded = f32::from_bits(sign | r.below(0x4680_0001) as u32);
     if r.one_in(4) {
         f32::from_bits(bounded.to_bits() & 0x807F_FFFF)
     } else {
@@ -312,11 +320,21 @@ const TOLERANCES: [f32; 7] = [0.15, 0.15, 0.0, -1.0, 1e-6, 1.0, 16384.0];
 
 /// Draws one part of a shape anew.
 pub fn change(r: &mut Random, s: &mut Shape) {
-    let sizes = [s.spacing, s.spacing, 5.0 * s.spacing, 16384.0, 0.0, -1.0, 1e-45, 1e-20];
+    let sizes = [
+        s.spacing,
+        s.spacing,
+        5.0 * s.spacing,
+        16384.0,
+        0.0,
+        -1.0,
+        1e-45,
+        1e-20,
+    ];
     match r.below(12) {
         0 => s.cells = r.pick(&CELLS),
         1 => s.place = r.pick(&PLACES),
-        2 => s.spacing = r.pick(&SPACINGS) * r.between(0.5, 1.0),
+        2 if r.one_in(2) => s.spacing = r.pick(&SPACINGS) * r.between(0.5, 1.0),
+        2 => s.spacing = (s.spacing * 10f32.powf(r.between(-1.0, 1.0))).min(100.0),
         3 => s.index = r.pick(&INDICES),
         4 => s.order = r.pick(&[Order::Rising, Order::Falling, Order::Mixed]),
         5 => s.cell_size = r.pick(&sizes),

@@ -90,15 +90,29 @@ fn framed(r: &mut Random) -> Sheet {
             0..3 => r.bits() as i32,
             _ => r.whole(-8000, 8000),
         };
-        let (u, v) = if right >= 5 { (k / height, k % height) } else { (any(r), any(r)) };
+        let (u, v) = if right >= 5 {
+            (k / height, k % height)
+        } else {
+            (any(r), any(r))
+        };
         let index = r.below(indices) as u32;
         // With every condition right, a position goes by its index.
         let mut from = Random::new(index.into());
         let from = if right == 6 { &mut from } else { &mut *r };
-        Point { u, v, index, x: float(from, right >= 4), y: float(from, right >= 4) }
+        Point {
+            u,
+            v,
+            index,
+            x: float(from, right >= 4),
+            y: float(from, right >= 4),
+        }
     });
     let points = points.collect();
-    Sheet { settings, gate, points }
+    Sheet {
+        settings,
+        gate,
+        points,
+    }
 }
 
 /// A generated file of any kind.

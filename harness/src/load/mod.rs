@@ -30,7 +30,11 @@ fn stack_size() -> usize {
 /// Where file and buffer lie.
 enum Memory {
     /// Beside guard pages; calls run on a stack of their own.
-    Guarded { file: Area, rows: Area, stack: Stack },
+    Guarded {
+        file: Area,
+        rows: Area,
+        stack: Stack,
+    },
     /// In heap blocks of exactly their lengths, for a tool that watches those.
     Heap,
 }
@@ -44,7 +48,13 @@ struct Runner {
 
 /// What is wrong with a call, if anything: its number, its rows, or a byte that it should have left
 /// alone. `now` is what was `painted`, and the buffer begins after `head` bytes of it.
-fn judge(returned: u64, answer: &Answer, now: &[u8], painted: &[u8], head: usize) -> Option<String> {
+fn judge(
+    returned: u64,
+    answer: &Answer,
+    now: &[u8],
+    painted: &[u8],
+    head: usize,
+) -> Option<String> {
     let (points, components) = ((returned >> 16 & 0xFFFF) as usize, returned & 0xFFFF);
     let success = returned >> 32 == 1 && points <= MAX_POINTS && components <= points as u64;
     if !success && !(1..=9).contains(&returned) {
@@ -52,7 +62,9 @@ fn judge(returned: u64, answer: &Answer, now: &[u8], painted: &[u8], head: usize
     }
     let (expected, rows) = library::expected(answer);
     if returned != expected {
-        return Some(format!("returned {returned:#x}, the second program {expected:#x}"));
+        return Some(format!(
+            "returned {returned:#x}, the second program {expected:#x}"
+        ));
     }
     let end = head + rows.len();
     if now[head..end] != *rows {
@@ -86,11 +98,20 @@ impl Runner {
                 stack: Stack::new(stack_size()),
             }
         };
-        Runner { call, memory, paint }
+        Runner {
+            call,
+            memory,
+            paint,
+        }
     }
 
     /// One call: what it returned, its processor time, and what is wrong with it.
-    fn run(&mut self, load: &Load, answer: &Answer, r: &mut Random) -> (u64, Duration, Option<String>) {
+    fn run(
+        &mut self,
+        load: &Load,
+        answer: &Answer,
+        r: &mut Random,
+    ) -> (u64, Duration, Option<String>) {
         let (length, buffer) = (load.file.len(), load.buffer);
         let paint = &self.paint[r.below(512)..];
         match &mut self.memory {
@@ -99,11 +120,16 @@ impl Runner {
                 let mut rows = paint[..buffer].to_vec().into_boxed_slice();
                 let start = processor();
                 // Both blocks are ours and apart.
-                let returned = unsafe { (self.call)(file.as_ptr(), length, rows.as_mut_ptr(), buffer) };
+                let returned =
+                    unsafe { (self.call)(file.as_ptr(), length, rows.as_mut_ptr(), buffer) };
                 let time = processor() - start;
                 let fault = judge(returned, answer, &rows, &paint[..buffer], 0);
                 let changed = *file != *load.file;
-                (returned, time, fault.or(changed.then(|| "changed the file".into())))
+                (
+                    returned,
+                    time,
+                    fault.or(changed.then(|| "changed the file".into())),
+                )
             }
             Memory::Guarded { file, rows, stack } => {
                 let at = file.place(length, r.one_in(2));
@@ -118,7 +144,8 @@ impl Runner {
                 let mut once = || {
                     let start = processor();
                     // Both areas are ours and apart.
-                    let returned = unsafe { stack.call(self.call, file_at, length, rows_at, buffer) };
+                    let returned =
+                        unsafe { stack.call(self.call, file_at, length, rows_at, buffer) };
                     (returned, processor() - start)
                 };
                 let (returned, mut time) = once();
@@ -128,7 +155,13 @@ impl Runner {
                         time = time.min(once().1);
                     }
                 }
-                let mut fault = judge(returned, answer, &rows.bytes()[from..to], paint, begin - from);
+                let mut fault = judge(
+                    returned,
+                    answer,
+                    &rows.bytes()[from..to],
+                    paint,
+                    begin - from,
+                );
                 if file.bytes()[at..at + length] != load.file[..] {
                     fault = Some("changed the file".into());
                 }
@@ -178,10 +211,15 @@ impl Report {
 
     fn print(&self, deepest: Option<usize>, whole: Duration) {
         let micros = |d: Duration| d.as_secs_f64() * 1e6;
-        println!("| files | number | accepted | points | longest call, µs |\n|---|---|---|---|---|");
+        println!(
+            "| files | number | accepted | points | longest call, µs |\n|---|---|---|---|---|"
+        );
         let (mut accepted, mut points) = (0, 0);
         for ((_, name, _), (files, taken, size, longest)) in Form::ALL.iter().zip(self.forms) {
-            println!("| {name} | {files} | {taken} | {size} | {:.0} |", micros(longest));
+            println!(
+                "| {name} | {files} | {taken} | {size} | {:.0} |",
+                micros(longest)
+            );
             accepted += taken;
             points += size;
         }
@@ -209,7 +247,10 @@ impl Report {
 static CASE: AtomicUsize = AtomicUsize::new(0);
 
 extern "C" fn on_fault(_: i32) {
-    eprintln!("a call touched a guard page: --files 1 --seed {}", CASE.load(Ordering::Relaxed));
+    eprintln!(
+        "a call touched a guard page: --files 1 --seed {}",
+        CASE.load(Ordering::Relaxed)
+    );
     std::process::exit(3)
 }
 
@@ -271,7 +312,10 @@ pub fn faults() -> bool {
     let mut failed = 0;
     for (k, name) in wrong::FAULTS.iter().enumerate() {
         let words = ["load", "--files", "2000", "--wrong", &k.to_string()].map(String::from);
-        let run = std::process::Command::new(&program).args(words).output().unwrap();
+        let run = std::process::Command::new(&program)
+            .args(words)
+            .output()
+            .unwrap();
         if run.status.success() {
             println!("not noticed: {name}");
             failed += 1;

@@ -27,7 +27,12 @@ pub static CHOSEN: AtomicUsize = AtomicUsize::new(0);
 static BEFORE: AtomicUsize = AtomicUsize::new(1);
 
 /// The library's function, with the chosen fault.
-pub unsafe extern "C" fn call(file: *const u8, file_len: usize, rows: *mut u8, rows_len: usize) -> u64 {
+pub unsafe extern "C" fn call(
+    file: *const u8,
+    file_len: usize,
+    rows: *mut u8,
+    rows_len: usize,
+) -> u64 {
     let flip = |at: *mut u8| at.write_volatile(at.read_volatile() ^ 1);
     let keep = library::function().unwrap();
     let returned = keep(file, file_len, rows, rows_len);
