@@ -47,7 +47,7 @@ harness vectors FILE [--sheets N] [--seed S] [--most BYTES]
 harness floats FILE [--count N] [--seed S]
                                       a bundle of single f32 operations
 harness roots [--step N]              the machine's root against whole numbers
-harness load [--files N] [--seed S] [--heap] [--wrong K]
+harness load [--files N] [--seed S] [--heap] [--threads N] [--wrong K]
                                       the static library under load, at guard pages or in heap blocks
 harness load faults                   whether the load notices deliberate faults
 harness bench [--runs N]              microseconds a call, in tables
@@ -117,11 +117,16 @@ fn mutants(args: &[String]) -> bool {
 }
 
 fn load(args: &[String]) -> bool {
-    let files = option(args, "--files", 20_000) as usize;
+    let files = option(args, "--files", 20_000);
+    let seed = option(args, "--seed", 0);
+    let threads = option(args, "--threads", 1) as usize;
+    if threads > 1 {
+        return load::threads(threads, files, seed);
+    }
     let heap = args.iter().any(|a| a == "--heap");
     let wrong = option(args, "--wrong", u64::MAX);
     let wrong = (wrong != u64::MAX).then_some(wrong as usize);
-    load::run(files, option(args, "--seed", 0), heap, wrong)
+    load::run(files, seed, heap, wrong)
 }
 
 /// All floats against 30 degrees, or the floats that acos cannot tell from given cosines.

@@ -51,6 +51,8 @@ pub enum Place {
     OneLine,
     /// Anywhere within some cells of the origin.
     Anywhere,
+    /// Anywhere in y, close together in x: all pairs are near in x, some in y.
+    Thin,
     /// Any float in range, subnormals included.
     AnyBits,
 }
@@ -241,6 +243,13 @@ impl Place {
             Place::FourSpots => ((u & 1) as f32, (v & 1) as f32),
             Place::OneLine => (i + j, i + j),
             Place::Anywhere => (r.between(-50.0, 50.0), r.between(-50.0, 50.0)),
+            Place::Thin => {
+                let x = 2e-18 * r.between(-0.5, 0.5);
+                return (
+                    x,
+                    (spacing * r.between(-50.0, 50.0)).clamp(-16384.0, 16384.0),
+                );
+            }
             Place::AnyBits => return (any_bits(r), any_bits(r)),
         };
         let bound = |f: f32| (f * spacing).clamp(-16384.0, 16384.0);
@@ -288,7 +297,7 @@ const CELLS: [Cells; 16] = [
     Cells::Spiral,
     Cells::Stairs,
 ];
-const PLACES: [Place; 13] = [
+const PLACES: [Place; 14] = [
     Place::Perspective,
     Place::Perspective,
     Place::Straight,
@@ -301,6 +310,7 @@ const PLACES: [Place; 13] = [
     Place::FourSpots,
     Place::OneLine,
     Place::Anywhere,
+    Place::Thin,
     Place::AnyBits,
 ];
 const INDICES: [Index; 8] = [
@@ -337,7 +347,8 @@ pub fn change(r: &mut Random, s: &mut Shape) {
         2 => s.spacing = (s.spacing * 10f32.powf(r.between(-1.0, 1.0))).min(100.0),
         3 => s.index = r.pick(&INDICES),
         4 => s.order = r.pick(&[Order::Rising, Order::Falling, Order::Mixed]),
-        5 => s.cell_size = r.pick(&sizes),
+        5 if r.one_in(2) => s.cell_size = r.pick(&sizes),
+        5 => s.cell_size = (s.cell_size * 10f32.powf(r.between(-1.0, 1.0))).min(16384.0),
         6 => {
             s.gate = match r.below(4) {
                 0 => None,

@@ -10,6 +10,7 @@ use crate::library;
 use crate::random::Random;
 use crate::second::{self, Answer, Fault, MAX_POINTS};
 use files::{Form, Load, LONGEST_BUFFER, LONGEST_FILE};
+use std::ops::Range;
 use std::sync::atomic::{AtomicUsize, Ordering};
 use std::time::{Duration, Instant};
 
@@ -263,11 +264,37 @@ fn report_faults() {
     unsafe { signal(SEGMENT_VIOLATION, on_fault) };
 }
 
+/// Runs the files of some seeds; ends at the first failure if `short`.
+fn pass(runner: &mut Runner, seeds: Range<u64>, short: bool) -> Report {
+    let mut report = Report::default();
+    for case in seeds {
+        CASE.store(case as usize, Ordering::Relaxed);
+        let load = files::nth(case);
+        let answer = second::answer(&load.file, load.buffer, Fault::None);
+        let (returned, time, fault) = runner.run(&load, &answer, &mut Random::new(!case));
+        report.add(&load, case, returned, time);
+        if let Some(text) = fault {
+            report.failed += 1;
+            if report.failed <= 20 {
+                println!("failed: {:?}, --files 1 --seed {case}: {text}", load.form);
+            }
+            if short {
+                break;
+            }
+        }
+    }
+    report
+}
+
+fn without_library() -> bool {
+    println!("built without the static library");
+    false
+}
+
 /// Runs `files` files from a seed on; with `wrong`, through a call with that deliberate fault.
-pub fn run(files: usize, seed: u64, heap: bool, wrong: Option<usize>) -> bool {
+pub fn run(files: u64, seed: u64, heap: bool, wrong: Option<usize>) -> bool {
     let Some(keep) = library::function() else {
-        println!("built without the static library");
-        return false;
+        return without_library();
     };
     let call = match wrong {
         None => keep,
@@ -279,24 +306,7 @@ pub fn run(files: usize, seed: u64, heap: bool, wrong: Option<usize>) -> bool {
     report_faults();
     let start = Instant::now();
     let mut runner = Runner::new(call, heap);
-    let mut report = Report::default();
-    for i in 0..files {
-        let case = seed.wrapping_add(i as u64);
-        CASE.store(case as usize, Ordering::Relaxed);
-        let load = files::nth(case);
-        let answer = second::answer(&load.file, load.buffer, Fault::None);
-        let (returned, time, fault) = runner.run(&load, &answer, &mut Random::new(!case));
-        report.add(&load, case, returned, time);
-        if let Some(text) = fault {
-            report.failed += 1;
-            if report.failed <= 20 {
-                println!("failed: {:?}, --files 1 --seed {case}: {text}", load.form);
-            }
-            if wrong.is_some() {
-                return false;
-            }
-        }
-    }
+    let report = pass(&mut runner, seed..seed + files, wrong.is_some());
     let deepest = match &runner.memory {
         Memory::Guarded { stack, .. } => Some(stack.deepest()),
         Memory::Heap => None,
@@ -306,8 +316,26 @@ pub fn run(files: usize, seed: u64, heap: bool, wrong: Option<usize>) -> bool {
     report.failed == 0
 }
 
+/// Runs the same files in several threads at once, each with its own memory and stack.
+pub fn threads(count: usize, files: u64, seed: u64) -> bool {
+    let Some(keep) = library::function() else {
+        return without_library();
+    };
+    report_faults();
+    let one = || pass(&mut Runner::new(keep, false), seed..seed + files, false).failed;
+    let failed: usize = std::thread::scope(|scope| {
+        let all: Vec<_> = (0..count).map(|_| scope.spawn(one)).collect();
+        all.into_iter().map(|thread| thread.join().unwrap()).sum()
+    });
+    println!("{count} threads, {files} files each, {failed} failed");
+    failed == 0
+}
+
 /// Whether the load notices each deliberate fault, each in a process of its own.
 pub fn faults() -> bool {
+    if library::function().is_none() {
+        return without_library();
+    }
     let program = std::env::current_exe().unwrap();
     let mut failed = 0;
     for (k, name) in wrong::FAULTS.iter().enumerate() {

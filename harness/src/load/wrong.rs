@@ -1,9 +1,10 @@
 //! The call with a deliberate fault: the load must notice each.
 
+use crate::clock::processor;
 use crate::library;
 use std::hint::black_box;
 use std::sync::atomic::{AtomicUsize, Ordering};
-use std::time::{Duration, Instant};
+use std::time::Duration;
 
 pub const FAULTS: [&str; 14] = [
     "reads a byte beyond the file",
@@ -52,8 +53,8 @@ pub unsafe extern "C" fn call(
         10 if points > 0 => flip(rows.add(28 * points - 1)),
         11 => return BEFORE.swap(returned as usize, Ordering::Relaxed) as u64,
         12 => {
-            let start = Instant::now();
-            while start.elapsed() < Duration::from_millis(60) {}
+            let start = processor();
+            while processor() - start < Duration::from_millis(60) {}
         }
         13 => return deep(keep, file, file_len, rows, rows_len),
         _ => {}
