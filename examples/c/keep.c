@@ -104,7 +104,10 @@ static void read_points(const uint8_t *file, size_t length, point *points, unsig
 }
 
 static void print_float(const uint8_t *row, int bit, int offset, const char *name) {
-    if (row[HIGLAUPTH_PRESENT] & bit) printf(", %s %g", name, (double)read_f32(row + offset));
+    if ((row[HIGLAUPTH_PRESENT] & bit) == 0) return;
+    float f = read_f32(row + offset);
+    if (f != f) printf(", %s NaN", name);
+    else printf(", %s %.6f", name, (double)f);
 }
 
 static void print_row(const point *p, const uint8_t *row) {
@@ -117,6 +120,10 @@ static void print_row(const point *p, const uint8_t *row) {
     if (marks & HIGLAUPTH_MARK_COMPONENT) printf(" component");
     if (row[HIGLAUPTH_REASON] != HIGLAUPTH_REASON_NONE)
         printf(", %s", reasons[row[HIGLAUPTH_REASON]]);
+    if (row[HIGLAUPTH_DEGREE] > 0)
+        printf(", degree %d, %s, %d of %d cells valid", row[HIGLAUPTH_DEGREE],
+               row[HIGLAUPTH_BOUNDARY] ? "on the boundary" : "inside", row[HIGLAUPTH_VALID_CELLS],
+               row[HIGLAUPTH_ADJACENT_CELLS]);
     print_float(row, HIGLAUPTH_HAS_RESIDUAL, HIGLAUPTH_RESIDUAL, "residual");
     print_float(row, HIGLAUPTH_HAS_CONTINUATION_COSINE, HIGLAUPTH_CONTINUATION_COSINE,
                 "continuation cosine");

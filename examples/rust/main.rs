@@ -119,9 +119,18 @@ fn print_row((u, v, index): (i32, i32, u32), row: &[u8]) {
     if row[1] > 0 {
         found += &format!(", {}", REASONS[usize::from(row[1]) - 1]);
     }
+    if row[3] > 0 {
+        let place = if row[4] == 1 {
+            "on the boundary"
+        } else {
+            "inside"
+        };
+        let (degree, adjacent, valid) = (row[3], row[5], row[6]);
+        found += &format!(", degree {degree}, {place}, {valid} of {adjacent} cells valid");
+    }
     for k in (0..5).filter(|k| row[2] >> k & 1 == 1) {
         let float = f32::from_le_bytes(four(row, 8 + 4 * k));
-        found += &format!(", {} {float}", FLOATS[k]);
+        found += &format!(", {} {float:.6}", FLOATS[k]);
     }
     println!("cell {u} {v}, index {index}:{found}");
 }
