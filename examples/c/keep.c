@@ -134,8 +134,8 @@ static void print_row(const point *p, const uint8_t *row) {
     printf("\n");
 }
 
-/* A file in a heap block of exactly its length; at most a byte more than a field can frame is
-   read, since a longer file is refused all the same. */
+/* A file in a heap block of exactly its length. No more than 70,000 bytes are read: a file longer
+   than 65,582 cannot be well framed, and is refused with 1 all the same. */
 static uint8_t *read_file(const char *path, size_t *length) {
     enum { MOST = 70000 };
     FILE *from = fopen(path, "rb");

@@ -225,7 +225,7 @@ impl Report {
             points += size;
         }
         println!(
-            "accepted {accepted} with {points} points, {} of them of {MAX_POINTS} points; refused with 1 to 9: {:?}; buffers of length 0: {}",
+            "accepted {accepted} sheets with {points} points, {} sheets of {MAX_POINTS}; refused with 1 to 9: {:?}; buffers of length 0: {}",
             self.full,
             &self.refused[1..],
             self.empty_buffers
