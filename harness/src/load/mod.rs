@@ -43,6 +43,8 @@ enum Memory {
 struct Runner {
     call: Call,
     memory: Memory,
+    /// The longest call so far.
+    longest: Duration,
     /// What a buffer holds before a call, from any place on.
     paint: Vec<u8>,
 }
@@ -102,6 +104,7 @@ impl Runner {
         Runner {
             call,
             memory,
+            longest: Duration::ZERO,
             paint,
         }
     }
@@ -150,12 +153,6 @@ impl Runner {
                     (returned, processor() - start)
                 };
                 let (returned, mut time) = once();
-                // A busy machine may disturb a call, hardly three.
-                for _ in 0..2 {
-                    if time > LIMIT {
-                        time = time.min(once().1);
-                    }
-                }
                 let mut fault = judge(
                     returned,
                     answer,
@@ -166,6 +163,13 @@ impl Runner {
                 if file.bytes()[at..at + length] != load.file[..] {
                     fault = Some("changed the file".into());
                 }
+                // A busy machine may disturb a call, hardly three.
+                for _ in 0..2 {
+                    if time > self.longest {
+                        time = time.min(once().1);
+                    }
+                }
+                self.longest = self.longest.max(time);
                 if time > LIMIT {
                     fault = Some(format!("took {time:?}"));
                 }
