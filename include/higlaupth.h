@@ -7,9 +7,9 @@
  *
  * The function is proved: for any bytes and any buffer its number and every byte of the buffer
  * are those of the specification, document 01, "Kept corners of a make-ready sheet". The rules
- * below for callers are what the proof takes for granted. Link with libhiglaupth.a (x86-64, which
- * `rt staticlib higlaupth` writes); of the C library it needs the copying, filling and comparing of
- * memory alone (memcpy, memset and their like).
+ * for callers below are what the proof takes for granted; README.md says what else is assumed.
+ * Link with libhiglaupth.a (x86-64, which `rt staticlib higlaupth` writes). Of the C library it
+ * needs the copying, filling and comparing of memory alone (memcpy, memset and their like).
  *
  * The sheet file, little-endian, nothing before, between or after its fields; a field is a
  * one-byte tag, a two-byte length and its data:
