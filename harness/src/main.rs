@@ -2,10 +2,13 @@
 
 mod angles;
 mod bench;
+mod clock;
 mod compare;
 mod floats;
 mod generate;
+mod guarded;
 mod library;
+mod load;
 mod mutants;
 mod properties;
 mod quick;
@@ -16,6 +19,7 @@ mod run_original;
 #[cfg(original_at_hand)]
 mod run_original;
 mod second;
+mod shapes;
 mod sheet;
 mod stars;
 mod text;
@@ -43,7 +47,12 @@ harness vectors FILE [--sheets N] [--seed S] [--most BYTES]
 harness floats FILE [--count N] [--seed S]
                                       a bundle of single f32 operations
 harness roots [--step N]              the machine's root against whole numbers
-harness bench [--runs N]              microseconds a sheet
+harness load [--files N] [--seed S] [--heap] [--threads N] [--wrong K]
+                                      the static library under load, at guard pages or in heap blocks
+harness load faults                   whether the load notices deliberate faults
+harness bench [--runs N] [--into FILE]
+                                      microseconds a call, in tables
+harness worst [--tries N] [--seed S]  looks for the dearest call
 harness text to-file | from-file      lines of text to a sheet file and back
 ";
 
@@ -106,6 +115,19 @@ fn mutants(args: &[String]) -> bool {
     let shown = mutants::run(sheets, option(args, "--seed", 0), false);
     mutants::print(sheets, &shown);
     mutants::unseen(&shown) == 0
+}
+
+fn load(args: &[String]) -> bool {
+    let files = option(args, "--files", 20_000);
+    let seed = option(args, "--seed", 0);
+    let threads = option(args, "--threads", 1) as usize;
+    if threads > 1 {
+        return load::threads(threads, files, seed);
+    }
+    let heap = args.iter().any(|a| a == "--heap");
+    let wrong = option(args, "--wrong", u64::MAX);
+    let wrong = (wrong != u64::MAX).then_some(wrong as usize);
+    load::run(files, seed, heap, wrong)
 }
 
 /// All floats against 30 degrees, or the floats that acos cannot tell from given cosines.
@@ -195,7 +217,17 @@ fn main() -> ExitCode {
             println!("{count} floats, {otherwise} with another root");
             holds = otherwise == 0;
         }
-        ["bench", ..] => bench::run(option(&args, "--runs", 200) as usize),
+        ["load", "faults"] => holds = load::faults(),
+        ["load", ..] => holds = load(&args),
+        ["bench", rest @ ..] => {
+            let into = rest.iter().position(|a| *a == "--into");
+            let file = into.map(|k| *rest.get(k + 1).unwrap_or_else(|| fail("--into takes a file")));
+            bench::run(option(&args, "--runs", 60) as usize, file);
+        }
+        ["worst", ..] => {
+            let tries = option(&args, "--tries", 1000) as usize;
+            bench::worst(tries, option(&args, "--seed", 0));
+        }
         ["text", "to-file"] => output(&to_file()),
         ["text", "from-file"] => match Sheet::from_file(&input()) {
             Some(sheet) => output(text::to_text(&sheet).as_bytes()),

@@ -1,0 +1,226 @@
+//! Microseconds a call: the least processor time of many runs, in tables of Markdown.
+
+mod hard;
+
+pub use hard::worst;
+
+use crate::clock::processor;
+use crate::library;
+use crate::run_original::Prepared;
+use crate::second::{self, Fault, MAX_POINTS};
+use crate::shapes::{Cells, Shape};
+use crate::sheet::Sheet;
+use hard::{hard_shapes, DEAREST};
+use std::hint::black_box;
+use std::time::Duration;
+
+/// A clean board in perspective, every filter on.
+pub fn board(side: i32, gated: bool) -> Sheet {
+    let mut shape = Shape::new(Cells::Board(side), (side * side) as usize);
+    shape.gate = shape.gate.filter(|_| gated);
+    shape.sheet()
+}
+
+/// Processor times of the runs in microseconds, rising; what the work hands back is not optimised
+/// away. Slow work is run less often, yet three times.
+fn times<T>(runs: usize, mut work: impl FnMut() -> T) -> Vec<f64> {
+    let (mut times, mut whole) = (Vec::new(), Duration::ZERO);
+    while times.len() < runs && (times.len() < 3 || whole < Duration::from_secs(2)) {
+        let start = processor();
+        black_box(work());
+        let time = processor() - start;
+        whole += time;
+        times.push(time.as_secs_f64() * 1e6);
+    }
+    times.sort_by(f64::total_cmp);
+    times
+}
+
+fn least<T>(runs: usize, work: impl FnMut() -> T) -> f64 {
+    times(runs, work)[0]
+}
+
+/// Times of the call on a sheet, file to rows; nothing without the library.
+fn all_ours(runs: usize, sheet: &Sheet) -> Option<Vec<f64>> {
+    let file = sheet.to_file();
+    let mut rows = vec![0; second::ROW * sheet.points.len()];
+    let returned = library::call(&file, &mut rows)?;
+    assert!(
+        returned >> 32 == 1,
+        "a sheet of the bench is refused with {returned}"
+    );
+    Some(times(runs, || library::call(&file, &mut rows)))
+}
+
+fn ours(runs: usize, sheet: &Sheet) -> Option<f64> {
+    Some(all_ours(runs, sheet)?[0])
+}
+
+/// The original's `drop_set` on a sheet made ready; nothing without the original.
+fn theirs(runs: usize, sheet: &Sheet) -> Option<f64> {
+    let prepared = Prepared::new(sheet)?;
+    Some(least(runs, || prepared.drop_set()))
+}
+
+/// A number for a table: whole, grouped by commas, or a dash.
+fn whole(number: Option<f64>) -> String {
+    let Some(number) = number else {
+        return "–".into();
+    };
+    let digits = format!("{number:.0}");
+    let mut out = String::new();
+    for (k, digit) in digits.chars().enumerate() {
+        if k > 0 && (digits.len() - k) % 3 == 0 {
+            out.push(',');
+        }
+        out.push(digit);
+    }
+    out
+}
+
+fn one_place(number: Option<f64>) -> String {
+    number.map_or("–".into(), |n| format!("{n:.1}"))
+}
+
+fn ratio(theirs: Option<f64>, ours: Option<f64>) -> Option<f64> {
+    Some(theirs? / ours?)
+}
+
+/// The 45 by 45 board through all programs.
+fn whole_board(out: &mut Text, runs: usize) {
+    out.line("A 45 by 45 board, 2,025 points, every filter on; µs:\n");
+    out.line("| | without the edge gate | with it |\n|---|---|---|");
+    let sheets = [false, true].map(|gated| board(45, gated));
+    let validate = |s: &Sheet| Prepared::new(s).map(|p| least(runs, || p.validate()));
+    let second = |s: &Sheet| {
+        let file = s.to_file();
+        Some(least(runs, || second::answer(&file, 1 << 16, Fault::None)))
+    };
+    let original = sheets.each_ref().map(|s| theirs(runs, s));
+    let library = sheets.each_ref().map(|s| ours(runs, s));
+    let validate = sheets.each_ref().map(validate);
+    let second = sheets.each_ref().map(second);
+    let mut line = |name: &str, a: String, b: String| out.line(&format!("| {name} | {a} | {b} |"));
+    let mut times = |name: &str, t: [Option<f64>; 2]| line(name, whole(t[0]), whole(t[1]));
+    times("the original's `drop_set`", original);
+    times("the original's `validate`", validate);
+    times("the second program, file to rows and listing", second);
+    times("this library, file to rows", library);
+    let [a, b] = [0, 1].map(|k| one_place(ratio(original[k], library[k])));
+    line("`drop_set` / this library", a, b);
+}
+
+/// Boards, ragged sheets and sheets of several patches by size.
+fn sizes(out: &mut Text, runs: usize) {
+    out.line("\nBy size, every filter on, without and with the edge gate; µs:\n");
+    out.line("| sheet | points | library | a point | original | ratio | library, gate | a point | original, gate | ratio |");
+    out.line("|---|---|---|---|---|---|---|---|---|---|");
+    let boards = [(10, 100), (20, 400), (40, 1000), (45, 2025), (64, 2048)];
+    let none = ("no points", Cells::Board(1), 0);
+    let boards = boards.map(|(height, n)| ("board", Cells::Board(height), n));
+    let ragged = [(13, 100), (25, 400), (39, 1000), (56, 2048)];
+    let ragged = ragged.map(|(height, n)| ("ragged, a third missing", Cells::Ragged(height), n));
+    let patches = [100, 400, 1000, 2048].map(|n| ("patches of 25", Cells::Patches, n));
+    for (name, cells, n) in [none]
+        .into_iter()
+        .chain(boards)
+        .chain(ragged)
+        .chain(patches)
+    {
+        let mut line = format!("| {name} | {} ", whole(Some(n as f64)));
+        for gated in [false, true] {
+            let mut shape = Shape::new(cells, n);
+            shape.gate = shape.gate.filter(|_| gated);
+            let sheet = shape.sheet();
+            let (library, original) = (ours(runs, &sheet), theirs(runs, &sheet));
+            let each = library.filter(|_| n > 0);
+            let each = each.map_or("–".into(), |t| format!("{:.2}", t / n as f64));
+            let times = one_place(ratio(original, library));
+            line += &format!(
+                "| {} | {each} | {} | {times} ",
+                whole(library),
+                whole(original)
+            );
+        }
+        out.line(&(line + "|"));
+    }
+}
+
+/// The hard shapes at full size.
+fn hard(out: &mut Text, runs: usize) {
+    out.line("\n2,048 points, step flag and edge gate on; µs:\n");
+    out.line(
+        "| shape | library, least | median | original, least | ratio |\n|---|---|---|---|---|",
+    );
+    for (name, shape) in hard_shapes(MAX_POINTS) {
+        let sheet = shape.sheet();
+        let all = all_ours(runs, &sheet);
+        let library = all.as_ref().map(|t| t[0]);
+        let median = all.as_ref().map(|t| t[t.len() / 2]);
+        let original = theirs(runs.min(10), &sheet);
+        let line = [
+            whole(library),
+            whole(median),
+            whole(original),
+            one_place(ratio(original, library)),
+        ];
+        out.line(&format!("| {name} | {} |", line.join(" | ")));
+    }
+}
+
+/// How the cost grows with the number of points.
+fn growth(out: &mut Text, runs: usize) {
+    out.line("\nHow the cost grows, step flag and edge gate on; µs:\n");
+    out.line("| shape | 256 | 512 | 1,024 | 2,048 |\n|---|---|---|---|---|");
+    let names = [
+        "board",
+        "board, cell size 16,384: every pair is close",
+        "board, all on one x",
+        "pairs",
+        "stairs",
+        DEAREST,
+    ];
+    for name in names {
+        let times = [256, 512, 1024, 2048].map(|n| {
+            let shape = hard_shapes(n).into_iter().find(|(one, _)| *one == name);
+            whole(ours(runs, &shape.unwrap().1.sheet()))
+        });
+        out.line(&format!("| {name} | {} |", times.join(" | ")));
+    }
+}
+
+/// Lines that are printed as they come, and kept.
+struct Text(String);
+
+impl Text {
+    fn line(&mut self, line: &str) {
+        println!("{line}");
+        self.0 += line;
+        self.0.push('\n');
+    }
+}
+
+/// Prints all tables. With a file, they take the place of what stands there between two marks.
+pub fn run(runs: usize, file: Option<&str>) {
+    let mut out = Text(String::new());
+    out.line(&format!(
+        "{runs} runs of each, at most 2 s of them; the least processor time unless said.\n"
+    ));
+    whole_board(&mut out, runs);
+    sizes(&mut out, runs);
+    hard(&mut out, runs);
+    growth(&mut out, runs);
+    let Some(file) = file else { return };
+    let old = std::fs::read_to_string(file).unwrap_or_else(|e| crate::fail(&e.to_string()));
+    let (begins, ends) = ("<!-- bench begins -->\n", "<!-- bench ends -->");
+    let parts = old
+        .split_once(begins)
+        .and_then(|(head, rest)| Some((head, rest.split_once(ends)?.1)));
+    let Some((head, tail)) = parts else {
+        crate::fail(&format!("{file} has no marks for the tables"))
+    };
+    crate::save(
+        file,
+        format!("{head}{begins}{}{ends}{tail}", out.0).as_bytes(),
+    );
+}

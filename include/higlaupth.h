@@ -1,0 +1,164 @@
+/*
+ * higlaupth: kept corners of a make-ready sheet.
+ *
+ * One function. It takes the bytes of a sheet file and a buffer for rows, and either refuses the
+ * file with a number of 1 to 9 or writes one row of 28 bytes for each point: which filters mark
+ * the point, why, its residual and its edge figures.
+ *
+ * The function is proved: for any bytes and any buffer its number and every byte of the buffer
+ * are those of the specification, document 01, "Kept corners of a make-ready sheet". The rules
+ * for callers below are what the proof takes for granted; README.md says what else is assumed.
+ * Link with libhiglaupth.a (x86-64, which `rt staticlib higlaupth` writes). Of the C library it
+ * needs the copying, filling and comparing of memory alone (memcpy, memset and their like).
+ *
+ * The sheet file, little-endian, nothing before, between or after its fields; a field is a
+ * one-byte tag, a two-byte length and its data:
+ *
+ *   tag 1, length 4 or 21: cell size f32; with length 21 also line tolerance f32, line minimum
+ *     u16, local tolerance f32, step flag u8, step threshold f32, wrong-label switch u8,
+ *     largest-patch switch u8. With length 4 these are 0.15, 3, 0.2, 0, 0, 1, 1.
+ *   tag 2, optional, length 17: minimum degree u8, least continuation cosine f32, largest
+ *     continuation ratio f32, least cell cosine f32, largest cell ratio f32. Without it there is
+ *     no edge-shape gate.
+ *   tag 3, length 20 times the number of points: for each point u i32, v i32, index u32, x f32,
+ *     y f32. Zero points is allowed, and so is any order of the points.
+ */
+#ifndef HIGLAUPTH_H
+#define HIGLAUPTH_H
+
+#include <stddef.h>
+#include <stdint.h>
+
+#ifdef __cplusplus
+extern "C" {
+#endif
+
+/* Sizes. */
+#define HIGLAUPTH_MOST_POINTS 2048 /* a sheet with more is refused */
+#define HIGLAUPTH_ROW_SIZE 28      /* bytes of a row */
+#define HIGLAUPTH_ROWS_SIZE 57344  /* 2,048 rows: a buffer of this size always suffices */
+#define HIGLAUPTH_FILE_SIZE 41007  /* bytes of the longest file that can be accepted */
+#define HIGLAUPTH_STACK_SIZE 786432 /* bytes of stack to have free; the note at the function */
+
+/* Refusals. A call returns the first number whose condition holds. */
+enum higlaupth_refusal {
+    HIGLAUPTH_MISFRAMED = 1,       /* The fields, their order, their lengths or the end of the
+                                      file differ from the list above. */
+    HIGLAUPTH_TOO_MANY_POINTS = 2, /* There are more than 2,048 points. */
+    HIGLAUPTH_SHORT_BUFFER = 3,    /* The result buffer is shorter than 28 bytes per point. */
+    HIGLAUPTH_BAD_SWITCH = 4,      /* The step flag or a switch is neither 0 nor 1. */
+    HIGLAUPTH_BAD_SETTING = 5,     /* A float of tag 1 or 2 is not finite or exceeds 16,384 in
+                                      magnitude. */
+    HIGLAUPTH_BAD_CELL = 6,        /* A u or v lies outside -8,000 to 8,000. */
+    HIGLAUPTH_BAD_POSITION = 7,    /* A position is not finite or exceeds 16,384 in magnitude. */
+    HIGLAUPTH_REPEATED_CELL = 8,   /* Two points have the same cell. */
+    HIGLAUPTH_TORN_INDEX = 9       /* One index stands at positions with different bits. */
+};
+
+/*
+ * Rows come in cell order: by u, then v, whatever the order in the file. A row is
+ *
+ *   byte   0      marks, one bit for each filter
+ *   byte   1      reason of the edge-shape gate
+ *   byte   2      which of the five floats are present, one bit each
+ *   byte   3      degree
+ *   byte   4      box boundary, 0 or 1
+ *   byte   5      adjacent cells
+ *   byte   6      valid cells
+ *   byte   7      zero
+ *   bytes  8..11  residual, f32
+ *   bytes 12..15  least continuation cosine, f32
+ *   bytes 16..19  largest continuation ratio, f32
+ *   bytes 20..23  least cell cosine, f32
+ *   bytes 24..27  largest cell ratio, f32
+ *
+ * Floats are little-endian. An absent one is zero; NaN is 0x7FC00000. Without tag 2, bytes 1,
+ * 3 to 7 and the four edge floats are zero. A point whose byte 0 is zero is kept.
+ */
+enum higlaupth_offset {
+    HIGLAUPTH_MARKS = 0,
+    HIGLAUPTH_REASON = 1,
+    HIGLAUPTH_PRESENT = 2,
+    HIGLAUPTH_DEGREE = 3,
+    HIGLAUPTH_BOUNDARY = 4,
+    HIGLAUPTH_ADJACENT_CELLS = 5,
+    HIGLAUPTH_VALID_CELLS = 6,
+    HIGLAUPTH_ZERO = 7,
+    HIGLAUPTH_RESIDUAL = 8,
+    HIGLAUPTH_CONTINUATION_COSINE = 12,
+    HIGLAUPTH_CONTINUATION_RATIO = 16,
+    HIGLAUPTH_CELL_COSINE = 20,
+    HIGLAUPTH_CELL_RATIO = 24
+};
+
+/* Bits of byte 0. */
+enum higlaupth_mark {
+    HIGLAUPTH_MARK_VALIDATE = 1,
+    HIGLAUPTH_MARK_ORIENTATION = 2,
+    HIGLAUPTH_MARK_WRONG_LABEL = 4,
+    HIGLAUPTH_MARK_COMPONENT = 8
+};
+
+/* Values of byte 1. */
+enum higlaupth_reason {
+    HIGLAUPTH_REASON_NONE = 0,
+    HIGLAUPTH_REASON_LOW_CARDINAL_DEGREE = 1,
+    HIGLAUPTH_REASON_BAD_CONTINUATION = 2,
+    HIGLAUPTH_REASON_NO_VALID_ADJACENT_CELL = 3
+};
+
+/* Bits of byte 2. */
+enum higlaupth_present {
+    HIGLAUPTH_HAS_RESIDUAL = 1,
+    HIGLAUPTH_HAS_CONTINUATION_COSINE = 2,
+    HIGLAUPTH_HAS_CONTINUATION_RATIO = 4,
+    HIGLAUPTH_HAS_CELL_COSINE = 8,
+    HIGLAUPTH_HAS_CELL_RATIO = 16
+};
+
+/*
+ * Judges the sheet file of file_len bytes at `file` and writes its rows to the buffer of
+ * rows_len bytes at `rows`. Returns a refusal number, 1 to 9, or 2^32 + 2^16 * points +
+ * components; the functions below take the number apart.
+ *
+ * What holds of every call, whatever the bytes and the lengths:
+ * - It ends.
+ * - A refusal writes nothing. An accepted sheet writes 28 bytes for each point from rows[0] on
+ *   and nothing beyond them. `file` is only read, and only its file_len bytes.
+ * - It keeps nothing between calls, allocates nothing, and does no input or output. Any number
+ *   of threads may call it at once, each with its own rows; they may share a file.
+ *
+ * What a caller owes:
+ * - `file` points to file_len readable bytes, `rows` to rows_len writable bytes. Either pointer
+ *   may be null if its length is 0. No alignment is asked for.
+ * - The two do not overlap, and during the call nobody else writes `file` or touches `rows`.
+ * - The floating-point mode is the default one: the SSE control register (MXCSR) rounds to
+ *   nearest, keeps subnormals (neither flush-to-zero nor denormals-are-zero) and masks
+ *   exceptions. The call neither reads nor changes that register's modes; like any arithmetic it
+ *   may set its sticky exception bits. It uses no x87 and no instruction beyond SSE2.
+ * - HIGLAUPTH_STACK_SIZE bytes of the calling thread's stack are free. No proof bounds the
+ *   stack: this is the deepest use that was measured, docs/TESTING.md, rounded up. The usual
+ *   8 MiB of a main thread and the 2 MiB of a Rust thread suffice. The code touches its stack
+ *   page by page, so that a stack too small ends in a fault at its guard page.
+ */
+uint64_t higlaupth_keep(const uint8_t *file, size_t file_len, uint8_t *rows, size_t rows_len);
+
+/* Whether the returned number is a refusal, which then is the number itself. */
+static inline int higlaupth_refused(uint64_t returned) { return (returned >> 32) == 0; }
+
+/* Of a number that is no refusal: how many points, hence rows; 0 to 2,048. */
+static inline unsigned higlaupth_points(uint64_t returned) {
+    return (unsigned)((returned >> 16) & 0xFFFF);
+}
+
+/* Of a number that is no refusal: how many patches the largest-patch filter saw; 0 with its
+   switch off. */
+static inline unsigned higlaupth_components(uint64_t returned) {
+    return (unsigned)(returned & 0xFFFF);
+}
+
+#ifdef __cplusplus
+}
+#endif
+
+#endif
