@@ -2,6 +2,9 @@
 use kept::Answer;
 use text::Written;
 use view::MAX_POINTS;
+ghost use mathlib.Core.Path.{_≡_};
+ghost use Prim.Native.Nat.{_+_};
+ghost use Rattle.sheet_file.specs.Longest.{longest};
 ghost use Rattle.text.specs.Answer.{Shows};
 ghost use Rattle.sheet_listing.specs.Text.{textOf};
 
@@ -23,4 +26,15 @@ pub fn list_sheet(file: &[u8], out: &mut [u8]) -> Written
             listing::write_listing(counts.points, counts.components, &keys, &idx, &rows, out)
         }
     }
+}
+
+// One byte more than the longest well-framed file. What is printed of a longer file is what is printed of its first FILE_SIZE bytes
+// (`cut-text`, in specs/Laws.antt).
+pub const FILE_SIZE: usize = 24 + 20 + 3 + 20 * 3276 + 1;
+
+// The number that the specifications use is the code's.
+pub fn file_size() -> usize
+    ensures { λ r. ⌜ r ≡ longest + 1 ⌝ }
+{
+    FILE_SIZE
 }
