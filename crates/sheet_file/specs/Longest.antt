@@ -1,15 +1,17 @@
 -- The longest well-framed file, and that a longer list of bytes is misframed. Assumes nothing.
 use mathlib.Core.Path.{_≡_, refl}
 use mathlib.Core.Bool.{Bool, true, false, _&&_}
-use mathlib.Core.List.{List}
+use mathlib.Core.Logic.{inl}
+use mathlib.Core.List.{List, _++_}
 use Prim.Native.Nat.{ℕ, _+_, _*_, _-_, _≤_, _<_}
 use native.Mathlib.Omega.{arith}
 use lib.Dec.{eqb, leb}
-use lib.ListN.{length}
+use lib.ListN.{length, replicate, length-append, length-replicate}
 use borrow.Author.Tests.{eqb-true}
 use Rattle.folds.specs.Below.{and-right}
 use Rattle.sheet_file.specs.Bytes.{Bytes, byteAt, le16}
 use Rattle.sheet_file.specs.Frame.{fieldAt, framingOf, pointsFrom, GateAt, gate-there, gate-absent, Fields, full-settings, short-settings, fields-of, points-in}
+use Rattle.sheet_file.specs.Grammar.{field, WellFramed, with-gate}
 use Rattle.sheet_file.specs.declared.Layout.{Layout}
 use Rattle.sheet_file.specs.declared.Framing.{Framing}
 use Rattle.sheet_file.specs.declared.Framing.the-variants.{Framed, Misframed}
@@ -47,3 +49,22 @@ module _ (s : List ℕ) (b : Bytes s) where
       go : (x : Framing) → framingOf s ≡ x → x ≡ Misframed
       go (Framed f) e = absurd (omega (arith, framed-end f (fields-of s f e)))
       go Misframed e = refl
+
+-- and there is a well-framed file of this length
+pub record Attained : Type 0 where
+  pub file : List ℕ
+  pub framed : WellFramed file
+  pub size : length file ≡ longest
+
+fields-size : (a g p : List ℕ) → length (field 1 a ++ (field 2 g ++ field 3 p)) ≡ 3 + length a + (3 + length g + (3 + length p))
+fields-size a g p = simp length-append (omega arith)
+
+pub attained : Attained
+attained = go (replicate 21 0) (replicate 17 0) (replicate (20 * 3276) 0) (length-replicate {A = ℕ} 21 0) (length-replicate {A = ℕ} 17 0) (length-replicate {A = ℕ} (20 * 3276) 0)
+  where
+    go : (a g p : List ℕ) → length a ≡ 21 → length g ≡ 17 → length p ≡ 20 * 3276 → Attained
+    go a g p x y z = record {
+      file = field 1 a ++ (field 2 g ++ field 3 p);
+      framed = with-gate a g p (inl x) y (omega arith) refl;
+      size = omega (arith, fields-size a g p);
+    }

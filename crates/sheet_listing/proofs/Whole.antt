@@ -6,7 +6,8 @@ use Prim.{Dec, yes, no}
 use Prim.Native.Nat.{ℕ, _+_, _^_, _≤_, _<_}
 use native.Mathlib.Decide.{decLt}
 use native.Mathlib.Omega.{arith}
-use lib.ListN.{length, getD, length-append}
+use lib.ListN.{length, getD, take, drop, length-append}
+use lib.Seq.{take-all, take-append-seam}
 use borrow.Author.Tests.{le-leb}
 use Rattle.folds.specs.Below.{tally-le}
 use Rattle.folds.specs.Column.{column, column-at, column-over}
@@ -84,3 +85,8 @@ text-fits s b = rw (text-is s) (go (rulingOf s rowsSize) refl)
 -- so list_sheet, lent such a buffer, writes the text whole
 pub whole : (s before after : List ℕ) (r : Written) → Bytes s → listingSize ≤ length before → Shows (textOf s) before after r → r ≡ Whole (length (textOf s))
 whole s before after r b l h = h .answer ∙ rw (le-leb (length (textOf s)) (length before) (omega (arith, text-fits s b)))
+
+-- and its first bytes are then the text
+pub printed : (s before after : List ℕ) (r : Written) → Bytes s → listingSize ≤ length before → Shows (textOf s) before after r → take (length (textOf s)) after ≡ textOf s
+printed s before after r b l h =
+    rw (h .buffer, take-all (length before) (textOf s) (omega (arith, text-fits s b))) (take-append-seam (textOf s) (drop (length (textOf s)) before))
