@@ -42,7 +42,7 @@ harness generate KIND SEED            a sheet file to standard output
 harness kinds                         the kinds of generated sheets
 harness second [BUFFER]               listing of the sheet file on standard input
 harness original                      rows of the original for the sheet file on standard input
-harness vectors FILE [--sheets N] [--seed S] [--most BYTES]
+harness vectors FILE [--sheets N] [--seed S] [--most BYTES] [--full N]
                                       a bundle of files with their expected answers
 harness floats FILE [--count N] [--seed S]
                                       a bundle of single f32 operations
@@ -205,7 +205,8 @@ fn main() -> ExitCode {
         ["vectors", file, ..] => {
             let sheets = option(&args, "--sheets", 230) as usize;
             let most = option(&args, "--most", 2000) as usize;
-            let bundle = vectors::bundle(sheets, option(&args, "--seed", 0), most);
+            let full = option(&args, "--full", 0) as usize;
+            let bundle = vectors::bundle(sheets, option(&args, "--seed", 0), most, full);
             save(file, &bundle);
         }
         ["floats", file, ..] => {

@@ -6,16 +6,19 @@
 //! file length, buffer length, refusal number (0: accepted), points, components, listing length
 //! the file's bytes
 //! the rows, 28 bytes a point (none for a refusal)
-//! the listing's bytes, "refused N" and a newline for a refusal
+//! the listing's bytes, by a buffer with room for every sheet
 //! ```
 //!
 //! A case stands in the bundle only if the original agrees with the second program, where it
 //! is at hand.
 
 use crate::compare::{self, Verdict};
-use crate::generate;
+use crate::generate::{self, Case};
 use crate::second::{self, Answer, Fault};
 use crate::stars;
+
+/// Room for the rows of every sheet.
+const FULL_BUFFER: usize = 28 * 2048;
 
 fn put(out: &mut Vec<u8>, numbers: &[usize]) {
     for &n in numbers {
@@ -25,7 +28,7 @@ fn put(out: &mut Vec<u8>, numbers: &[usize]) {
 
 /// One case of a bundle.
 fn encode(file: &[u8], buffer: usize, answer: &Answer) -> Vec<u8> {
-    let listing = answer.listing();
+    let listing = second::answer(file, FULL_BUFFER, Fault::None).listing();
     let (number, points, components, rows) = match answer {
         Answer::Refused(number) => (usize::from(*number), 0, 0, &[][..]),
         Answer::Accepted {
@@ -53,34 +56,34 @@ fn encode(file: &[u8], buffer: usize, answer: &Answer) -> Vec<u8> {
     out
 }
 
-/// A bundle of document 01's sheets and `sheets` generated cases, of at most `most` bytes of
-/// file each.
-pub fn bundle(sheets: usize, seed: u64, most: usize) -> Vec<u8> {
-    let named = stars::files().into_iter().filter(|file| file.len() <= most);
-    let named: Vec<Vec<u8>> = named
-        .map(|file| {
-            let buffer = file.len() * 2;
-            encode(&file, buffer, &second::answer(&file, buffer, Fault::None))
-        })
-        .collect();
-    let mut cases = Vec::new();
-    let mut i = 0;
-    while cases.len() < sheets {
-        let case = generate::nth(seed, i);
-        i += 1;
-        if case.file.len() > most {
-            continue;
-        }
-        let answer = second::answer(&case.file, case.buffer, Fault::None);
-        match compare::check(&case, &answer) {
-            Verdict::Same => cases.push(encode(&case.file, case.buffer, &answer)),
-            Verdict::AcosOnly => {}
-            Verdict::Different(text) => panic!("{:?} {}: {text}", case.kind, case.seed),
-        }
+/// The case, if the original and the second program agree on it.
+fn agreed(case: &Case) -> Option<Vec<u8>> {
+    let answer = second::answer(&case.file, case.buffer, Fault::None);
+    match compare::check(case, &answer) {
+        Verdict::Same => Some(encode(&case.file, case.buffer, &answer)),
+        Verdict::AcosOnly => None,
+        Verdict::Different(text) => panic!("{:?} {}: {text}", case.kind, case.seed),
     }
+}
+
+/// A bundle of document 01's sheets, `sheets` generated cases of at most `most` bytes of file
+/// each, and `full` generated cases of the most points.
+pub fn bundle(sheets: usize, seed: u64, most: usize, full: usize) -> Vec<u8> {
+    let named = stars::files().into_iter().map(|file| {
+        let buffer = file.len() * 2;
+        encode(&file, buffer, &second::answer(&file, buffer, Fault::None))
+    });
+    let small = (0..)
+        .map(|i| generate::nth(seed, i))
+        .filter(|case| case.file.len() <= most);
+    let large = (seed..)
+        .map(generate::full)
+        .filter(|case| case.buffer >= FULL_BUFFER);
+    let mut cases: Vec<Vec<u8>> = named.collect();
+    cases.extend(small.filter_map(|case| agreed(&case)).take(sheets));
+    cases.extend(large.filter_map(|case| agreed(&case)).take(full));
     let mut out = Vec::new();
-    put(&mut out, &[named.len() + sheets]);
-    out.extend(named.concat());
+    put(&mut out, &[cases.len()]);
     out.extend(cases.concat());
     out
 }

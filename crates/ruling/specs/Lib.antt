@@ -1,4 +1,5 @@
 pub mod Ruling
+pub mod Bounds
 pub mod Sheet
 pub mod Parts
 pub mod Header

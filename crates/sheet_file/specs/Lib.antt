@@ -4,3 +4,4 @@ pub mod Value
 pub mod Frame
 pub mod Refusals
 pub mod Grammar
+pub mod Longest

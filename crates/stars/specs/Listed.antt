@@ -17,6 +17,7 @@ use Rattle.kept.specs.declared.Answer.the-variants.{Accepted}
 use Rattle.stars.specs.Stars.{rules-compute}
 use Rattle.text.specs.Text.{bytes}
 use Rattle.listing.specs.Listing.{listingOf}
+use Rattle.sheet_listing.specs.Text.{textOf}
 
 -- "length-4 settings with cell size 100; points in this order: cell (5,5) index 14 at (500,500); (0,0) 10 at (0,0); (1,0) 11 at (100,0);
 -- (0,1) 12 at (0,100); (1,1) 13 at (100,100)"
@@ -41,12 +42,20 @@ pub answered : answerOf file 140 ≡ Accepted (record { points = 5; components =
 unfolding answerOf file-computes rules-compute
 answered = refl
 
+-- the text of document 01
+abbrev pub shown : List ℕ
+shown = bytes "points 5 components 2\n0 0 10 ---- - -\n0 1 12 ---- - -\n1 0 11 ---- - -\n1 1 13 ---- - -\n5 5 14 ---C - -\nkept 4 validate 0 orientation 0 wrong 0 component 1\n"
+
+-- what is printed of the file
+pub listed : textOf file ≡ shown
+unfolding textOf shownAt rowByte file-computes rules-compute
+listed = refl
+
 -- the points in cell order
 abbrev pub points : List Point
 points = cellOrder (pointsOf file)
 
--- what is printed of the rows that the call leaves in a buffer, which held 255 throughout
-pub listed : listingOf 5 2 (keysOf points) (indicesOf points) (rowsAfter file (replicate 140 255))
-    ≡ bytes "points 5 components 2\n0 0 10 ---- - -\n0 1 12 ---- - -\n1 0 11 ---- - -\n1 1 13 ---- - -\n5 5 14 ---C - -\nkept 4 validate 0 orientation 0 wrong 0 component 1\n"
+-- the same of the rows that the call leaves in a buffer of 28 bytes a point, which held 255 throughout
+pub rows-listed : listingOf 5 2 (keysOf points) (indicesOf points) (rowsAfter file (replicate 140 255)) ≡ shown
 unfolding listingOf rowsAfter shownAt rowByte file-computes rules-compute
-listed = refl
+rows-listed = refl

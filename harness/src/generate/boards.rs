@@ -96,11 +96,7 @@ pub fn varied(r: &mut Random) -> Sheet {
 pub fn large(r: &mut Random) -> Sheet {
     match r.below(40) {
         0 => board(r, 45, 45),
-        1 => {
-            let mut s = board(r, 46, 45);
-            s.points.truncate(MAX_POINTS);
-            s
-        }
+        1 => full(r),
         2 => {
             let mut s = board(r, 1, MAX_POINTS as i32);
             s.points.truncate(MAX_POINTS);
@@ -113,6 +109,13 @@ pub fn large(r: &mut Random) -> Sheet {
             s
         }
     }
+}
+
+/// A board of the most points.
+pub fn full(r: &mut Random) -> Sheet {
+    let mut s = board(r, 46, 45);
+    s.points.truncate(MAX_POINTS);
+    s
 }
 
 /// Blocks of a board with gaps between them, some of one size.

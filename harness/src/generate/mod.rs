@@ -100,6 +100,31 @@ pub fn case(kind: Kind, seed: u64) -> Case {
     }
 }
 
+/// A sheet of the most points, changed and with settings of many kinds.
+pub fn full(seed: u64) -> Case {
+    let mut random = Random::new(seed);
+    let r = &mut random;
+    let mut sheet = boards::full(r);
+    changes::any(r, &mut sheet);
+    if r.one_in(2) {
+        changes::any(r, &mut sheet);
+    }
+    if r.one_in(2) {
+        settings::gate(r, &mut sheet);
+    }
+    if r.one_in(2) {
+        settings::varied(r, &mut sheet);
+    }
+    changes::settle(r, &mut sheet);
+    Case {
+        kind: Kind::Large,
+        seed,
+        buffer: sheet.points.len() * ROW + r.pick(&[0, 1, 100]),
+        file: sheet.to_file(),
+        expected: Expected::Accepted,
+    }
+}
+
 /// Case i of a run: the kinds in turn, each with rising seeds from `seed` on.
 pub fn nth(seed: u64, i: usize) -> Case {
     let kinds = Kind::ALL.len();

@@ -1,0 +1,44 @@
+-- A file longer than every well-framed one, and a result buffer with room for every sheet. Assumes nothing.
+use mathlib.Core.Path.{_≡_, sym}
+use mathlib.Core.List.{List}
+use Prim.{Dec, yes, no}
+use Prim.Native.Nat.{ℕ, _+_, _*_, _≤_, _<_}
+use native.Mathlib.Decide.{decLt}
+use native.Mathlib.Omega.{arith}
+use lib.ListN.{length, getD, take, length-take, List·getD-eq-default}
+use lib.Seq.{take-all, getD-take, length-take-le}
+use borrow.Author.Tests.{ltb-true, ltb-false}
+use Rattle.view.specs.View.{maxPoints}
+use Rattle.sheet_file.specs.Bytes.{Bytes}
+use Rattle.sheet_file.specs.Frame.{framingOf, layoutOf}
+use Rattle.sheet_file.specs.Longest.{longest, too-long}
+use Rattle.ruling.specs.Ruling.{refused, rulingOf, applies, is-given}
+
+module _ (s : List ℕ) (room : ℕ) where
+  pub long-refused : Bytes s → longest < length s → rulingOf s room ≡ refused 1
+  unfolding rulingOf
+  long-refused b l = rw (too-long s b l)
+
+  -- a buffer of 28 bytes for each of the most points is never too short
+  pub never-three : 28 * maxPoints ≤ room → rulingOf s room ≡ refused 3 → ⊥
+  unfolding applies
+  never-three l e =
+      let g = is-given s room 3 e in
+      omega (arith, ltb-true room (28 * layoutOf s .count) (g .holds), ltb-false maxPoints (layoutOf s .count) (g .earlier 2 (omega arith)))
+
+bytes-cut : (s : List ℕ) (n : ℕ) → Bytes s → Bytes (take n s)
+bytes-cut s n b k = go (decLt k n)
+  where
+    go : Dec (k < n) → getD (take n s) k 0 < 256
+    go (yes h) = rw (getD-take n s k 0 h) (b k)
+    go (no h) = rw (List·getD-eq-default (take n s) 0 {n = k} (simp length-take (omega (arith, h)))) (omega arith)
+
+-- a file may be cut one byte after the length of the longest: the ruling stays
+pub cut-ruling : (s : List ℕ) → Bytes s → (room : ℕ) → rulingOf (take (longest + 1) s) room ≡ rulingOf s room
+cut-ruling s b room = go (decLt longest (length s))
+  where
+    go : Dec (longest < length s) → rulingOf (take (longest + 1) s) room ≡ rulingOf s room
+    go (yes l) =
+        rw (long-refused s room b l)
+        (long-refused (take (longest + 1) s) room (bytes-cut s (longest + 1) b) (omega (arith, length-take-le (longest + 1) s (omega arith))))
+    go (no l) = rw (take-all (longest + 1) s (omega (arith, l)))

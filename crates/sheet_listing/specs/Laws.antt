@@ -1,0 +1,33 @@
+-- What is printed of a long file, and where a text ends in a buffer. Assumes nothing.
+use mathlib.Core.Path.{_≡_, refl, sym, _∙_}
+use mathlib.Core.Bool.{Bool, true, false, cond}
+use mathlib.Core.List.{List}
+use Prim.Native.Nat.{ℕ, _+_, _≤_}
+use native.Mathlib.Omega.{arith}
+use lib.Dec.{leb}
+use lib.ListN.{length, take}
+use borrow.Author.Tests.{leb-true}
+use Rattle.sheet_file.specs.Bytes.{Bytes}
+use Rattle.sheet_file.specs.Longest.{longest}
+use Rattle.ruling.specs.Bounds.{cut-ruling}
+use Rattle.kept.specs.Answer.{rowsAfter}
+use Rattle.text.specs.Answer.{Shows}
+use Rattle.text.specs.declared.Written.{Written}
+use Rattle.text.specs.declared.Written.the-variants.{Whole, NoRoom}
+use Rattle.sheet_listing.specs.Text.{rowsSize, noRows, textOf, text-is}
+
+rows-cut : (s rows : List ℕ) → Bytes s → rowsAfter (take (longest + 1) s) rows ≡ rowsAfter s rows
+unfolding rowsAfter
+rows-cut s rows b = rw (cut-ruling s b (length rows))
+
+-- cutting a file one byte after the length of the longest does not change what is printed
+pub cut-text : (s : List ℕ) → Bytes s → textOf (take (longest + 1) s) ≡ textOf s
+cut-text s b = text-is (take (longest + 1) s) ∙ rw (cut-ruling s b rowsSize, rows-cut s noRows b) (sym (text-is s))
+
+-- a text that is written whole ends within the buffer
+pub shown-within : {t before after : List ℕ} {r : Written} {n : ℕ} → Shows t before after r → r ≡ Whole n → n ≤ length before
+shown-within {t} {before} {after} {r} {n} h e = go (leb (length t) (length before)) refl (sym (h .answer) ∙ e)
+  where
+    go : (b : Bool) → leb (length t) (length before) ≡ b → cond b (Whole (length t)) NoRoom ≡ Whole n → n ≤ length before
+    go true l q = let z : length t ≡ n = cc in omega (arith, leb-true (length t) (length before) l)
+    go false l q = absurd (let z : _≡_ {A = ℕ} 0 1 = cc in omega arith)

@@ -1,0 +1,16 @@
+-- `sheet_vectors::read_part` is safe and ends. Assumes nothing.
+use mathlib.Core.Path.{sym}
+use native.Mathlib.Omega.{arith}
+use lib.Seq.{length-take-le}
+use borrow.Author.Needs.{needs}
+use Rattle.sheet_vectors.proofs.read_part.Statement.{statement}
+use Rattle.sheet_vectors.proofs.read_part.Tie as tie
+
+slice-aggregate-read-full : tie.Need-slice-aggregate-read-full
+slice-aggregate-read-full c = sym (length-take-le _ _ (omega arith))
+
+pub read-part-spec : {M : Type 1} → statement M
+read-part-spec =
+    tie.close
+    (tie.spec (λ c. search needs) (λ c. search needs) slice-aggregate-read-full (λ c κs. search needs) (λ c. search needs)
+    (λ c. search needs))
