@@ -17,6 +17,7 @@ use Rattle.folds.specs.Lists.{listed, listed-length, listed-ext}
 use Rattle.folds.specs.Column.{column-at}
 use Rattle.float.specs.Constants.{overlongRatio, globalOverlongRatio}
 use Rattle.median.specs.Median.{medianOf, over-median-of}
+use Rattle.median.specs.Packed.{positives}
 use Rattle.view.specs.View.{View, maxPoints, viewAt, own, rankAt, present}
 use Rattle.marks.specs.Arrays.{nearView}
 use Rattle.edges.specs.declared.EdgeColumns.{EdgeColumns}
@@ -38,10 +39,6 @@ module _ (w : View) (E : ℕ → Edge) where
   ratio-positive : T (positive-float overlongRatio)
   unfolding ofBits
   ratio-positive = tt
-
-  global-positive : T (positive-float globalOverlongRatio)
-  unfolding ofBits
-  global-positive = tt
 
   in-positive : (k i : ℕ) → inWindow w E k i ≡ true → lt zeroF (E (rankAt w k i) .len) ≡ true
   unfolding inWindow
@@ -87,16 +84,9 @@ module _ (w : View) (E : ℕ → Edge) where
       ∙ ap (λ l. lt (overlongRatio ⊗ medianOf l) (E k .len)) (lens-are k)
       ∙ over-median-of overlongRatio (E k .len) ratio-positive (inWindow w E k) (λ i. E (rankAt w k i) .len) 25 (λ i l p. in-positive k i p) (omega (arith, leb-true 5 (tally (inWindow w E k) 25) h))
 
-  global : (k : ℕ) → leb 8 (tally (positive w E) (w .count)) ≡ true
-      → overlong globalOverlongRatio (sheetLens w E) (E k .len) ≡ ltb (tally (positive w E) (w .count) / 2) (tally (λ i. positive w E i && lt (globalOverlongRatio ⊗ E i .len) (E k .len)) (w .count))
-  global k h =
-      over-is globalOverlongRatio (sheetLens w E) (E k .len)
-      ∙ ap (λ l. lt (globalOverlongRatio ⊗ medianOf l) (E k .len)) sheet-is
-      ∙ over-median-of globalOverlongRatio (E k .len) global-positive (positive w E) (λ i. E i .len) (w .count) (λ i l p. p) (omega (arith, leb-true 8 (tally (positive w E) (w .count)) h))
-
-  -- The verdict from counts alone: v is the window of rank k's edge, t the number of positive lengths on the sheet.
+  -- The verdict: v is the window of rank k's edge, t the number of positive lengths on the sheet.
   pub fails-by : (k : ℕ) (v : Window) (t : ℕ) → v ≡ windowTo w E k (E k .len) 25 → t ≡ tally (positive w E) (w .count)
-      → fails w E k ≡ positive w E k && cond (leb 5 (v .count)) (ltb (v .count / 2) (v .under) || offAxis (v .sx) (v .sy) (E k .ux) (E k .uy)) (leb 8 t && ltb (t / 2) (tally (λ i. positive w E i && lt (globalOverlongRatio ⊗ E i .len) (E k .len)) (w .count)))
+      → fails w E k ≡ positive w E k && cond (leb 5 (v .count)) (ltb (v .count / 2) (v .under) || offAxis (v .sx) (v .sy) (E k .ux) (E k .uy)) (leb 8 t && lt (globalOverlongRatio ⊗ medianOf (sheetLens w E)) (E k .len))
   fails-by k v t e f =
       let a : length (windowLens w E k) ≡ tally (inWindow w E k) 25 = ap length (lens-are k) ∙ listed-length (inWindow w E k) (λ i. E (rankAt w k i) .len) 25 in
       let b : length (sheetLens w E) ≡ tally (positive w E) (w .count) = ap length sheet-is ∙ listed-length (positive w E) (λ i. E i .len) (w .count) in
@@ -105,7 +95,12 @@ module _ (w : View) (E : ℕ → Edge) where
       (ap (λ r. positive w E k && r)
       (cond-ext (leb 5 (tally (inWindow w E k) 25))
       (λ h. ap (λ r. r || offAxis (sumOf (inWindow w E k) (λ i. E (rankAt w k i) .ux) 25) (sumOf (inWindow w E k) (λ i. E (rankAt w k i) .uy) 25) (E k .ux) (E k .uy)) (local k h))
-      (and-under (leb 8 (tally (positive w E) (w .count))) (global k))))
+      (ap (λ r. leb 8 (tally (positive w E) (w .count)) && r) (over-is globalOverlongRatio (sheetLens w E) (E k .len)))))
+
+-- the sheet's lengths, read from an array
+pub sheet-held : (n : ℕ) (near : List ℕ) (len ux uy : List Float) → sheetLens (nearView n near) (held len ux uy) ≡ positives len n
+unfolding sheetLens positives
+sheet-held n near len ux uy = refl
 
 -- ---- what a verdict depends on
 

@@ -1,17 +1,21 @@
 -- Words of the inner contracts: edges read from three arrays, and a window so far. Assumes nothing.
-use mathlib.Core.Bool.{Bool, cond, _&&_, _||_}
+use mathlib.Core.Path.{_≡_}
+use mathlib.Core.Bool.{Bool, true, cond, _&&_, _||_}
 use mathlib.Core.List.{List}
-use Prim.Native.Nat.{ℕ, _+_}
+use Prim.Native.Nat.{ℕ, _+_, _≤_, _<_}
 use lib.Dec.{eqb, ltb}
 use lib.ListN.{getD}
 use lib.Ieee.{Float, nan, lt}
-use Rattle.folds.specs.Arith.{_⊕_, _⊗_}
+use Rattle.folds.specs.Arith.{_⊕_, _⊗_, zeroF}
 use Rattle.folds.specs.Below.{tally, sumOf}
-use Rattle.float.specs.Constants.{overlongRatio}
-use Rattle.view.specs.View.{View, rankAt}
+use Rattle.float.specs.Constants.{overlongRatio, globalOverlongRatio}
+use Rattle.median.specs.Median.{medianOf}
+use Rattle.median.specs.Packed.{positives}
+use Rattle.view.specs.View.{View, maxPoints, rankAt}
 use Rattle.edges.specs.Edges.{Edge}
 use Rattle.judged_edges.specs.Judged.{inWindow}
 use Rattle.judged_edges.specs.declared.Window.{Window}
+use Rattle.judged_edges.specs.declared.Limit.{Limit}
 
 -- the edges that three arrays hold
 abbrev pub held : List Float → List Float → List Float → ℕ → Edge
@@ -36,6 +40,17 @@ stepped t u x y v =
       sx = cond t (v .sx ⊕ x) (v .sx);
       sy = cond t (v .sy ⊕ y) (v .sy);
     }
+
+-- a limit that is known is 1.6 times the median of the positive lengths
+abbrev pub Limits : List Float → ℕ → Limit → Type 0
+Limits len n l = l .known ≡ true → l .value ≡ globalOverlongRatio ⊗ medianOf (positives len n)
+
+-- what the verdict on rank k's edge is asked with
+pub record Asked (n : ℕ) (len : List Float) (k total : ℕ) (l : Limit) : Type 0 where
+  pub few : n ≤ maxPoints
+  pub below : k < n
+  pub total-is : total ≡ tally (λ i. lt zeroF (getD len i nan)) n
+  pub limits : Limits len n l
 
 -- an edge to a point below n that fails has its ends at k and e
 abbrev pub failingEnds : ℕ → (ℕ → ℕ) → (ℕ → Bool) → ℕ → ℕ → Bool

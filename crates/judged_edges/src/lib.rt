@@ -5,24 +5,37 @@ use float::constants::OVERLONG_RATIO;
 use view::MAX_POINTS;
 use view::NEAR_SIZE;
 ghost use mathlib.Core.Path.{_≡_};
-ghost use mathlib.Core.Bool.{_&&_};
+ghost use mathlib.Core.Bool.{true, _&&_, _||_};
+ghost use lib.Dec.{ltb};
 ghost use Prim.Native.Nat.{ℕ, _+_, _*_, _/_, _≤_, _<_};
 ghost use lib.ListN.{length, getD};
 ghost use lib.Ieee.{nan, lt};
 ghost use Rattle.folds.specs.Arith.{_⊗_, zeroF};
 ghost use Rattle.folds.specs.Below.{some, tally};
 ghost use Rattle.folds.specs.Marked.{Marked};
-ghost use Rattle.float.specs.Constants.{overlongRatio, globalOverlongRatio};
+ghost use Rattle.float.specs.Constants.{overlongRatio};
 ghost use Rattle.view.specs.View.{maxPoints, rankAt};
 ghost use Rattle.marks.specs.Arrays.{nearView};
 ghost use Rattle.judged_edges.specs.Judged.{positive, inWindow, offAxis, fails};
-ghost use Rattle.judged_edges.specs.Inner.{held, windowTo, stepped, failingEnds};
+ghost use Rattle.judged_edges.specs.Inner.{held, windowTo, stepped, Limits, Asked, failingEnds};
 
 pub struct Window {
     pub count: usize,
     pub under: usize,
     pub sx: f32,
     pub sy: f32,
+}
+
+// 1.6 times the median of the sheet's positive lengths, where it is known: only an edge with few others in its window asks for it.
+pub struct Limit {
+    pub known: bool,
+    pub value: f32,
+}
+
+// Whether an edge fails, and the sheet's limit, if it is known by then.
+pub struct Verdict {
+    pub fails: bool,
+    pub limit: Limit,
 }
 
 // The window v with the edge at offset j from rank k.
@@ -107,16 +120,6 @@ fn off_axis(sx: f32, sy: f32, ux: f32, uy: f32) -> bool
     false
 }
 
-// Whether a length is positive and, times 1.6, under own.
-fn under(l: f32, own: f32) -> bool
-    ensures { λ r. ⌜ r ≡ lt zeroF l && lt (globalOverlongRatio ⊗ l) own ⌝ }
-{
-    if 0.0 < l {
-        return GLOBAL_OVERLONG_RATIO * l < own;
-    }
-    false
-}
-
 // How many edges of the sheet have a positive length.
 fn sheet_count(len: &[f32; MAX_POINTS], n: usize) -> usize
     requires { ⌜ n ≤ maxPoints ⌝ }
@@ -131,18 +134,28 @@ fn sheet_count(len: &[f32; MAX_POINTS], n: usize) -> usize
     c
 }
 
-// How many of these are, times 1.6, under own.
-fn sheet_under(len: &[f32; MAX_POINTS], n: usize, own: f32) -> usize
-    requires { ⌜ n ≤ maxPoints ⌝ }
-    ensures { λ r. ⌜ r ≡ tally (λ (k : ℕ). lt zeroF (getD (now (len .entry)) k nan) && lt (globalOverlongRatio ⊗ getD (now (len .entry)) k nan) own) n ⌝ }
+// The sheet's limit, taken where it is not known yet.
+fn sheet_limit(limit: Limit, len: &[f32; MAX_POINTS], n: usize) -> Limit
+    requires { ⌜ (n ≤ maxPoints) × Limits (now len) n limit ⌝ }
+    ensures { λ r. ⌜ (r .known ≡ true) × Limits (now (len .entry)) n r ⌝ }
 {
-    let mut c = 0;
-    let mut k = 0;
-    while k < n {
-        c = marks::one_more(under(len[k], own), c);
-        k += 1;
+    if limit.known {
+        return limit;
     }
-    c
+    Limit {
+        known: true,
+        value: GLOBAL_OVERLONG_RATIO * median::middle(len, n),
+    }
+}
+
+// Whether an edge with the unit vector (ux, uy) fails by its window, which has counted the edges under it.
+fn fails_in(v: Window, ux: f32, uy: f32) -> bool
+    ensures { λ r. ⌜ r ≡ ltb (v .count / 2) (v .under) || offAxis (v .sx) (v .sy) ux uy ⌝ }
+{
+    if v.count / 2 < v.under {
+        return true;
+    }
+    off_axis(v.sx, v.sy, ux, uy)
 }
 
 // Whether the edge that starts at rank k fails; total edges of the sheet have a positive length.
@@ -154,24 +167,32 @@ fn fails_at(
     n: usize,
     k: usize,
     total: usize,
-) -> bool
-    requires { ⌜ (n ≤ maxPoints) × (k < n) × (total ≡ tally (λ (k : ℕ). lt zeroF (getD (now len) k nan)) n) ⌝ }
-    ensures { λ r. ⌜ r ≡ fails (nearView n (now (near .entry))) (held (now (len .entry)) (now (ux .entry)) (now (uy .entry))) k ⌝ }
+    limit: Limit,
+) -> Verdict
+    requires { ⌜ Asked n (now len) k total limit ⌝ }
+    ensures { λ r. ⌜ (r .fails ≡ fails (nearView n (now (near .entry))) (held (now (len .entry)) (now (ux .entry)) (now (uy .entry))) k) × Limits (now (len .entry)) n (r .limit) ⌝ }
 {
     let own = len[k];
     if 0.0 < own {
         let v = window_at(near, len, ux, uy, n, k, own);
         if 5 <= v.count {
-            if v.count / 2 < v.under {
-                return true;
-            }
-            return off_axis(v.sx, v.sy, ux[k], uy[k]);
+            return Verdict {
+                fails: fails_in(v, ux[k], uy[k]),
+                limit: limit,
+            };
         }
         if 8 <= total {
-            return total / 2 < sheet_under(len, n, own);
+            let sheet = sheet_limit(limit, len, n);
+            return Verdict {
+                fails: sheet.value < own,
+                limit: sheet,
+            };
         }
     }
-    false
+    Verdict {
+        fails: false,
+        limit: limit,
+    }
 }
 
 // Marks the ends of the edge that starts at rank k, if it fails.
@@ -184,20 +205,23 @@ fn mark_edge(
     offset: usize,
     k: usize,
     total: usize,
+    limit: Limit,
     mark: &mut [u8; MAX_POINTS],
-)
-    requires { ⌜ (n ≤ maxPoints) × (offset < 25) × (k < n) × (total ≡ tally (λ (k : ℕ). lt zeroF (getD (now len) k nan)) n) ⌝ }
-    ensures { λ r. ⌜ Marked (failingEnds n (λ (i : ℕ). rankAt (nearView n (now (near .entry))) i offset) (fails (nearView n (now (near .entry))) (held (now (len .entry)) (now (ux .entry)) (now (uy .entry)))) k) (now (mark .entry)) (now (mark .exit)) ⌝ }
+) -> Limit
+    requires { ⌜ (offset < 25) × Asked n (now len) k total limit ⌝ }
+    ensures { λ r. ⌜ Marked (failingEnds n (λ (i : ℕ). rankAt (nearView n (now (near .entry))) i offset) (fails (nearView n (now (near .entry))) (held (now (len .entry)) (now (ux .entry)) (now (uy .entry)))) k) (now (mark .entry)) (now (mark .exit)) × Limits (now (len .entry)) n r ⌝ }
 {
     let e = view::wide(near[25 * k + offset]);
     if n <= e {
-        return;
+        return limit;
     }
-    if fails_at(near, len, ux, uy, n, k, total) {
+    let verdict = fails_at(near, len, ux, uy, n, k, total, limit);
+    if verdict.fails {
         mark[k] = 1;
         mark[e] = 1;
-        return;
+        return verdict.limit;
     }
+    verdict.limit
 }
 
 // Marks the ends of each edge that fails.
@@ -214,9 +238,14 @@ fn mark_edges(
     ensures { λ r. ⌜ Marked (λ (m : ℕ). some (λ (k : ℕ). failingEnds n (λ (i : ℕ). rankAt (nearView n (now (near .entry))) i offset) (fails (nearView n (now (near .entry))) (held (now (len .entry)) (now (ux .entry)) (now (uy .entry)))) k m) n) (now (mark .entry)) (now (mark .exit)) ⌝ }
 {
     let total = sheet_count(len, n);
+    let mut limit = Limit {
+        known: false,
+        value: 0.0,
+    };
     let mut k = 0;
     while k < n {
-        mark_edge(near, len, ux, uy, n, offset, k, total, mark);
+        let next = mark_edge(near, len, ux, uy, n, offset, k, total, limit, mark);
+        limit = next;
         k += 1;
     }
 }

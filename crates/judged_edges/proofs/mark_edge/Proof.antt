@@ -5,13 +5,19 @@ use Rattle.judged_edges.proofs.mark_edge.Statement.{statement}
 use Rattle.judged_edges.proofs.mark_edge.Tie as tie
 
 returns : tie.Need-returns
-returns c = marked-none _ _ (λ m. rw (← c .before .wide .ensures, le-ltb _ _ (c .if1 .taken)))
+returns c = (marked-none _ _ (λ m. rw (← c .before .wide .ensures, le-ltb _ _ (c .if1 .taken))), c .before .before .before .pre .1 .limits)
 
 returns-2 : tie.Need-returns-2
-returns-2 c = let i = c .before .before in marked-as _ _ (λ m l. rw (← i .before .wide .ensures, lt-ltb _ _ (i .if1 .left), ← c .before .fails-at .ensures, c .if2 .taken)) (marked-then _ _ (marked-one _ _) (marked-one _ _))
+returns-2 c =
+    let v = c .before .before .fails-at .ensures in
+    let i = c .before .before .before in
+    (marked-as _ _ (λ m l. rw (← i .before .wide .ensures, lt-ltb _ _ (i .if1 .left), ← v .0, c .before .if2 .taken)) (marked-then _ _ (marked-one _ _) (marked-one _ _)), v .1)
 
 returns-3 : tie.Need-returns-3
-returns-3 c = let i = c .before .before in marked-none _ _ (λ m. rw (← i .before .wide .ensures, lt-ltb _ _ (i .if1 .left), ← c .before .fails-at .ensures, c .if2 .left))
+returns-3 c =
+    let v = c .before .before .fails-at .ensures in
+    let i = c .before .before .before in
+    (marked-none _ _ (λ m. rw (← i .before .wide .ensures, lt-ltb _ _ (i .if1 .left), ← v .0, c .before .if2 .left)), v .1)
 
 pub mark-edge-spec : {M : Type 1} → statement M
 mark-edge-spec =
