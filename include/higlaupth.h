@@ -52,7 +52,7 @@ enum higlaupth_refusal {
     HIGLAUPTH_BAD_CELL = 6,        /* A u or v lies outside -8,000 to 8,000. */
     HIGLAUPTH_BAD_POSITION = 7,    /* A position is not finite or exceeds 16,384 in magnitude. */
     HIGLAUPTH_REPEATED_CELL = 8,   /* Two points have the same cell. */
-    HIGLAUPTH_TWO_POSITIONS = 9       /* One index stands at positions with different bits. */
+    HIGLAUPTH_TWO_POSITIONS = 9    /* One index stands at positions with different bits. */
 };
 
 /*
