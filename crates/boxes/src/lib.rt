@@ -61,6 +61,14 @@ fn farthest(
     far
 }
 
+// Whether the cell lies as far one way as the patch with label s reaches.
+fn reaches(key: u32, way: usize, s: usize, far: &[u16; MAX_POINTS]) -> bool
+    requires { ⌜ (key < 2 ^ 28) × (s < maxPoints) ⌝ }
+    ensures { λ r. ⌜ r ≡ not (ltb (extent way key) (at (now (far .entry)) s)) ⌝ }
+{
+    !(extent_of(key, way) < far[s])
+}
+
 // Whether a cell lies as far one way as its patch does, or another way, or a third or a fourth.
 fn on_boundary(
     key: u32,
@@ -77,16 +85,16 @@ fn on_boundary(
     if n <= s {
         return 0;
     }
-    if b[s] <= extent_of(key, 1) {
+    if reaches(key, 1, s, b) {
         return 1;
     }
-    if a[s] <= extent_of(key, 0) {
+    if reaches(key, 0, s, a) {
         return 1;
     }
-    if d[s] <= extent_of(key, 3) {
+    if reaches(key, 3, s, d) {
         return 1;
     }
-    if c[s] <= extent_of(key, 2) {
+    if reaches(key, 2, s, c) {
         return 1;
     }
     0

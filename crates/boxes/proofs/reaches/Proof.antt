@@ -1,0 +1,10 @@
+-- `boxes::reaches` meets its contract. Assumes nothing.
+use borrow.Author.Needs.{needs}
+use Rattle.boxes.proofs.reaches.Statement.{statement}
+use Rattle.boxes.proofs.reaches.Tie as tie
+
+returns : tie.Need-returns
+returns c = rw (c .before .extent-of .ensures)
+
+pub reaches-spec : {M : Type 1} → statement M
+reaches-spec = tie.close (tie.spec (λ c κs. search needs) (λ c. search needs) (λ c. search needs) returns)
