@@ -71,7 +71,8 @@ fn substitute(m: [[f32; 8]; 8], b: [f32; 8]) -> Solution
 }
 
 // Column by column: the pivot is searched, its row exchanged, and the rows below reduced. All in place, since a call that takes and returns the
-// matrix copies it.
+// matrix copies it. The search starts anew after each larger entry, in a loop of its own: so it is compiled to jumps, which the processor
+// foresees, and the pivot's row is read without waiting for the comparisons.
 pub fn solve(a: [[f32; 8]; 8], b: [f32; 8]) -> Solution
     ensures { λ r. ⌜ r ≡ solutionOf a b ⌝ }
 {
@@ -82,15 +83,16 @@ pub fn solve(a: [[f32; 8]; 8], b: [f32; 8]) -> Solution
         let i = next;
         next += 1;
         let mut best = i;
-        let mut largest = float::abs(m[i][i]);
         let mut rest = next;
         while rest < 8 {
-            let k = rest;
-            rest += 1;
-            let size = float::abs(m[k][i]);
-            if largest < size {
-                best = k;
-                largest = size;
+            let largest = float::abs(m[best][i]);
+            while rest < 8 {
+                let k = rest;
+                rest += 1;
+                if largest < float::abs(m[k][i]) {
+                    best = k;
+                    break;
+                }
             }
         }
         let p = m[best];
