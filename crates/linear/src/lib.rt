@@ -95,16 +95,17 @@ pub fn solve(a: [[f32; 8]; 8], b: [f32; 8]) -> Solution
                 }
             }
         }
-        let p = m[best];
-        if p[i] == 0.0 {
+        let pivot = m[best][i];
+        if pivot == 0.0 {
             continue;
         }
+        let p = m[best];
         m[best] = m[i];
         m[i] = p;
         let t = y[best];
         y[best] = y[i];
         y[i] = t;
-        let inverse = 1.0 / p[i];
+        let inverse = 1.0 / pivot;
         let mut k = next;
         while k < 8 {
             let t = m[k][i] * inverse;

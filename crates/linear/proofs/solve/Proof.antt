@@ -49,16 +49,16 @@ abbrev μ-loop2 : tie.MeasureT-loop2
 μ-loop2 m y next i best₀ rest₀ best rest = 8 - rest
 
 abbrev Inv-loop5 : tie.InvT-loop5
-Inv-loop5 m₀ y next i best rest p t inverse k t' j₀ m j = run (reduceEntry p k t') j 8 m ≡ run (reduceEntry p k t') j₀ 8 m₀
+Inv-loop5 m₀ y next i best rest pivot p t inverse k t' j₀ m j = run (reduceEntry p k t') j 8 m ≡ run (reduceEntry p k t') j₀ 8 m₀
 
 abbrev μ-loop5 : tie.MeasureT-loop5
-μ-loop5 m₀ y next i best rest p t inverse k t' j₀ m j = 8 - j
+μ-loop5 m₀ y next i best rest pivot p t inverse k t' j₀ m j = 8 - j
 
 abbrev Inv-loop4 : tie.InvT-loop4
-Inv-loop4 m₀ y next i best rest p t inverse k₀ m k = run (reduceRow p i inverse) k 8 m ≡ run (reduceRow p i inverse) k₀ 8 m₀
+Inv-loop4 m₀ y next i best rest pivot p t inverse k₀ m k = run (reduceRow p i inverse) k 8 m ≡ run (reduceRow p i inverse) k₀ 8 m₀
 
 abbrev μ-loop4 : tie.MeasureT-loop4
-μ-loop4 m₀ y next i best rest p t inverse k₀ m k = 8 - k
+μ-loop4 m₀ y next i best rest pivot p t inverse k₀ m k = 8 - k
 
 abbrev Inv-loop : tie.InvT-loop
 Inv-loop m₀ y₀ next₀ m y next = run eliminateColumn next 8 (record { rows = m; right = y }) ≡ run eliminateColumn next₀ 8 (record { rows = m₀; right = y₀ })
@@ -99,7 +99,7 @@ loop-again c =
 loop-again-2 : tie.Need-loop-again-2 Inv-loop3 μ-loop3 Inv-loop2 μ-loop2 Inv-loop5 μ-loop5 Inv-loop4 μ-loop4 Inv-loop μ-loop
 unfolding pivotRow
 loop-again-2 c =
-    let b = c .before .before .before in
+    let b = c .before .before .before .before in
     let l = b .before .before .before .loop2 in
     eliminated _ _ _ (b .before .before .before .before .loop-test .taken)
     (cleared _ _ _ _ (sym (run-done _ _ _ _ (b .before .before .loop2-test .left)) ∙ l .inv .1) _ (b .if2 .left) (sym (run-done _ _ _ _ (c .loop4-test .left)) ∙ c .before .loop4 .inv))
