@@ -37,6 +37,10 @@ pub root-of-minus-zero : ofBits binary32 0x8000_0000 ≡ rootOf (ofBits binary32
 unfolding rootOf ofBits
 root-of-minus-zero = refl
 
+pub root-of-one : ofBits binary32 0x3f80_0000 ≡ rootOf (ofBits binary32 0x3f80_0000)
+unfolding rootOf ofBits
+root-of-one = refl
+
 pub root-of-infinity : ofBits binary32 0x7f80_0000 ≡ rootOf (ofBits binary32 0x7f80_0000)
 unfolding rootOf ofBits
 root-of-infinity = refl

@@ -70,6 +70,6 @@ pub record Stepped (n r q : ℕ) : Type 0 where
 pub stepped : (n r q : ℕ) → 0 < r → q ≡ (r + n / r) / 2 → Stepped n r q
 stepped n r q R e = rw e (record { above = newton-above n r R; half = omega arith; less = newton-less n r; bound = newton-bound n r R })
 
--- a first guess r of at least 7 * 2 ^ 20
-pub first-step : (n r q : ℕ) → n < 2 ^ 48 → 0x70_0000 ≤ r → r ≤ 2 ^ 24 → q ≡ (r + n / r) / 2 → q < 2 ^ 26
+-- a first guess r of at least 2 ^ 22
+pub first-step : (n r q : ℕ) → n < 2 ^ 48 → 0x40_0000 ≤ r → r ≤ 2 ^ 25 → q ≡ (r + n / r) / 2 → q < 2 ^ 26
 first-step n r q N l h e = omega (arith, div-lt-iff-lt-mul {k = r} {x = n} {y = 2 ^ 26} (omega arith) .1 (omega arith))

@@ -15,13 +15,24 @@ fn newton(n: u64, r: u64) -> u64
     (r + n / r) / 2
 }
 
-// The root of n, rounded down. A step ends at that root or above it. From this first guess, which for n of 47 or 48 bits is off by an
-// eighth at most, three steps nearly always reach it, so that the loop's branch costs little.
+// Near the root of n: for n of 47 or 48 bits, off by 0.8 percent at most.
+fn first_guess(n: u64) -> u64
+    requires { ⌜ n < 2 ^ 48 ⌝ }
+    ensures { λ r. ⌜ (0x40_0000 ≤ r) × (r ≤ 2 ^ 25) ⌝ }
+{
+    if n < 0x8000_0000_0000 {
+        return 0x4b_8a26 + n / 0x80_0000 * 27349 / 65536;
+    }
+    0x6a_d438 + n / 0x100_0000 * 38677 / 65536
+}
+
+// The root of n, rounded down. A step ends at that root or above it. From the first guess two steps nearly always reach it, so that the
+// loop's branch costs little.
 fn floor_root(n: u64) -> u64
     requires { ⌜ n < 2 ^ 48 ⌝ }
     ensures { λ r. ⌜ r ≡ floorRoot 24 n ⌝ }
 {
-    let mut r = newton(n, newton(n, newton(n, 0x70_0000 + n / 0x200_0000)));
+    let mut r = newton(n, newton(n, first_guess(n)));
     while n < r * r {
         r = newton(n, r);
     }
@@ -58,7 +69,8 @@ fn root_bits(b: u32) -> u32
     root_pattern(0x80_0000 + b % 0x80_0000, b / 0x80_0000 + 25)
 }
 
-// The nearest f32 to the root of x. The roots of -0 and of +infinity are themselves, and that of a negative number is NaN.
+// The nearest f32 to the root of x. The roots of -0 and of +infinity are themselves, and that of a negative number is NaN. That of 1 is
+// given at once: four of the nine roots of a fit to the four nearest cells are of 1.
 pub fn sqrt(x: f32) -> f32
     ensures { λ r. ⌜ r ≡ rootOf x ⌝ }
 {
@@ -67,6 +79,9 @@ pub fn sqrt(x: f32) -> f32
     }
     let b = f32::to_bits(x);
     if b == 0 {
+        return x;
+    }
+    if b == 0x3f80_0000 {
         return x;
     }
     if b < 0x7f80_0000 {

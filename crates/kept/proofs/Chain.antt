@@ -24,8 +24,7 @@ use Rattle.drop_set.specs.declared.DropSet.{DropSet}
 use Rattle.rows.specs.Rows.{shownAt, rowByte}
 use Rattle.kept.specs.Marks.{wrongMark, earlierMark, droppedOf, componentsOf, countIn, marksAt, marksOf}
 use Rattle.kept.specs.Arrays.{row-ranks, column-ranks, index-ranks}
-use Rattle.kept.specs.Ready.{Indexed, Taken, KeptOf, Written}
-use Rattle.kept.specs.declared.Kept.{Kept}
+use Rattle.kept.specs.Ready.{Indexed, Taken, Filtered, Written}
 use Rattle.kept.specs.declared.Answer.the-variants.{Accepted}
 
 -- ---- the marks
@@ -113,11 +112,13 @@ module _ (s : Settings) (n : ℕ) (near keys byIdx : List ℕ) (xs ys : List Flo
   pub drops-given : {m : List ℕ} → m ≡ validateMarks s w keys → Given n m near row line byIdx xs ys u v
   drops-given {m} e = record { validates = λ k h. rw (e, validate-at s w keys k h) (bit-le (validateMark s w keys k)); ready = label-ready }
 
-  pub all-kept : (r : Validated) (d : DropSet) → Judged s w keys r → Dropped w (r .marks) (s .«cell_size») (s .«apply_wrong_label_drops») (s .«apply_largest_component») (d .marks) (d .components)
-      → KeptOf s (viewAt n near (rowsOf n keys) (columnsOf n keys) byIdx xs ys) keys (record { marks = d .marks; has = r .has; value = r .value; figures = r .figures; boundary = r .boundary; components = d .components })
-  all-kept r d j h =
+  pub filtered : (r : Validated) (d : DropSet) (g : Bool) (before after : List ℕ) → Judged s w keys r
+      → Dropped w (r .marks) (s .«cell_size») (s .«apply_wrong_label_drops») (s .«apply_largest_component») (d .marks) (d .components) → g ≡ isGated (s .«edge_shape»)
+      → after ≡ overlaid (28 * n) (rowByte (shownAt (d .marks) (r .has) (r .value) g byIdx (r .figures) (r .boundary))) before
+      → Filtered s n (viewAt n near (rowsOf n keys) (columnsOf n keys) byIdx xs ys) keys byIdx before after (d .components)
+  filtered r d g before after j h e o =
       rw (← a, ← b)
-      (record { marks = all-marks s w keys (j .marks) h; has = j .has; value = j .value; figures = j .figures; boundary = j .boundary; components = all-count s w keys (j .marks) h })
+      (record { rows = o ∙ rw (all-marks s w keys (j .marks) h, j .has, j .value, e, j .figures, j .boundary) refl; count = all-count s w keys (j .marks) h })
 
 -- ---- the rows
 
@@ -125,9 +126,6 @@ module _ (s : Settings) (n : ℕ) (t : Table) (rows near byIdx : List ℕ) (a : 
   pub indexed : Taken n t rows → Indexed n (t .keys) byIdx (t .x) (t .y)
   indexed h = record { arrays = h .arrays; ranks = rw b (index-ranks n (t .idx)) }
 
-  pub written : (r : Kept) (g : Bool) (after : List ℕ) → KeptOf s (viewAt n near (rowsOf n (t .keys)) (columnsOf n (t .keys)) byIdx (t .x) (t .y)) (t .keys) r → g ≡ isGated (s .«edge_shape»)
-      → after ≡ overlaid (28 * n) (rowByte (shownAt (r .marks) (r .has) (r .value) g byIdx (r .figures) (r .boundary))) rows
-      → Written s n t rows after (Accepted (record { points = n; components = r .components }))
-  written r g after k e h =
-      let q = rw (a, b) at k in
-      record { answer = rw (q .components) refl; rows = h ∙ rw (q .marks, q .has, q .value, e, b, q .figures, q .boundary) refl }
+  pub written : (after : List ℕ) (c : ℕ) → Filtered s n (viewAt n near (rowsOf n (t .keys)) (columnsOf n (t .keys)) byIdx (t .x) (t .y)) (t .keys) byIdx rows after c
+      → Written s n t rows after (Accepted (record { points = n; components = c }))
+  written after c k = let q = rw (a, b) at k in record { answer = rw (q .count) refl; rows = q .rows }

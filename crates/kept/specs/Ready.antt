@@ -17,7 +17,6 @@ use Rattle.kept.specs.Marks.{marksOf, countIn}
 use Rattle.kept.specs.Arrays.{Arrays, sheetView}
 use Rattle.kept.specs.declared.Answer.{Answer}
 use Rattle.kept.specs.declared.Answer.the-variants.{Accepted}
-use Rattle.kept.specs.declared.Kept.{Kept}
 
 -- the arrays, and the places of the indices
 pub record Indexed (n : ℕ) (keys byIdx : List ℕ) (xs ys : List Float) : Type 0 where
@@ -29,18 +28,14 @@ pub record Taken (n : ℕ) (t : Table) (rows : List ℕ) : Type 0 where
   pub arrays : Arrays n (t .keys) (t .x) (t .y)
   pub room : 28 * n ≤ length rows
 
--- what the filters give of a sheet
-pub record KeptOf (s : Settings) (w : View) (keys : List ℕ) (r : Kept) : Type 0 where
-  pub marks : r .marks ≡ marksOf s w keys
-  pub has : r .has ≡ residualsOf s w keys .has
-  pub value : r .value ≡ residualsOf s w keys .value
-  pub figures : r .figures ≡ figuresOf s w keys
-  pub boundary : r .boundary ≡ boundaryIn s w keys
-  pub components : r .components ≡ countIn s w keys
-
--- what the rows show, and the answer, by the arrays of n points
+-- what the rows show, by the arrays of n points
 abbrev pub shownBy : Settings → View → List ℕ → List ℕ → ℕ → Shown
 shownBy s w keys byIdx = shownAt (marksOf s w keys) (residualsOf s w keys .has) (residualsOf s w keys .value) (isGated (s .«edge_shape»)) byIdx (figuresOf s w keys) (boundaryIn s w keys)
+
+-- what the filters give: the rows that they write, and the count
+pub record Filtered (s : Settings) (n : ℕ) (w : View) (keys byIdx before after : List ℕ) (components : ℕ) : Type 0 where
+  pub rows : after ≡ overlaid (28 * n) (rowByte (shownBy s w keys byIdx)) before
+  pub count : components ≡ countIn s w keys
 
 pub record Written (s : Settings) (n : ℕ) (t : Table) (before after : List ℕ) (r : Answer) : Type 0 where
   pub answer : r ≡ Accepted (record { points = n; components = countIn s (sheetView n (t .keys) (t .idx) (t .x) (t .y)) (t .keys) })

@@ -1,5 +1,4 @@
 // The call on a sheet file: its rows and counts, or the number of a refusal.
-use edge_shape::Figures;
 use points::Table;
 use ruling::Sheet;
 use sheet_file::EdgeGate;
@@ -7,6 +6,7 @@ use sheet_file::Settings;
 use view::MAX_POINTS;
 use view::NEAR_SIZE;
 ghost use mathlib.Core.Path.{_≡_};
+ghost use Prim.Native.Nat.{_*_, _≤_};
 ghost use lib.ListN.{length};
 ghost use Rattle.view.specs.View.{viewAt};
 ghost use Rattle.grid.specs.Tables.{rowsOf, columnsOf};
@@ -14,7 +14,7 @@ ghost use Rattle.ruling.specs.Ruling.{rulingOf};
 ghost use Rattle.ruling.specs.Sheet.{Ruled};
 ghost use Rattle.validate.specs.Validate.{isGated};
 ghost use Rattle.kept.specs.Answer.{answerOf, rowsAfter};
-ghost use Rattle.kept.specs.Ready.{Indexed, Taken, KeptOf, Written};
+ghost use Rattle.kept.specs.Ready.{Indexed, Taken, Filtered, Written};
 
 pub struct Counts {
     pub points: usize,
@@ -26,17 +26,16 @@ pub enum Answer {
     Accepted(Counts),
 }
 
-// The marks of each rank, its index's residual, if it has one, the figures of its cell, and how many patches the survivors have.
-struct Kept {
-    marks: [u8; MAX_POINTS],
-    has: [u8; MAX_POINTS],
-    value: [f32; MAX_POINTS],
-    figures: [Figures; MAX_POINTS],
-    boundary: [u8; MAX_POINTS],
-    components: usize,
+fn is_gated(gate: EdgeGate) -> bool
+    ensures { λ r. ⌜ r ≡ isGated gate ⌝ }
+{
+    match gate {
+        EdgeGate::Off => false,
+        EdgeGate::On(g) => true,
+    }
 }
 
-// The filters, over the arrays of a sheet.
+// The filters, over the arrays of a sheet: writes the rows, and gives how many patches the survivors have.
 fn judge(
     s: Settings,
     near: &[u16; NEAR_SIZE],
@@ -45,9 +44,10 @@ fn judge(
     x: &[f32; MAX_POINTS],
     y: &[f32; MAX_POINTS],
     n: usize,
-) -> Kept
-    requires { ⌜ Indexed n (now keys) (now «by_idx») (now x) (now y) ⌝ }
-    ensures { λ r. ⌜ KeptOf s (viewAt n (now (near .entry)) (rowsOf n (now (keys .entry))) (columnsOf n (now (keys .entry))) (now («by_idx» .entry)) (now (x .entry)) (now (y .entry))) (now (keys .entry)) r ⌝ }
+    rows: &mut [u8],
+) -> usize
+    requires { ⌜ Indexed n (now keys) (now «by_idx») (now x) (now y) × (28 * n ≤ length (now rows)) ⌝ }
+    ensures { λ r. ⌜ Filtered s n (viewAt n (now (near .entry)) (rowsOf n (now (keys .entry))) (columnsOf n (now (keys .entry))) (now («by_idx» .entry)) (now (x .entry)) (now (y .entry))) (now (keys .entry)) (now («by_idx» .entry)) (now (rows .entry)) (now (rows .exit)) r ⌝ }
 {
     let row = grid::rows(keys, n);
     let column = grid::columns(keys, n);
@@ -69,10 +69,6 @@ fn judge(
         n,
     );
     let validated = r.marks;
-    let has = r.has;
-    let value = r.value;
-    let figures = r.figures;
-    let boundary = r.boundary;
     let d = drop_set::drop_set(
         &validated,
         near,
@@ -89,23 +85,24 @@ fn judge(
         s.apply_largest_component,
     );
     let marks = d.marks;
-    Kept {
-        marks,
-        has,
-        value,
+    let has = r.has;
+    let value = r.value;
+    let figures = r.figures;
+    let boundary = r.boundary;
+    let gate = s.edge_shape;
+    let gated = is_gated(gate);
+    rows::write_rows(
+        &marks,
+        &has,
+        &value,
+        gated,
+        by_idx,
         figures,
-        boundary,
-        components: d.components,
-    }
-}
-
-fn is_gated(gate: EdgeGate) -> bool
-    ensures { λ r. ⌜ r ≡ isGated gate ⌝ }
-{
-    match gate {
-        EdgeGate::Off => false,
-        EdgeGate::On(g) => true,
-    }
+        &boundary,
+        n,
+        rows,
+    );
+    d.components
 }
 
 // The rows and counts of the points of an accepted file.
@@ -120,28 +117,10 @@ fn keep_points(s: Settings, n: usize, table: Table, rows: &mut [u8]) -> Answer
     let mut near = [0u16; NEAR_SIZE];
     grid::fill_near(&keys, n, &mut near);
     let by_idx = grid::by_idx(&idx, n);
-    let r = judge(s, &near, &keys, &by_idx, &x, &y, n);
-    let marks = r.marks;
-    let has = r.has;
-    let value = r.value;
-    let figures = r.figures;
-    let boundary = r.boundary;
-    let gate = s.edge_shape;
-    let gated = is_gated(gate);
-    rows::write_rows(
-        &marks,
-        &has,
-        &value,
-        gated,
-        &by_idx,
-        figures,
-        &boundary,
-        n,
-        rows,
-    );
+    let components = judge(s, &near, &keys, &by_idx, &x, &y, n, rows);
     Answer::Accepted(Counts {
         points: n,
-        components: r.components,
+        components,
     })
 }
 

@@ -71,7 +71,8 @@ fn substitute(m: [[f32; 8]; 8], b: [f32; 8]) -> Solution
 }
 
 // Column by column: the pivot is searched, its row exchanged, and the rows below reduced. All in place, since a call that takes and returns the
-// matrix copies it.
+// matrix copies it. The search starts anew after each larger entry, in a loop of its own: so it is compiled to jumps, which the processor
+// foresees, and the pivot's row is read without waiting for the comparisons. A row is reduced two entries at a time.
 pub fn solve(a: [[f32; 8]; 8], b: [f32; 8]) -> Solution
     ensures { λ r. ⌜ r ≡ solutionOf a b ⌝ }
 {
@@ -82,37 +83,45 @@ pub fn solve(a: [[f32; 8]; 8], b: [f32; 8]) -> Solution
         let i = next;
         next += 1;
         let mut best = i;
-        let mut largest = float::abs(m[i][i]);
         let mut rest = next;
         while rest < 8 {
-            let k = rest;
-            rest += 1;
-            let size = float::abs(m[k][i]);
-            if largest < size {
-                best = k;
-                largest = size;
+            let largest = float::abs(m[best][i]);
+            while rest < 8 {
+                let k = rest;
+                rest += 1;
+                if largest < float::abs(m[k][i]) {
+                    best = k;
+                    break;
+                }
             }
         }
-        let p = m[best];
-        if p[i] == 0.0 {
+        let pivot = m[best][i];
+        if pivot == 0.0 {
             continue;
         }
+        let p = m[best];
         m[best] = m[i];
         m[i] = p;
         let t = y[best];
         y[best] = y[i];
         y[i] = t;
-        let inverse = 1.0 / p[i];
+        let inverse = 1.0 / pivot;
         let mut k = next;
         while k < 8 {
             let t = m[k][i] * inverse;
             m[k][i] = t;
             let mut j = next;
-            while j < 8 {
+            while j < 7 {
                 m[k][j] = m[k][j] + (-p[j]) * t;
-                j += 1;
+                m[k][j + 1] = m[k][j + 1] + (-p[j + 1]) * t;
+                j += 2;
             }
-            k += 1;
+            if j == 7 {
+                m[k][7] = m[k][7] + (-p[7]) * t;
+                k += 1;
+            } else {
+                k += 1;
+            }
         }
     }
     substitute(m, y)

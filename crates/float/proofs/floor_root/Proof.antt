@@ -13,42 +13,31 @@ Inv-loop n r₀ r = (n < (r + 1) * (r + 1)) × (r < 2 ^ 27)
 abbrev μ-loop : tie.MeasureT-loop
 μ-loop n r₀ r = r
 
-add-newton : tie.Need-add-newton Inv-loop μ-loop
-add-newton c = omega arith
-
--- each of the three steps, from the first guess on
-first : (c : tie.After-newton Inv-loop μ-loop) → (0x37_ffff ≤ c .newton .result) × (c .newton .result < 2 ^ 26) × (c .before .args .n < (c .newton .result + 1) * (c .newton .result + 1))
+-- the first step
+first : (c : tie.After-newton Inv-loop μ-loop) → (0x1f_ffff ≤ c .newton .result) × (c .newton .result < 2 ^ 26) × (c .before .before .args .n < (c .newton .result + 1) * (c .newton .result + 1))
 first c =
     let e = c .newton .ensures in
+    let g = c .before .first-guess .ensures in
     let s = stepped _ _ _ (omega arith) e in
-    (omega (arith, s .half), first-step _ _ _ (c .before .pre) (omega arith) (omega arith) e, s .above)
-
-second : (c : tie.After-newton2 Inv-loop μ-loop) → (0x1b_fffe ≤ c .newton2 .result) × (c .newton2 .result ≤ 2 ^ 26) × (c .before .before .args .n < (c .newton2 .result + 1) * (c .newton2 .result + 1))
-second c =
-    let f = first (c .before) in
-    let s = stepped _ _ _ (omega arith) (c .newton2 .ensures) in
-    (omega (arith, s .half), omega (arith, s .bound (f .2)), s .above)
+    (omega (arith, s .half), first-step _ _ _ (c .before .before .pre) (g .0) (g .1) e, s .above)
 
 newton-requires-2 : tie.Need-newton-requires-2 Inv-loop μ-loop
 newton-requires-2 c κs = omega (arith, first c)
 
-newton-requires-3 : tie.Need-newton-requires-3 Inv-loop μ-loop
-newton-requires-3 c κs = omega (arith, second c)
-
 loop-holds : tie.Need-loop-holds Inv-loop μ-loop
 loop-holds c =
-    let f = second (c .before) in
-    let s = stepped _ _ _ (omega arith) (c .newton3 .ensures) in
+    let f = first (c .before) in
+    let s = stepped _ _ _ (omega arith) (c .newton2 .ensures) in
     (s .above, omega (arith, s .bound (f .2)))
 
 mul-loop : tie.Need-mul-loop Inv-loop μ-loop
 mul-loop c = omega (arith, product-lt {a = c .loop .r} {b = c .loop .r} 27 27 (omega arith) (omega arith))
 
-newton-requires-4 : tie.Need-newton-requires-4 Inv-loop μ-loop
-newton-requires-4 c κs = omega (arith, square-pos _ _ (c .loop-test .taken))
+newton-requires-3 : tie.Need-newton-requires-3 Inv-loop μ-loop
+newton-requires-3 c κs = omega (arith, square-pos _ _ (c .loop-test .taken))
 
-again : (c : tie.After-newton4 Inv-loop μ-loop) → Stepped (c .before .before .before .before .before .before .args .n) (c .before .before .loop .r) (c .newton4 .result)
-again c = stepped _ _ _ (square-pos _ _ (c .before .loop-test .taken)) (c .newton4 .ensures)
+again : (c : tie.After-newton3 Inv-loop μ-loop) → Stepped (c .before .before .before .before .before .before .args .n) (c .before .before .loop .r) (c .newton3 .result)
+again c = stepped _ _ _ (square-pos _ _ (c .before .loop-test .taken)) (c .newton3 .ensures)
 
 loop-less : tie.Need-loop-less Inv-loop μ-loop
 loop-less c = again c .less (c .before .loop-test .taken)
@@ -61,5 +50,5 @@ returns c = floor-only _ _ (search needs) (c .loop-test .left, c .before .loop .
 
 pub floor-root-spec : {M : Type 1} → statement M
 floor-root-spec = tie.close
-    (tie.spec Inv-loop μ-loop add-newton (λ c κs. search needs) newton-requires-2 newton-requires-3 loop-holds mul-loop newton-requires-4
+    (tie.spec Inv-loop μ-loop (λ c κs. search needs) (λ c κs. search needs) newton-requires-2 loop-holds mul-loop newton-requires-3
     loop-less loop-again returns)

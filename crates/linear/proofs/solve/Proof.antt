@@ -1,7 +1,7 @@
 use mathlib.Core.Bool.{Bool, true, false, cond}
 use mathlib.Core.List.{List}
 use mathlib.Core.Path.{_≡_, _∙_, sym, ap}
-use Prim.Native.Nat.{ℕ, _+_, _-_, _<_}
+use Prim.Native.Nat.{ℕ, _+_, _-_, _≤_, _<_}
 use native.Mathlib.Omega.{arith}
 use lib.Ieee.{Float, lt, eq}
 use Rattle.folds.specs.Arith.{_⊘_, zeroF}
@@ -35,23 +35,39 @@ module _ (i k : ℕ) (m : List (List Float)) (y : List Float) (found : k ≡ piv
   unfolding eliminateColumn eliminateBy
   cleared out e h = rw (← found, e, h)
 
-abbrev Inv-loop2 : tie.InvT-loop2
-Inv-loop2 m y next i best₀ largest₀ rest₀ best largest rest = (best < 8) × (largest ≡ absOf (entry m best i)) × (run (betterRow m i) rest 8 best ≡ run (betterRow m i) rest₀ 8 best₀)
+-- two steps of a run to 8, and its last
+two : (step : ℕ → List (List Float) → List (List Float)) (j : ℕ) (m : List (List Float)) → j < 7 → run step (j + 2) 8 (step (j + 1) (step j m)) ≡ run step j 8 m
+two step j m h =
+    let z : j + 1 + 1 ≡ j + 2 = omega arith in
+    sym (run-step step j 8 m (omega arith) ∙ run-step step (j + 1) 8 (step j m) (omega arith) ∙ ap (λ (e : ℕ). run step e 8 (step (j + 1) (step j m))) z)
 
-abbrev μ-loop2 : tie.MeasureT-loop2
-μ-loop2 m y next i best₀ largest₀ rest₀ best largest rest = 8 - rest
-
-abbrev Inv-loop4 : tie.InvT-loop4
-Inv-loop4 m₀ y next i best largest rest p t inverse k t' j₀ m j = run (reduceEntry p k t') j 8 m ≡ run (reduceEntry p k t') j₀ 8 m₀
-
-abbrev μ-loop4 : tie.MeasureT-loop4
-μ-loop4 m₀ y next i best largest rest p t inverse k t' j₀ m j = 8 - j
+last : (step : ℕ → List (List Float) → List (List Float)) (j : ℕ) (m : List (List Float)) → j ≡ 7 → step 7 m ≡ run step j 8 m
+last step j m h = rw h (sym (run-step step 7 8 m (omega arith) ∙ run-done step 8 8 (step 7 m) (omega arith)))
 
 abbrev Inv-loop3 : tie.InvT-loop3
-Inv-loop3 m₀ y next i best largest rest p t inverse k₀ m k = run (reduceRow p i inverse) k 8 m ≡ run (reduceRow p i inverse) k₀ 8 m₀
+Inv-loop3 m y next i best₀ rest₀ largest best rest =
+    (best < 8) × (largest ≡ absOf (entry m best i)) × (rest₀ ≤ rest) × (run (betterRow m i) rest 8 best ≡ run (betterRow m i) rest₀ 8 best₀)
 
 abbrev μ-loop3 : tie.MeasureT-loop3
-μ-loop3 m₀ y next i best largest rest p t inverse k₀ m k = 8 - k
+μ-loop3 m y next i best₀ rest₀ largest best rest = 8 - rest
+
+abbrev Inv-loop2 : tie.InvT-loop2
+Inv-loop2 m y next i best₀ rest₀ best rest = (best < 8) × (run (betterRow m i) rest 8 best ≡ run (betterRow m i) rest₀ 8 best₀)
+
+abbrev μ-loop2 : tie.MeasureT-loop2
+μ-loop2 m y next i best₀ rest₀ best rest = 8 - rest
+
+abbrev Inv-loop5 : tie.InvT-loop5
+Inv-loop5 m₀ y next i best rest pivot p t inverse k t' j₀ m j = run (reduceEntry p k t') j 8 m ≡ run (reduceEntry p k t') j₀ 8 m₀
+
+abbrev μ-loop5 : tie.MeasureT-loop5
+μ-loop5 m₀ y next i best rest pivot p t inverse k t' j₀ m j = 8 - j
+
+abbrev Inv-loop4 : tie.InvT-loop4
+Inv-loop4 m₀ y next i best rest pivot p t inverse k₀ m k = run (reduceRow p i inverse) k 8 m ≡ run (reduceRow p i inverse) k₀ 8 m₀
+
+abbrev μ-loop4 : tie.MeasureT-loop4
+μ-loop4 m₀ y next i best rest pivot p t inverse k₀ m k = 8 - k
 
 abbrev Inv-loop : tie.InvT-loop
 Inv-loop m₀ y₀ next₀ m y next = run eliminateColumn next 8 (record { rows = m; right = y }) ≡ run eliminateColumn next₀ 8 (record { rows = m₀; right = y₀ })
@@ -59,52 +75,63 @@ Inv-loop m₀ y₀ next₀ m y next = run eliminateColumn next 8 (record { rows 
 abbrev μ-loop : tie.MeasureT-loop
 μ-loop m₀ y₀ next₀ m y next = 8 - next
 
-loop2-holds : tie.Need-loop2-holds Inv-loop2 μ-loop2 Inv-loop4 μ-loop4 Inv-loop3 μ-loop3 Inv-loop μ-loop
-loop2-holds c = (search needs, c .abs .ensures, search needs)
+loop3-holds : tie.Need-loop3-holds Inv-loop3 μ-loop3 Inv-loop2 μ-loop2 Inv-loop5 μ-loop5 Inv-loop4 μ-loop4 Inv-loop μ-loop
+loop3-holds c = (c .before .before .before .loop2 .inv .0, c .abs .ensures, search needs, search needs)
 
-loop2-again : tie.Need-loop2-again Inv-loop2 μ-loop2 Inv-loop4 μ-loop4 Inv-loop3 μ-loop3 Inv-loop μ-loop
-loop2-again c =
-    let l = c .before .before .before .before .loop2 in (
-      c .before .before .before .loop2-test .taken,
-      c .before .abs2 .ensures,
-      searched _ _ _ _ _ _ true (c .before .before .before .loop2-test .taken) (l .inv .1) (c .before .abs2 .ensures) (c .if1 .taken) ∙ l .inv .2,
+loop2-again : tie.Need-loop2-again Inv-loop3 μ-loop3 Inv-loop2 μ-loop2 Inv-loop5 μ-loop5 Inv-loop4 μ-loop4 Inv-loop μ-loop
+loop2-again c = (c .before .loop3 .inv .0, c .before .loop3 .inv .3 ∙ c .before .before .before .before .before .loop2 .inv .1)
+
+loop2-again-2 : tie.Need-loop2-again-2 Inv-loop3 μ-loop3 Inv-loop2 μ-loop2 Inv-loop5 μ-loop5 Inv-loop4 μ-loop4 Inv-loop μ-loop
+loop2-again-2 c =
+    let l = c .before .before .before .before .loop3 in (
+      c .before .before .before .loop3-test .taken,
+      searched _ _ _ _ _ _ true (c .before .before .before .loop3-test .taken) (l .inv .1) (c .before .abs2 .ensures) (c .if1 .taken)
+          ∙ l .inv .3 ∙ c .before .before .before .before .before .before .before .before .loop2 .inv .1,
     )
 
-loop2-again-2 : tie.Need-loop2-again-2 Inv-loop2 μ-loop2 Inv-loop4 μ-loop4 Inv-loop3 μ-loop3 Inv-loop μ-loop
-loop2-again-2 c =
-    let l = c .before .before .before .before .loop2 in (
+loop3-again : tie.Need-loop3-again Inv-loop3 μ-loop3 Inv-loop2 μ-loop2 Inv-loop5 μ-loop5 Inv-loop4 μ-loop4 Inv-loop μ-loop
+loop3-again c =
+    let l = c .before .before .before .before .loop3 in (
       l .inv .0,
       l .inv .1,
-      searched _ _ _ _ _ _ false (c .before .before .before .loop2-test .taken) (l .inv .1) (c .before .abs2 .ensures) (c .if1 .left) ∙ l .inv .2,
+      search needs,
+      searched _ _ _ _ _ _ false (c .before .before .before .loop3-test .taken) (l .inv .1) (c .before .abs2 .ensures) (c .if1 .left) ∙ l .inv .3,
     )
 
-loop-again : tie.Need-loop-again Inv-loop2 μ-loop2 Inv-loop4 μ-loop4 Inv-loop3 μ-loop3 Inv-loop μ-loop
+loop-again : tie.Need-loop-again Inv-loop3 μ-loop3 Inv-loop2 μ-loop2 Inv-loop5 μ-loop5 Inv-loop4 μ-loop4 Inv-loop μ-loop
 unfolding pivotRow
 loop-again c =
     let l = c .before .before .before .loop2 in
-    eliminated _ _ _ (c .before .before .before .before .before .before .loop-test .taken) (passed-over _ _ _ _ (sym (run-done _ _ _ _ (c .before .before .loop2-test .left)) ∙ l .inv .2) (c .if2 .taken))
-    ∙ c .before .before .before .before .before .before .before .loop .inv
+    eliminated _ _ _ (c .before .before .before .before .loop-test .taken) (passed-over _ _ _ _ (sym (run-done _ _ _ _ (c .before .before .loop2-test .left)) ∙ l .inv .1) (c .if2 .taken))
+    ∙ c .before .before .before .before .before .loop .inv
 
-loop-again-2 : tie.Need-loop-again-2 Inv-loop2 μ-loop2 Inv-loop4 μ-loop4 Inv-loop3 μ-loop3 Inv-loop μ-loop
+loop-again-2 : tie.Need-loop-again-2 Inv-loop3 μ-loop3 Inv-loop2 μ-loop2 Inv-loop5 μ-loop5 Inv-loop4 μ-loop4 Inv-loop μ-loop
 unfolding pivotRow
 loop-again-2 c =
-    let b = c .before .before .before in
+    let b = c .before .before .before .before in
     let l = b .before .before .before .loop2 in
-    eliminated _ _ _ (b .before .before .before .before .before .before .loop-test .taken)
-    (cleared _ _ _ _ (sym (run-done _ _ _ _ (b .before .before .loop2-test .left)) ∙ l .inv .2) _ (b .if2 .left) (sym (run-done _ _ _ _ (c .loop3-test .left)) ∙ c .before .loop3 .inv))
-    ∙ b .before .before .before .before .before .before .before .loop .inv
+    eliminated _ _ _ (b .before .before .before .before .loop-test .taken)
+    (cleared _ _ _ _ (sym (run-done _ _ _ _ (b .before .before .loop2-test .left)) ∙ l .inv .1) _ (b .if2 .left) (sym (run-done _ _ _ _ (c .loop4-test .left)) ∙ c .before .loop4 .inv))
+    ∙ b .before .before .before .before .before .loop .inv
 
-loop4-again : tie.Need-loop4-again Inv-loop2 μ-loop2 Inv-loop4 μ-loop4 Inv-loop3 μ-loop3 Inv-loop μ-loop
+loop5-again : tie.Need-loop5-again Inv-loop3 μ-loop3 Inv-loop2 μ-loop2 Inv-loop5 μ-loop5 Inv-loop4 μ-loop4 Inv-loop μ-loop
 unfolding reduceEntry
-loop4-again c = sym (run-step _ _ _ _ (c .before .loop4-test .taken)) ∙ c .before .before .loop4 .inv
+loop5-again c = two _ _ _ (c .before .before .loop5-test .taken) ∙ c .before .before .before .loop5 .inv
 
-loop3-again : tie.Need-loop3-again Inv-loop2 μ-loop2 Inv-loop4 μ-loop4 Inv-loop3 μ-loop3 Inv-loop μ-loop
+loop4-again : tie.Need-loop4-again Inv-loop3 μ-loop3 Inv-loop2 μ-loop2 Inv-loop5 μ-loop5 Inv-loop4 μ-loop4 Inv-loop μ-loop
+unfolding reduceRow reduceEntry
+loop4-again c =
+    let l = c .before .before .before in
+    rw (last _ _ _ (c .before .if3 .taken) ∙ l .loop5 .inv)
+    (sym (run-step _ _ _ _ (l .before .before .loop4-test .taken)) ∙ l .before .before .before .loop4 .inv)
+
+loop4-again-2 : tie.Need-loop4-again-2 Inv-loop3 μ-loop3 Inv-loop2 μ-loop2 Inv-loop5 μ-loop5 Inv-loop4 μ-loop4 Inv-loop μ-loop
 unfolding reduceRow
-loop3-again c =
-    rw (sym (run-done _ _ _ _ (c .loop4-test .left)) ∙ c .before .loop4 .inv)
-    (sym (run-step _ _ _ _ (c .before .before .before .loop3-test .taken)) ∙ c .before .before .before .before .loop3 .inv)
+loop4-again-2 c =
+    rw (sym (run-done _ _ _ _ (omega (arith, c .if3 .left))) ∙ c .before .before .loop5 .inv)
+    (sym (run-step _ _ _ _ (c .before .before .before .before .loop4-test .taken)) ∙ c .before .before .before .before .before .loop4 .inv)
 
-returns : tie.Need-returns Inv-loop2 μ-loop2 Inv-loop4 μ-loop4 Inv-loop3 μ-loop3 Inv-loop μ-loop
+returns : tie.Need-returns Inv-loop3 μ-loop3 Inv-loop2 μ-loop2 Inv-loop5 μ-loop5 Inv-loop4 μ-loop4 Inv-loop μ-loop
 unfolding solutionOf
 returns c = c .substitute .ensures ∙ ap substituted (sym (run-done _ _ _ _ (c .before .loop-test .left)) ∙ c .before .before .loop .inv)
 
@@ -112,12 +139,14 @@ pub solve-spec : {M : Type 1} → statement M
 solve-spec =
     tie.close
     (tie.spec
-    Inv-loop2
-    μ-loop2
-    Inv-loop4
-    μ-loop4
     Inv-loop3
     μ-loop3
+    Inv-loop2
+    μ-loop2
+    Inv-loop5
+    μ-loop5
+    Inv-loop4
+    μ-loop4
     Inv-loop
     μ-loop
     (λ c. search needs)
@@ -126,18 +155,21 @@ solve-spec =
     (λ c. search needs)
     (λ c. search needs)
     (λ c. search needs)
-    (λ c κs. search needs)
-    loop2-holds
-    (λ c. search needs)
-    (λ c. search needs)
-    (λ c. search needs)
-    (λ c. search needs)
     (λ c. search needs)
     (λ c κs. search needs)
+    loop3-holds
     (λ c. search needs)
     loop2-again
     (λ c. search needs)
+    (λ c. search needs)
+    (λ c. search needs)
+    (λ c. search needs)
+    (λ c. search needs)
+    (λ c κs. search needs)
+    (λ c. search needs)
     loop2-again-2
+    (λ c. search needs)
+    loop3-again
     (λ c. search needs)
     (λ c. search needs)
     (λ c. search needs)
@@ -184,9 +216,32 @@ solve-spec =
     (λ c. search needs)
     (λ c. search needs)
     (λ c. search needs)
+    (λ c. search needs)
+    (λ c. search needs)
+    (λ c. search needs)
+    (λ c. search needs)
+    (λ c. search needs)
+    (λ c. search needs)
+    (λ c. search needs)
+    (λ c. search needs)
+    (λ c. search needs)
+    (λ c. search needs)
+    (λ c. search needs)
+    (λ c. search needs)
+    (λ c. search needs)
+    loop5-again
+    (λ c. search needs)
+    (λ c. search needs)
+    (λ c. search needs)
+    (λ c. search needs)
+    (λ c. search needs)
+    (λ c. search needs)
+    (λ c. search needs)
+    (λ c. search needs)
+    (λ c. search needs)
     loop4-again
     (λ c. search needs)
     (λ c. search needs)
-    loop3-again
+    loop4-again-2
     (λ c κs. search needs)
     returns)
