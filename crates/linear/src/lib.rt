@@ -72,7 +72,7 @@ fn substitute(m: [[f32; 8]; 8], b: [f32; 8]) -> Solution
 
 // Column by column: the pivot is searched, its row exchanged, and the rows below reduced. All in place, since a call that takes and returns the
 // matrix copies it. The search starts anew after each larger entry, in a loop of its own: so it is compiled to jumps, which the processor
-// foresees, and the pivot's row is read without waiting for the comparisons. A row is reduced two entries at a time.
+// foresees, and the pivot's row is read without waiting for the comparisons.
 pub fn solve(a: [[f32; 8]; 8], b: [f32; 8]) -> Solution
     ensures { λ r. ⌜ r ≡ solutionOf a b ⌝ }
 {
@@ -111,17 +111,11 @@ pub fn solve(a: [[f32; 8]; 8], b: [f32; 8]) -> Solution
             let t = m[k][i] * inverse;
             m[k][i] = t;
             let mut j = next;
-            while j < 7 {
+            while j < 8 {
                 m[k][j] = m[k][j] + (-p[j]) * t;
-                m[k][j + 1] = m[k][j + 1] + (-p[j + 1]) * t;
-                j += 2;
+                j += 1;
             }
-            if j == 7 {
-                m[k][7] = m[k][7] + (-p[7]) * t;
-                k += 1;
-            } else {
-                k += 1;
-            }
+            k += 1;
         }
     }
     substitute(m, y)

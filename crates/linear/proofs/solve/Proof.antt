@@ -35,15 +35,6 @@ module _ (i k : ℕ) (m : List (List Float)) (y : List Float) (found : k ≡ piv
   unfolding eliminateColumn eliminateBy
   cleared out e h = rw (← found, e, h)
 
--- two steps of a run to 8, and its last
-two : (step : ℕ → List (List Float) → List (List Float)) (j : ℕ) (m : List (List Float)) → j < 7 → run step (j + 2) 8 (step (j + 1) (step j m)) ≡ run step j 8 m
-two step j m h =
-    let z : j + 1 + 1 ≡ j + 2 = omega arith in
-    sym (run-step step j 8 m (omega arith) ∙ run-step step (j + 1) 8 (step j m) (omega arith) ∙ ap (λ (e : ℕ). run step e 8 (step (j + 1) (step j m))) z)
-
-last : (step : ℕ → List (List Float) → List (List Float)) (j : ℕ) (m : List (List Float)) → j ≡ 7 → step 7 m ≡ run step j 8 m
-last step j m h = rw h (sym (run-step step 7 8 m (omega arith) ∙ run-done step 8 8 (step 7 m) (omega arith)))
-
 abbrev Inv-loop3 : tie.InvT-loop3
 Inv-loop3 m y next i best₀ rest₀ largest best rest =
     (best < 8) × (largest ≡ absOf (entry m best i)) × (rest₀ ≤ rest) × (run (betterRow m i) rest 8 best ≡ run (betterRow m i) rest₀ 8 best₀)
@@ -116,20 +107,13 @@ loop-again-2 c =
 
 loop5-again : tie.Need-loop5-again Inv-loop3 μ-loop3 Inv-loop2 μ-loop2 Inv-loop5 μ-loop5 Inv-loop4 μ-loop4 Inv-loop μ-loop
 unfolding reduceEntry
-loop5-again c = two _ _ _ (c .before .before .loop5-test .taken) ∙ c .before .before .before .loop5 .inv
+loop5-again c = sym (run-step _ _ _ _ (c .before .loop5-test .taken)) ∙ c .before .before .loop5 .inv
 
 loop4-again : tie.Need-loop4-again Inv-loop3 μ-loop3 Inv-loop2 μ-loop2 Inv-loop5 μ-loop5 Inv-loop4 μ-loop4 Inv-loop μ-loop
-unfolding reduceRow reduceEntry
-loop4-again c =
-    let l = c .before .before .before in
-    rw (last _ _ _ (c .before .if3 .taken) ∙ l .loop5 .inv)
-    (sym (run-step _ _ _ _ (l .before .before .loop4-test .taken)) ∙ l .before .before .before .loop4 .inv)
-
-loop4-again-2 : tie.Need-loop4-again-2 Inv-loop3 μ-loop3 Inv-loop2 μ-loop2 Inv-loop5 μ-loop5 Inv-loop4 μ-loop4 Inv-loop μ-loop
 unfolding reduceRow
-loop4-again-2 c =
-    rw (sym (run-done _ _ _ _ (omega (arith, c .if3 .left))) ∙ c .before .before .loop5 .inv)
-    (sym (run-step _ _ _ _ (c .before .before .before .before .loop4-test .taken)) ∙ c .before .before .before .before .before .loop4 .inv)
+loop4-again c =
+    rw (sym (run-done _ _ _ _ (c .loop5-test .left)) ∙ c .before .loop5 .inv)
+    (sym (run-step _ _ _ _ (c .before .before .before .loop4-test .taken)) ∙ c .before .before .before .before .loop4 .inv)
 
 returns : tie.Need-returns Inv-loop3 μ-loop3 Inv-loop2 μ-loop2 Inv-loop5 μ-loop5 Inv-loop4 μ-loop4 Inv-loop μ-loop
 unfolding solutionOf
@@ -216,32 +200,9 @@ solve-spec =
     (λ c. search needs)
     (λ c. search needs)
     (λ c. search needs)
-    (λ c. search needs)
-    (λ c. search needs)
-    (λ c. search needs)
-    (λ c. search needs)
-    (λ c. search needs)
-    (λ c. search needs)
-    (λ c. search needs)
-    (λ c. search needs)
-    (λ c. search needs)
-    (λ c. search needs)
-    (λ c. search needs)
-    (λ c. search needs)
-    (λ c. search needs)
     loop5-again
     (λ c. search needs)
     (λ c. search needs)
-    (λ c. search needs)
-    (λ c. search needs)
-    (λ c. search needs)
-    (λ c. search needs)
-    (λ c. search needs)
-    (λ c. search needs)
-    (λ c. search needs)
     loop4-again
-    (λ c. search needs)
-    (λ c. search needs)
-    loop4-again-2
     (λ c κs. search needs)
     returns)
