@@ -50,7 +50,7 @@ harness roots [--step N]              the machine's root against whole numbers
 harness load [--files N] [--seed S] [--heap] [--threads N] [--wrong K]
                                       the static library under load, at guard pages or in heap blocks
 harness load faults                   whether the load notices deliberate faults
-harness bench [--runs N] [--into FILE]
+harness bench [--runs N] [--rounds N] [--into FILE]
                                       microseconds a call, in tables
 harness worst [--tries N] [--seed S]  looks for the dearest call
 harness text to-file | from-file      lines of text to a sheet file and back
@@ -223,7 +223,8 @@ fn main() -> ExitCode {
         ["bench", rest @ ..] => {
             let into = rest.iter().position(|a| *a == "--into");
             let file = into.map(|k| *rest.get(k + 1).unwrap_or_else(|| fail("--into takes a file")));
-            bench::run(option(&args, "--runs", 60) as usize, file);
+            let runs = option(&args, "--runs", 60) as usize;
+            bench::run(runs, option(&args, "--rounds", 1) as usize, file);
         }
         ["worst", ..] => {
             let tries = option(&args, "--tries", 1000) as usize;

@@ -1,6 +1,6 @@
 //! Shapes that are hard on one part of the call or another, and the search for the dearest.
 
-use super::{ours, whole};
+use super::{ours, whole, Rounds};
 use crate::random::Random;
 use crate::second::MAX_POINTS;
 use crate::shapes::{self, Cells, Index, Order, Place, Shape};
@@ -117,7 +117,7 @@ pub fn worst(tries: usize, seed: u64) {
         if kept.iter().any(|(_, one)| *one == shape) {
             continue;
         }
-        let Some(time) = ours(3, &shape.sheet()) else {
+        let Some(time) = ours(&Rounds::new(3), &shape.sheet()) else {
             return println!("built without the static library");
         };
         if kept.first().is_none_or(|(most, _)| time > *most) {
@@ -129,6 +129,6 @@ pub fn worst(tries: usize, seed: u64) {
     }
     println!("\nthe dearest, timed again:");
     for (_, shape) in &kept {
-        println!("{} µs {shape:?}", whole(ours(20, &shape.sheet())));
+        println!("{} µs {shape:?}", whole(ours(&Rounds::new(20), &shape.sheet())));
     }
 }

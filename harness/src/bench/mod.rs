@@ -11,6 +11,7 @@ use crate::second::{self, Fault, MAX_POINTS};
 use crate::shapes::{Cells, Shape};
 use crate::sheet::Sheet;
 use hard::{hard_shapes, DEAREST};
+use std::cell::{Cell, RefCell};
 use std::hint::black_box;
 use std::time::Duration;
 
@@ -21,27 +22,54 @@ pub fn board(side: i32, gated: bool) -> Sheet {
     shape.sheet()
 }
 
-/// Processor times of the runs in microseconds, rising; what the work hands back is not optimised
-/// away. Slow work is run less often, yet three times.
-fn times<T>(runs: usize, mut work: impl FnMut() -> T) -> Vec<f64> {
-    let (mut times, mut whole) = (Vec::new(), Duration::ZERO);
-    while times.len() < runs && (times.len() < 3 || whole < Duration::from_secs(2)) {
-        let start = processor();
-        black_box(work());
-        let time = processor() - start;
-        whole += time;
-        times.push(time.as_secs_f64() * 1e6);
-    }
-    times.sort_by(f64::total_cmp);
-    times
+/// The times taken, in rounds: the same pieces of work in the same order in each, so that a slow
+/// spell of the machine does not fall on all runs of one.
+struct Rounds {
+    /// Runs of a piece of work in a round.
+    runs: usize,
+    /// Which piece of the round is next.
+    next: Cell<usize>,
+    /// All times of each piece so far, rising.
+    taken: RefCell<Vec<Vec<f64>>>,
 }
 
-fn least<T>(runs: usize, work: impl FnMut() -> T) -> f64 {
-    times(runs, work)[0]
+impl Rounds {
+    fn new(runs: usize) -> Self {
+        Rounds {
+            runs,
+            next: Cell::new(0),
+            taken: RefCell::new(Vec::new()),
+        }
+    }
+
+    /// Processor times of the work in microseconds, with those of earlier rounds, rising; what the
+    /// work hands back is not optimised away. Slow work is run less often, yet three times.
+    fn times<T>(&self, mut work: impl FnMut() -> T) -> Vec<f64> {
+        let (mut times, mut whole) = (Vec::new(), Duration::ZERO);
+        while times.len() < self.runs && (times.len() < 3 || whole < Duration::from_secs(1)) {
+            let start = processor();
+            black_box(work());
+            let time = processor() - start;
+            whole += time;
+            times.push(time.as_secs_f64() * 1e6);
+        }
+        let mut taken = self.taken.borrow_mut();
+        let piece = self.next.replace(self.next.get() + 1);
+        if piece == taken.len() {
+            taken.push(Vec::new());
+        }
+        taken[piece].extend(times);
+        taken[piece].sort_by(f64::total_cmp);
+        taken[piece].clone()
+    }
+
+    fn least<T>(&self, work: impl FnMut() -> T) -> f64 {
+        self.times(work)[0]
+    }
 }
 
 /// Times of the call on a sheet, file to rows; nothing without the library.
-fn all_ours(runs: usize, sheet: &Sheet) -> Option<Vec<f64>> {
+fn all_ours(rounds: &Rounds, sheet: &Sheet) -> Option<Vec<f64>> {
     let file = sheet.to_file();
     let mut rows = vec![0; second::ROW * sheet.points.len()];
     let returned = library::call(&file, &mut rows)?;
@@ -49,17 +77,17 @@ fn all_ours(runs: usize, sheet: &Sheet) -> Option<Vec<f64>> {
         returned >> 32 == 1,
         "a sheet of the bench is refused with {returned}"
     );
-    Some(times(runs, || library::call(&file, &mut rows)))
+    Some(rounds.times(|| library::call(&file, &mut rows)))
 }
 
-fn ours(runs: usize, sheet: &Sheet) -> Option<f64> {
-    Some(all_ours(runs, sheet)?[0])
+fn ours(rounds: &Rounds, sheet: &Sheet) -> Option<f64> {
+    Some(all_ours(rounds, sheet)?[0])
 }
 
 /// The original's `drop_set` on a sheet made ready; nothing without the original.
-fn theirs(runs: usize, sheet: &Sheet) -> Option<f64> {
+fn theirs(rounds: &Rounds, sheet: &Sheet) -> Option<f64> {
     let prepared = Prepared::new(sheet)?;
-    Some(least(runs, || prepared.drop_set()))
+    Some(rounds.least(|| prepared.drop_set()))
 }
 
 /// A number for a table: whole, grouped by commas, or a dash.
@@ -87,17 +115,17 @@ fn ratio(theirs: Option<f64>, ours: Option<f64>) -> Option<f64> {
 }
 
 /// The 45 by 45 board through all programs.
-fn whole_board(out: &mut Text, runs: usize) {
+fn whole_board(out: &mut Text, rounds: &Rounds) {
     out.line("A 45 by 45 board, 2,025 points, every filter on; µs:\n");
     out.line("| | without the edge gate | with it |\n|---|---|---|");
     let sheets = [false, true].map(|gated| board(45, gated));
-    let validate = |s: &Sheet| Prepared::new(s).map(|p| least(runs, || p.validate()));
+    let validate = |s: &Sheet| Prepared::new(s).map(|p| rounds.least(|| p.validate()));
     let second = |s: &Sheet| {
         let file = s.to_file();
-        Some(least(runs, || second::answer(&file, 1 << 16, Fault::None)))
+        Some(rounds.least(|| second::answer(&file, 1 << 16, Fault::None)))
     };
-    let original = sheets.each_ref().map(|s| theirs(runs, s));
-    let library = sheets.each_ref().map(|s| ours(runs, s));
+    let original = sheets.each_ref().map(|s| theirs(rounds, s));
+    let library = sheets.each_ref().map(|s| ours(rounds, s));
     let validate = sheets.each_ref().map(validate);
     let second = sheets.each_ref().map(second);
     let mut line = |name: &str, a: String, b: String| out.line(&format!("| {name} | {a} | {b} |"));
@@ -111,7 +139,7 @@ fn whole_board(out: &mut Text, runs: usize) {
 }
 
 /// Boards, ragged sheets and sheets of several patches by size.
-fn sizes(out: &mut Text, runs: usize) {
+fn sizes(out: &mut Text, rounds: &Rounds) {
     out.line("\nBy size, every filter on, without and with the edge gate; µs:\n");
     out.line("| sheet | points | library | a point | original | ratio | library, gate | a point | original, gate | ratio |");
     out.line("|---|---|---|---|---|---|---|---|---|---|");
@@ -132,7 +160,7 @@ fn sizes(out: &mut Text, runs: usize) {
             let mut shape = Shape::new(cells, n);
             shape.gate = shape.gate.filter(|_| gated);
             let sheet = shape.sheet();
-            let (library, original) = (ours(runs, &sheet), theirs(runs, &sheet));
+            let (library, original) = (ours(rounds, &sheet), theirs(rounds, &sheet));
             let each = library.filter(|_| n > 0);
             let each = each.map_or("–".into(), |t| format!("{:.2}", t / n as f64));
             let times = one_place(ratio(original, library));
@@ -147,17 +175,17 @@ fn sizes(out: &mut Text, runs: usize) {
 }
 
 /// The hard shapes at full size.
-fn hard(out: &mut Text, runs: usize) {
+fn hard(out: &mut Text, rounds: &Rounds) {
     out.line("\n2,048 points, step flag and edge gate on; µs:\n");
     out.line(
         "| shape | library, least | median | original, least | ratio |\n|---|---|---|---|---|",
     );
     for (name, shape) in hard_shapes(MAX_POINTS) {
         let sheet = shape.sheet();
-        let all = all_ours(runs, &sheet);
+        let all = all_ours(rounds, &sheet);
         let library = all.as_ref().map(|t| t[0]);
         let median = all.as_ref().map(|t| t[t.len() / 2]);
-        let original = theirs(runs.min(10), &sheet);
+        let original = theirs(rounds, &sheet);
         let line = [
             whole(library),
             whole(median),
@@ -169,7 +197,7 @@ fn hard(out: &mut Text, runs: usize) {
 }
 
 /// How the cost grows with the number of points.
-fn growth(out: &mut Text, runs: usize) {
+fn growth(out: &mut Text, rounds: &Rounds) {
     out.line("\nHow the cost grows, step flag and edge gate on; µs:\n");
     out.line("| shape | 256 | 512 | 1,024 | 2,048 |\n|---|---|---|---|---|");
     let names = [
@@ -183,33 +211,37 @@ fn growth(out: &mut Text, runs: usize) {
     for name in names {
         let times = [256, 512, 1024, 2048].map(|n| {
             let shape = hard_shapes(n).into_iter().find(|(one, _)| *one == name);
-            whole(ours(runs, &shape.unwrap().1.sheet()))
+            whole(ours(rounds, &shape.unwrap().1.sheet()))
         });
         out.line(&format!("| {name} | {} |", times.join(" | ")));
     }
 }
 
-/// Lines that are printed as they come, and kept.
 struct Text(String);
 
 impl Text {
     fn line(&mut self, line: &str) {
-        println!("{line}");
         self.0 += line;
         self.0.push('\n');
     }
 }
 
 /// Prints all tables. With a file, they take the place of what stands there between two marks.
-pub fn run(runs: usize, file: Option<&str>) {
+pub fn run(runs: usize, count: usize, file: Option<&str>) {
+    let rounds = Rounds::new(runs);
     let mut out = Text(String::new());
-    out.line(&format!(
-        "{runs} runs of each, at most 2 s of them; the least processor time unless said.\n"
-    ));
-    whole_board(&mut out, runs);
-    sizes(&mut out, runs);
-    hard(&mut out, runs);
-    growth(&mut out, runs);
+    for _ in 0..count.max(1) {
+        rounds.next.set(0);
+        out.0.clear();
+        out.line(&format!(
+            "{count} rounds of at most {runs} runs or 1 s each; the least processor time unless said.\n"
+        ));
+        whole_board(&mut out, &rounds);
+        sizes(&mut out, &rounds);
+        hard(&mut out, &rounds);
+        growth(&mut out, &rounds);
+    }
+    print!("{}", out.0);
     let Some(file) = file else { return };
     let old = std::fs::read_to_string(file).unwrap_or_else(|e| crate::fail(&e.to_string()));
     let (begins, ends) = ("<!-- bench begins -->\n", "<!-- bench ends -->");
