@@ -9,7 +9,8 @@ fn main() {
         println!("cargo:rustc-cfg=original_at_hand");
     }
     if env::var_os("CARGO_FEATURE_LIBRARY").is_some() {
-        let folder = env::var("HIGLAUPTH_LIBRARY").expect("HIGLAUPTH_LIBRARY names libhiglaupth.a's folder");
+        let folder =
+            env::var("HIGLAUPTH_LIBRARY").expect("HIGLAUPTH_LIBRARY names libhiglaupth.a's folder");
         println!("cargo:rerun-if-changed={folder}/libhiglaupth.a");
         println!("cargo:rustc-link-search=native={folder}");
         println!("cargo:rustc-link-lib=static=higlaupth");

@@ -125,8 +125,9 @@ enum higlaupth_present {
  * - It ends.
  * - A refusal writes nothing. An accepted sheet writes 28 bytes for each point from rows[0] on
  *   and nothing beyond them. `file` is only read, and only its file_len bytes.
- * - It keeps nothing between calls, allocates nothing, and does no input or output. Any number
- *   of threads may call it at once, each with its own rows; they may share a file.
+ * - It is reentrant: it keeps nothing between calls, allocates nothing, and does no input or
+ *   output. Any number of threads may call it at once, each with its own rows; they may share a
+ *   file.
  *
  * What a caller owes:
  * - `file` points to file_len readable bytes, `rows` to rows_len writable bytes. Either pointer

@@ -222,7 +222,11 @@ fn main() -> ExitCode {
         ["load", ..] => holds = load(&args),
         ["bench", rest @ ..] => {
             let into = rest.iter().position(|a| *a == "--into");
-            let file = into.map(|k| *rest.get(k + 1).unwrap_or_else(|| fail("--into takes a file")));
+            let file = into.map(|k| {
+                *rest
+                    .get(k + 1)
+                    .unwrap_or_else(|| fail("--into takes a file"))
+            });
             let runs = option(&args, "--runs", 60) as usize;
             bench::run(runs, option(&args, "--rounds", 1) as usize, file);
         }

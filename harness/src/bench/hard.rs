@@ -129,6 +129,9 @@ pub fn worst(tries: usize, seed: u64) {
     }
     println!("\nthe dearest, timed again:");
     for (_, shape) in &kept {
-        println!("{} µs {shape:?}", whole(ours(&Rounds::new(20), &shape.sheet())));
+        println!(
+            "{} µs {shape:?}",
+            whole(ours(&Rounds::new(20), &shape.sheet()))
+        );
     }
 }
