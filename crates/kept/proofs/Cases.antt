@@ -15,6 +15,7 @@ use Rattle.points.specs.declared.Table.{Table}
 use Rattle.points.specs.Table.{Tabled}
 use Rattle.ruling.specs.Ruling.{Ruling, refused, accepted, rulingOf, is-given}
 use Rattle.ruling.specs.Sheet.{Ruled}
+use Rattle.ruling.specs.Standing.{sound}
 use Rattle.ruling.specs.declared.Sheet.{Sheet}
 use Rattle.rows.specs.Rows.{rowByte}
 use Rattle.kept.specs.Marks.{countIn}
@@ -46,8 +47,8 @@ module _ (s rows : List ℕ) (bytes : Bytes s) (r : Sheet) where
   taken-by o =
       let t = o .sheet .table-is in
       record {
-        arrays = rw (o .sheet .count-is, t .keys-are, t .xs-are, t .ys-are) (arrays-ready s (length rows) (o .settings) (o .points) bytes (o .ruled));
-        room = rw (o .sheet .count-is) (rows-fit s (length rows) (o .settings) (o .points) bytes (o .ruled));
+        arrays = rw (o .sheet .count-is, t .keys-are, t .xs-are, t .ys-are) (arrays-ready (o .points) (sound s (length rows) (o .settings) (o .points) bytes (o .ruled)));
+        room = rw (o .sheet .count-is) (rows-fit s (length rows) (o .settings) (o .points) (o .ruled));
       }
 
   done-by : Accepting → {a : Answer} {after : List ℕ} → Written (r .settings) (r .count) (r .table) rows after a → (a ≡ answerOf s (length rows)) × (after ≡ rowsAfter s rows)

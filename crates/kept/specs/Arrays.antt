@@ -1,5 +1,5 @@
 -- The arrays of a sheet's points in cell order, and that they are as the tables and the filters ask. Assumes nothing.
-use mathlib.Core.Path.{_≡_, refl, sym, ap, _∙_}
+use mathlib.Core.Path.{_≡_, refl, sym, _∙_}
 use mathlib.Core.Bool.{Bool, true, false, true≢false}
 use mathlib.Core.List.{List}
 use Prim.{Dec, yes, no}
@@ -19,16 +19,11 @@ use Rattle.marks.specs.Arrays.{Ranks, Finite}
 use Rattle.cells.specs.Points.{Point, nowhere, keysOf, xsOf, ysOf}
 use Rattle.grid.specs.Tables.{Keys, at, nearOf, rowsOf, columnsOf, byIdxOf, rowAt, columnAt, byIdxAt}
 use Rattle.grid.specs.InOrder.{keys-ready}
-use Rattle.sheet_file.specs.Bytes.{Bytes}
 use Rattle.sheet_file.specs.Limit.{outside}
 use Rattle.sheet_file.specs.Frame.{layoutOf}
 use Rattle.sheet_file.specs.declared.Settings.{Settings}
-use Rattle.points.specs.Refusals.{offLimit}
-use Rattle.points.specs.Pairs.{none-off}
-use Rattle.points.specs.Rows.{rows-placed}
-use Rattle.points.specs.Table.{points-length, point-at}
 use Rattle.ruling.specs.Ruling.{accepted, rulingOf, applies, none-applies}
-use Rattle.ruling.specs.Standing.{taken, accepted-order}
+use Rattle.ruling.specs.Standing.{Sound, taken}
 
 -- the view that the arrays of n points give
 abbrev pub sheetView : ℕ → List ℕ → List ℕ → List Float → List Float → View
@@ -68,36 +63,27 @@ module _ (n : ℕ) (keys : List ℕ) where
       let p : ℕ → Bool = λ j. eqb (at keys j) (at keys k) in
       rw (column-at maxPoints 0 n (byIdxAt n (at keys)) k h) (last-holds p 0 n (some-yes p n k h (eq-eqb (at keys k) (at keys k) refl)) .0)
 
--- ---- the arrays of an accepted file
+-- ---- the arrays of accepted points
 
 inside-finite : (x : Float) → outside x ≡ false → T (finite x)
 inside-finite nan e = absurd (true≢false e)
 inside-finite (inf s) e = absurd (true≢false e)
 inside-finite (fin s m k) e = tt
 
-module _ (s : List ℕ) (room : ℕ) (w : Settings) (ps : List Point) (bytes : Bytes s) (e : rulingOf s room ≡ accepted w ps) where
-  count-is : length ps ≡ layoutOf s .count
-  count-is = let k = taken s room w ps bytes e in ap length (k .points-are) ∙ points-length s (layoutOf s .points) (layoutOf s .count) (k .few)
-
+module _ (ps : List Point) (o : Sound ps) where
   -- no position is off the limit
   limited : (k : ℕ) → k < length ps → (outside (f32 (getD ps k nowhere .x)) ≡ false) × (outside (f32 (getD ps k nowhere .y)) ≡ false)
-  unfolding applies
-  limited k h =
-      let t = taken s room w ps bytes e in
-      let at = layoutOf s .points in
-      let n = layoutOf s .count in
-      let l : k < n = omega (arith, count-is) in
-      rw (t .points-are, point-at s at n (t .few) k l) (or-none _ _ (none-off s at n offLimit (none-applies s room e 7 (omega arith)) _ (rows-placed s at n false (t .few) k l)))
+  limited k h = or-none _ _ (o .limits k h)
 
   pub arrays-ready : Arrays (length ps) (keysOf ps) (xsOf ps) (ysOf ps)
   unfolding xsOf ysOf
   arrays-ready = record {
-    rising = keys-ready ps (accepted-order s room w ps bytes e);
+    rising = keys-ready ps (o .order);
     finite-x = λ k h. rw (column-at maxPoints nan (length ps) (λ (k : ℕ). f32 (getD ps k nowhere .x)) k h) (inside-finite (f32 (getD ps k nowhere .x)) (limited k h .0));
     finite-y = λ k h. rw (column-at maxPoints nan (length ps) (λ (k : ℕ). f32 (getD ps k nowhere .y)) k h) (inside-finite (f32 (getD ps k nowhere .y)) (limited k h .1));
   }
 
-  -- the buffer has room for the rows
-  pub rows-fit : 28 * length ps ≤ room
-  unfolding applies
-  rows-fit = omega (arith, count-is, ltb-false room (28 * layoutOf s .count) (none-applies s room e 3 (omega arith)))
+-- the buffer has room for the rows
+pub rows-fit : (s : List ℕ) (room : ℕ) (w : Settings) (ps : List Point) → rulingOf s room ≡ accepted w ps → 28 * length ps ≤ room
+unfolding applies
+rows-fit s room w ps e = omega (arith, taken s room w ps e .size, ltb-false room (28 * layoutOf s .count) (none-applies s room e 3))

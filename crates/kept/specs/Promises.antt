@@ -137,7 +137,7 @@ pub moved-sheet : (file other : List ℕ) (a b : ℤ) → Bytes file → Bytes o
     → (room : ℕ) → applies other room 6 ≡ false → (s : Settings) (ps : List Point) → rulingOf file room ≡ accepted s ps → MovedMarks other room a b s ps
 unfolding applies
 moved-sheet file other a b bf bo o room in-range s ps e =
-    let framed = taken file room s ps bf e .framed in
+    let framed = taken file room s ps e .framed in
     let same : layoutOf file ≡ layoutOf other = sym (ap layoutIn (frame-same file other (layoutOf file) framed (o .head))) in
     let m = offset file other a b bf bo o (ap (λ (f : Layout). anyIn offRange (pointsIn other (f .points) (f .count))) same ∙ in-range) room s ps e in
     let v = view-moved a b ps (m .points) (m .size) (m .along) in

@@ -63,7 +63,7 @@ ranged p hu hv e = go (within (signed (p .u))) (within (signed (p .v))) refl ref
     go false b f g h = absurd (true≢false h)
 
 -- one key, one cell
-cells-by-key : (p q : Point) → Ranged p → Ranged q → sameCell p q ≡ clash (entryOf false) (together false) p q
+pub cells-by-key : (p q : Point) → Ranged p → Ranged q → sameCell p q ≡ clash (entryOf false) (together false) p q
 cells-by-key p q r t = both-ways (sameCell p q) (eqb (keyOf p) (keyOf q) && true) to from ∙ refl
   where
     to : sameCell p q ≡ true → eqb (keyOf p) (keyOf q) && true ≡ true

@@ -1,12 +1,13 @@
 -- The conditions of the numbers 6 to 9 on the points of a file, in the order in which it lists them, and the points in cell order.
 -- Assumes nothing.
 use mathlib.Core.Bool.{Bool, cond, not, _&&_, _||_}
-use mathlib.Core.List.{List, []}
+use mathlib.Core.List.{List, [], _∷_}
 use Prim.Native.Nat.{ℕ}
 use lib.Dec.{eqb, ltb}
 use Rattle.folds.specs.Among.{anyIn, pairIn}
 use Rattle.folds.specs.Arith.{f32}
 use Rattle.sort.specs.Sorted.{sort}
+use Rattle.refusals.specs.First.{Refusal, ruled, numberIn}
 use Rattle.cells.specs.Points.{Point, keyOf}
 use Rattle.cells.specs.Cell.{signed, within}
 use Rattle.sheet_file.specs.Limit.{outside}
@@ -31,13 +32,19 @@ samePosition p q = eqb (p .x) (q .x) && eqb (p .y) (q .y)
 abbrev pub twoPositions : Point → Point → Bool
 twoPositions p q = eqb (p .index) (q .index) && not (samePosition p q)
 
--- "A call returns the first number that applies": 6 to 9, or 0 where none does
+-- the refusals of a list of points, in their order
+unfoldable pub pointRefusals : List Point → List Refusal
+pointRefusals ps =
+    (6, anyIn offRange ps)
+    ∷ (7, anyIn offLimit ps)
+    ∷ (8, pairIn sameCell ps)
+    ∷ (9, pairIn twoPositions ps)
+    ∷ []
+
+-- "A call returns the first number that applies", or 0 where none does
 unfoldable pub numberFor : List Point → ℕ
-numberFor ps =
-    cond (anyIn offRange ps) 6
-    (cond (anyIn offLimit ps) 7
-    (cond (pairIn sameCell ps) 8
-    (cond (pairIn twoPositions ps) 9 0)))
+unfolding pointRefusals
+numberFor ps = numberIn (pointRefusals ps)
 
 -- one point comes before another in cell order (that this is the order by u, then v, is `cells`' key-order)
 abbrev pub ahead : Point → Point → Bool
@@ -49,7 +56,8 @@ cellOrder ps = sort ahead ps
 
 -- the points in cell order, and none where a number applies
 unfoldable pub acceptedOf : List Point → List Point
-acceptedOf ps = cond (eqb (numberFor ps) 0) (cellOrder ps) []
+unfolding pointRefusals
+acceptedOf ps = ruled (λ (k : ℕ). []) (cellOrder ps) (pointRefusals ps)
 
 -- ---- how the code goes about it
 

@@ -1,25 +1,26 @@
 -- The table of the points in cell order: a number, and one column a field. Assumes nothing.
-use mathlib.Core.Path.{_≡_, sym, ap, _∙_}
-use mathlib.Core.Bool.{true, false}
+use mathlib.Core.Path.{_≡_, refl, sym, ap, _∙_}
+use mathlib.Core.Bool.{true, false, cond}
 use mathlib.Core.List.{List, []}
-use Prim.Native.Nat.{ℕ, suc, _+_, _*_, _/_, _%_, _≤_, _<_}
+use Prim.Native.Nat.{ℕ, _+_, _*_, _/_, _%_, _≤_, _<_}
 use native.Mathlib.Omega.{arith}
+use lib.Dec.{eqb}
 use lib.ListN.{length, getD}
 use lib.Ieee.{nan}
-use borrow.Author.Tests.{ne-eqb}
 use Rattle.folds.specs.Below.{or-none}
-use Rattle.folds.specs.Among.{anyIn, pairIn}
+use Rattle.folds.specs.Among.{anyIn}
 use Rattle.folds.specs.Arith.{f32}
 use Rattle.folds.specs.Column.{column, column-ext}
 use Rattle.folds.specs.Lists.{listOf, length-list, list-at}
 use Rattle.view.specs.View.{maxPoints}
+use Rattle.refusals.specs.First.{holds, appliesIn, ahead, given, passed, by-number}
 use Rattle.cells.specs.Points.{Point, nowhere, keyOf, keysOf, indicesOf, xsOf, ysOf}
 use Rattle.sheet_file.specs.Bytes.{Bytes}
 use Rattle.sheet_file.specs.Limit.{outside}
 use Rattle.sheet_file.specs.Refusals.{floatAt}
 use Rattle.sort.specs.Packed.{placed, things-in-order}
 use Rattle.points.specs.Records.{recordOf, pointsIn, Room}
-use Rattle.points.specs.Refusals.{offRange, offLimit, sameCell, twoPositions, numberFor, cellOrder, acceptedOf}
+use Rattle.points.specs.Refusals.{offRange, offLimit, pointRefusals, numberFor, cellOrder, acceptedOf}
 use Rattle.points.specs.Rows.{entriesOf, rowsOf, pointOf, rows-placed, row-at, row-key}
 use Rattle.points.specs.Pairs.{none-off, all-ranged}
 use Rattle.points.specs.declared.Table.{Table}
@@ -92,34 +93,19 @@ module _ (s : List ℕ) (at n : ℕ) (rows : List ℕ) (a : Accepted s at n rows
   pub y-inside : (i : ℕ) → i < n → outside (floatAt s (at + 20 * i + 16)) ≡ false
   y-inside i h = or-none (outside (floatAt s (at + 20 * i + 12))) (outside (floatAt s (at + 20 * i + 16))) (none-off s at n offLimit (a .in-limit) i h) .1
 
--- ---- the numbers
+-- ---- the refusals
 
 module _ (ps : List Point) where
-  pub is-6 : anyIn offRange ps ≡ true → numberFor ps ≡ 6
-  unfolding numberFor
-  is-6 a = rw a
+  -- by the number that the code hands on
+  pub accepted-is : cond (eqb (numberFor ps) 0) (cellOrder ps) [] ≡ acceptedOf ps
+  unfolding numberFor acceptedOf
+  accepted-is = by-number (λ (n : ℕ). []) (cellOrder ps) (pointRefusals ps) refl
 
-  pub is-7 : anyIn offRange ps ≡ false → anyIn offLimit ps ≡ true → numberFor ps ≡ 7
-  unfolding numberFor
-  is-7 a b = rw (a, b)
+  -- a table of no points where a number is given, and of all where none is
+  pub refused-by : (k : ℕ) {t : Table} → appliesIn (pointRefusals ps) k ≡ true → anyIn holds (ahead (pointRefusals ps) k) ≡ false → Tabled k [] t → Tabled (numberFor ps) (acceptedOf ps) t
+  unfolding numberFor acceptedOf
+  refused-by k e f h = rw (← given (λ (n : ℕ). n) 0 (pointRefusals ps) k e f, ← given (λ (n : ℕ). []) (cellOrder ps) (pointRefusals ps) k e f) at h
 
-  pub is-8 : anyIn offRange ps ≡ false → anyIn offLimit ps ≡ false → pairIn sameCell ps ≡ true → numberFor ps ≡ 8
-  unfolding numberFor
-  is-8 a b c = rw (a, b, c)
-
-  pub is-9 : anyIn offRange ps ≡ false → anyIn offLimit ps ≡ false → pairIn sameCell ps ≡ false → pairIn twoPositions ps ≡ true → numberFor ps ≡ 9
-  unfolding numberFor
-  is-9 a b c d = rw (a, b, c, d)
-
-  pub is-0 : anyIn offRange ps ≡ false → anyIn offLimit ps ≡ false → pairIn sameCell ps ≡ false → pairIn twoPositions ps ≡ false → numberFor ps ≡ 0
-  unfolding numberFor
-  is-0 a b c d = rw (a, b, c, d)
-
-  -- a table of no points where a number applies, and of all where none does
-  pub refused-by : {k : ℕ} {t : Table} → numberFor ps ≡ suc k → Tabled (suc k) [] t → Tabled (numberFor ps) (acceptedOf ps) t
-  unfolding acceptedOf
-  refused-by {k} e h = rw (e, ne-eqb (suc k) 0 (λ q. omega arith)) h
-
-  pub accepted-by : {t : Table} → numberFor ps ≡ 0 → Tabled 0 (cellOrder ps) t → Tabled (numberFor ps) (acceptedOf ps) t
-  unfolding acceptedOf
-  accepted-by e h = rw e h
+  pub accepted-by : {t : Table} → anyIn holds (pointRefusals ps) ≡ false → Tabled 0 (cellOrder ps) t → Tabled (numberFor ps) (acceptedOf ps) t
+  unfolding numberFor acceptedOf
+  accepted-by f h = rw (← passed (λ (n : ℕ). n) 0 (pointRefusals ps) f, ← passed (λ (n : ℕ). []) (cellOrder ps) (pointRefusals ps) f) at h

@@ -24,7 +24,7 @@ module _ (s : List ℕ) (room : ℕ) where
   unfolding applies
   never-three l e =
       let g = is-given s room 3 e in
-      omega (arith, ltb-true room (28 * layoutOf s .count) (g .holds), ltb-false maxPoints (layoutOf s .count) (g .earlier 2 (omega arith)))
+      omega (arith, ltb-true room (28 * layoutOf s .count) (g .holding), ltb-false maxPoints (layoutOf s .count) (g .earlier 2))
 
 bytes-cut : (s : List ℕ) (n : ℕ) → Bytes s → Bytes (take n s)
 bytes-cut s n b k = go (decLt k n)

@@ -11,7 +11,10 @@ use Rattle.folds.specs.Below.{and-under}
 use Rattle.sheet_file.specs.Bytes.{le16, le32}
 use Rattle.sheet_file.specs.Limit.{outside}
 use Rattle.sheet_file.specs.Frame.{fieldAt, pointsFrom, gateFrom, framingOf, gateStart, GateAt, gate-there, gate-absent, Fields, full-settings, short-settings, fields-of, points-in}
-use Rattle.sheet_file.specs.Refusals.{floatAt, defaultsFor, settingsIn, gateIn, edgeShapeOf, settingsOf, badFlag, settingsFloats, gateFloats, badFloat}
+use Rattle.sheet_file.specs.Refusals.{floatAt, defaultsFor, settingsIn, gateIn, edgeShapeOf, settingsOf, badFlag, settingsFloats, gateFloats, badFloat, headerRefusals}
+use Rattle.refusals.specs.First.{ruled}
+use Rattle.points.specs.Records.{pointsIn}
+use Rattle.ruling.specs.Ruling.{refused, rulingFor, rulingOf, by-points}
 use Rattle.sheet_file.specs.declared.Layout.{Layout}
 use Rattle.sheet_file.specs.declared.EdgeGate.{EdgeGate}
 use Rattle.sheet_file.specs.declared.EdgeGate.the-variants.{Off, On}
@@ -127,3 +130,14 @@ module _ (s t : List ℕ) (f : Layout) where
         go : (b : Bool) → (b ≡ true → 27 ≤ f .points) → (g : EdgeGate) → cond b (settingsIn t g) (defaultsFor (floatAt t 3) g) ≡ cond b (settingsIn s g) (defaultsFor (floatAt s 3) g)
         go true l g = settings-in-same g (l refl)
         go false l g = rw (word-same 3 (omega (arith, before framed .short)))
+
+    pub refusals-same : (room : ℕ) → headerRefusals t room (Framed f) ≡ headerRefusals s room (Framed f)
+    unfolding headerRefusals
+    refusals-same room = rw (flags-same, floats-same)
+
+    -- a file with the header of s is ruled on by that header, and then by its own points
+    pub carried : (room : ℕ) → rulingOf t room ≡ ruled refused (rulingFor (settingsOf s f) (pointsIn t (f .points) (f .count))) (headerRefusals s room (Framed f))
+    carried room = by-points t room ∙ rw (frame-same, settings-same, refusals-same room)
+
+pub same-headed : (s : List ℕ) (n : ℕ) → Headed s s n
+same-headed s n = record { size = refl; head = λ k l. refl }

@@ -1,27 +1,27 @@
 -- "Another order is any rearrangement of the points in tag 3, all else and the result buffer's length unchanged": it leaves the ruling the
--- same. Assumes nothing.
-use mathlib.Core.Path.{_≡_, refl, ap, _∙_}
-use mathlib.Core.Bool.{Bool, true, false, cond}
+-- same; of a list of points, and of a file. Assumes nothing.
+use mathlib.Core.Path.{_≡_, sym, ap, _∙_}
 use mathlib.Core.List.{List, [], map, List·Permᴰ, List·Permᴰ·nil, List·Permᴰ·cons, List·Permᴰ·swap, List·Permᴰ·trans}
 use Prim.Native.Nat.{ℕ, _+_, _*_, _≤_, _<_}
 use native.Mathlib.Omega.{arith}
 use lib.ListN.{getD, take, drop, length-map, List·getD-map}
 use lib.Seq.{getD-take, getD-drop}
-use Rattle.folds.specs.Among.{anyIn, pairIn, any-order, pair-order}
-use Rattle.folds.specs.Lists.{listOf, length-list, list-at, is-list}
+use Rattle.folds.specs.Among.{any-order, pair-order}
+use Rattle.folds.specs.Lists.{All, listOf, length-list, list-at, is-list}
 use Rattle.cells.specs.Points.{Point}
 use Rattle.sheet_file.specs.Bytes.{Bytes, le32}
 use Rattle.sheet_file.specs.Frame.{framingOf}
-use Rattle.sheet_file.specs.Refusals.{settingsOf, tooMany, tooShort, badFlag, badFloat}
+use Rattle.sheet_file.specs.Refusals.{settingsOf, headerRefusals}
+use Rattle.refusals.specs.First.{ruled, same-end}
 use Rattle.sheet_file.specs.declared.Framing.the-variants.{Framed}
 use Rattle.sheet_file.specs.declared.Layout.{Layout}
 use Rattle.sheet_file.specs.declared.Settings.{Settings}
 use Rattle.points.specs.Records.{pointAt, recordOf, pointsIn}
-use Rattle.points.specs.Refusals.{offRange, offLimit, sameCell, twoPositions, cellOrder}
+use Rattle.points.specs.Refusals.{pointRefusals, offRange, offLimit, sameCell, twoPositions, cellOrder}
 use Rattle.points.specs.Neighbours.{eqb-swap}
-use Rattle.ruling.specs.Ruling.{Ruling, refused, accepted, rulingOf}
-use Rattle.ruling.specs.Header.{Headed, frame-same, flags-same, floats-same, settings-same}
-use Rattle.ruling.specs.Standing.{one-order}
+use Rattle.ruling.specs.Ruling.{Ruling, refused, accepted, rulingFor, rulingOf}
+use Rattle.ruling.specs.Header.{Headed, carried, same-headed}
+use Rattle.ruling.specs.Standing.{Words, cell-either-way, none-apart, one-order, words-in}
 
 -- the record of 20 bytes at a position, and the n records from there on
 abbrev pub recordAt : List ℕ → ℕ → List ℕ
@@ -70,40 +70,28 @@ perm-map g (List·Permᴰ·cons e p) = List·Permᴰ·cons (ap g e) (perm-map g 
 perm-map g (List·Permᴰ·swap e f) = List·Permᴰ·swap (ap g e) (ap g f)
 perm-map g (List·Permᴰ·trans p q) = List·Permᴰ·trans (perm-map g p) (perm-map g q)
 
--- ---- the theorem
-
-cell-either-way : (p q : Point) → sameCell p q ≡ sameCell q p
-cell-either-way p q = rw (eqb-swap (p .u) (q .u), eqb-swap (p .v) (q .v))
+-- ---- of a list of points
 
 position-either-way : (p q : Point) → twoPositions p q ≡ twoPositions q p
 position-either-way p q = rw (eqb-swap (p .index) (q .index), eqb-swap (p .x) (q .x), eqb-swap (p .y) (q .y))
 
--- two rulings by the same conditions, whose points are the same where no number applies
-same-ruling : (w : Settings) (ps qs : List Point) (a b c d : Bool) → (a ≡ false → c ≡ false → ps ≡ qs)
-    → cond a (refused 6) (cond b (refused 7) (cond c (refused 8) (cond d (refused 9) (accepted w ps)))) ≡ cond a (refused 6) (cond b (refused 7) (cond c (refused 8) (cond d (refused 9) (accepted w qs))))
-same-ruling w ps qs true b c d h = refl
-same-ruling w ps qs false true c d h = refl
-same-ruling w ps qs false false true d h = refl
-same-ruling w ps qs false false false true h = refl
-same-ruling w ps qs false false false false h = ap (accepted w) (h refl refl)
+refusals-same : {ps qs : List Point} → List·Permᴰ ps qs → pointRefusals ps ≡ pointRefusals qs
+unfolding pointRefusals
+refusals-same p = rw (any-order offRange p, any-order offLimit p, pair-order sameCell cell-either-way p, pair-order twoPositions position-either-way p)
+
+pub relisted : (w : Settings) (ps qs : List Point) → All Words ps → List·Permᴰ ps qs → rulingFor w ps ≡ rulingFor w qs
+unfolding rulingFor
+relisted w ps qs h p =
+    same-end refused (accepted w (cellOrder ps)) (accepted w (cellOrder qs)) (pointRefusals ps) (λ e. ap (accepted w) (one-order ps (none-apart ps h e) qs p))
+    ∙ ap (ruled refused (accepted w (cellOrder qs))) (refusals-same p)
+
+-- ---- of a file
 
 pub order : (s t : List ℕ) (f : Layout) → Bytes s → framingOf s ≡ Framed f → Relisted s t f → (room : ℕ) → rulingOf s room ≡ rulingOf t room
-unfolding rulingOf
 order s t f b e r room =
     let ps = pointsIn s (f .points) (f .count) in
     let qs = pointsIn t (f .points) (f .count) in
     let p : List·Permᴰ ps qs = rw (points-are s (f .points) (f .count), points-are t (f .points) (f .count)) at (perm-map pointIn (r .records)) in
-    rw (
-      e,
-      frame-same s t f e (r .rest),
-      flags-same s t f e (r .rest),
-      floats-same s t f e (r .rest),
-      settings-same s t f e (r .rest),
-      ← any-order offRange p,
-      ← any-order offLimit p,
-      ← pair-order sameCell cell-either-way p,
-      ← pair-order twoPositions position-either-way p,
-    )
-    (ap (λ (x : Ruling). cond (tooMany f) (refused 2) (cond (tooShort room f) (refused 3) (cond (badFlag s f) (refused 4) (cond (badFloat s f) (refused 5) x))))
-    (same-ruling (settingsOf s f) (cellOrder ps) (cellOrder qs) (anyIn offRange ps) (anyIn offLimit ps) (pairIn sameCell ps) (pairIn twoPositions ps)
-    (λ a c. one-order s (f .points) (f .count) (record { bytes = b; in-range = a; apart = c }) qs p)))
+    carried s s f e (same-headed s (f .points)) room
+    ∙ ap (λ (x : Ruling). ruled refused x (headerRefusals s room (Framed f))) (relisted (settingsOf s f) ps qs (words-in s (f .points) (f .count) b) p)
+    ∙ sym (carried s t f e (r .rest) room)

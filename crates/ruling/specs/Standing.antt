@@ -1,37 +1,50 @@
--- The points of an accepted file stand in cell order: all in range, no two in one cell. Assumes nothing.
+-- Points that are accepted stand in cell order: all in range, no two in one cell; of a list of points, and of a file. Assumes nothing.
 use mathlib.Core.Path.{_≡_, refl, sym, ap, _∙_}
-use mathlib.Core.Bool.{true, false, true≢false}
-use mathlib.Core.List.{List, List·Permᴰ}
+use mathlib.Core.Bool.{Bool, true, false, true≢false}
+use mathlib.Core.List.{List, [], _∷_, List·Permᴰ}
 use mathlib.Core.Logic.{_⊎_, inl, inr}
 use Prim.{Dec, yes, no}
-use Prim.Native.Nat.{ℕ, _+_, _*_, _≤_, _<_}
+use Prim.Native.Nat.{ℕ, zero, suc, _^_, _≤_, _<_}
 use native.Mathlib.Decide.{decLt}
 use native.Mathlib.Omega.{arith}
-use lib.ListN.{getD}
+use lib.ListN.{length, getD}
 use borrow.Author.Tests.{eq-eqb, ltb-false}
-use Rattle.folds.specs.Among.{anyIn, pairIn, pair-yes}
-use Rattle.folds.specs.Lists.{All, listOf, length-list, list-at}
+use Rattle.folds.specs.Among.{anyIn, pairIn, none-in, any-order, pair-order}
+use Rattle.folds.specs.Below.{or-none}
+use Rattle.folds.specs.Lists.{All, listOf, length-list, list-at, is-list}
 use Rattle.view.specs.View.{maxPoints}
+use Rattle.refusals.specs.First.{holds, none-applies-in}
 use Rattle.cells.specs.Points.{Point, nowhere, keyOf}
-use Rattle.cells.specs.Cell.{cellOf, before, InRange, key-order}
-use Rattle.sort.specs.Sorted.{sort, at-all, by-key, order-free}
-use Rattle.sort.specs.Packed.{inOrder, placed, placed-is, placed-below, placed-rises}
+use Rattle.cells.specs.Cell.{cellOf, before, key-order}
+use Rattle.sort.specs.Sorted.{sort, At, all-at, at-all, Rises, sort-perm, sort-length, sort-all, sort-rises, Ordered, by-key, order-free}
 use Rattle.grid.specs.InOrder.{CellOrder}
-use Rattle.sheet_file.specs.Bytes.{Bytes}
-use Rattle.sheet_file.specs.Frame.{framingOf, layoutOf, layoutIn}
-use Rattle.sheet_file.specs.Refusals.{settingsOf, misframing}
-use Rattle.sheet_file.specs.declared.Framing.{Framing}
-use Rattle.sheet_file.specs.declared.Framing.the-variants.{Framed, Misframed}
+use Rattle.sheet_file.specs.Bytes.{Bytes, le32-small}
+use Rattle.sheet_file.specs.Frame.{framingOf, layoutOf}
+use Rattle.sheet_file.specs.Refusals.{settingsOf, is-framed}
+use Rattle.sheet_file.specs.declared.Framing.the-variants.{Framed}
 use Rattle.sheet_file.specs.declared.Layout.{Layout}
 use Rattle.sheet_file.specs.declared.Settings.{Settings}
 use Rattle.points.specs.Records.{recordOf, pointsIn}
-use Rattle.points.specs.Refusals.{offRange, sameCell, cellOrder, ahead, entryOf, together}
-use Rattle.points.specs.Neighbours.{clash}
-use Rattle.points.specs.Pairs.{same-cells, all-ranged}
-use Rattle.points.specs.Rows.{entriesOf, pointOf, row-at}
-use Rattle.points.specs.Table.{points-length, point-at}
+use Rattle.points.specs.Refusals.{pointRefusals, offRange, offLimit, sameCell, cellOrder, ahead}
+use Rattle.points.specs.Neighbours.{eqb-swap}
+use Rattle.points.specs.Pairs.{Ranged, ranged, cells-by-key}
 use Rattle.ruling.specs.Numbered.{sorted-by-number}
-use Rattle.ruling.specs.Ruling.{accepted, rulingOf, pointsOf, applies, none-given, none-applies}
+use Rattle.ruling.specs.Ruling.{accepted, rulingFor, for-accepted, rulingOf, pointsOf, applies, none-applies, is-accepted, in-file}
+
+-- ---- lists by place
+
+-- no two at different places pass
+pub pair-none : {A : Type 0} (t : A → A → Bool) (d : A) (l : List A) → pairIn t l ≡ false → (i j : ℕ) → i < j → j < length l → t (getD l i d) (getD l j d) ≡ false
+pair-none t d [] e i j ij jn = absurd (omega arith)
+pair-none t d (a ∷ l) e i zero ij jn = absurd (omega arith)
+pair-none t d (a ∷ l) e zero (suc j) ij jn = all-at (λ b. t a b ≡ false) d l (none-in (t a) l (or-none (anyIn (t a) l) (pairIn t l) e .0)) j (omega arith)
+pair-none t d (a ∷ l) e (suc i) (suc j) ij jn = pair-none t d l (or-none (anyIn (t a) l) (pairIn t l) e .1) i j (omega arith) (omega arith)
+
+rises-at : {A : Type 0} (before : A → A → Bool) (d : A) (l : List A) → Rises before l → (i j : ℕ) → i < j → j < length l → before (getD l j d) (getD l i d) ≡ false
+rises-at before d [] r i j ij jn = absurd (omega arith)
+rises-at before d (a ∷ l) r i zero ij jn = absurd (omega arith)
+rises-at before d (a ∷ l) r zero (suc j) ij jn = all-at (λ b. before b a ≡ false) d l (r .0) j (omega arith)
+rises-at before d (a ∷ l) r (suc i) (suc j) ij jn = rises-at before d l (r .1) i j (omega arith) (omega arith)
 
 order-of : (i j : ℕ) → (i ≡ j) ⊎ ((i < j) ⊎ (j < i))
 order-of i j = go (decLt i j) (decLt j i)
@@ -41,86 +54,132 @@ order-of i j = go (decLt i j) (decLt j i)
     go (no f) (yes l) = inr (inr l)
     go (no f) (no g) = inl (omega arith)
 
--- n points of a file, all in range and no two in one cell
-pub record Apart (s : List ℕ) (at n : ℕ) : Type 0 where
-  pub bytes : Bytes s
-  pub in-range : anyIn offRange (pointsIn s at n) ≡ false
-  pub apart : pairIn sameCell (pointsIn s at n) ≡ false
+pub cell-either-way : (p q : Point) → sameCell p q ≡ sameCell q p
+cell-either-way p q = rw (eqb-swap (p .u) (q .u), eqb-swap (p .v) (q .v))
 
-module _ (s : List ℕ) (at n : ℕ) (h : Apart s at n) where
+-- ---- of a list of points
+
+-- "each point is u i32, v i32, index u32, x f32, y f32": its words are patterns of 32 bits
+pub record Words (p : Point) : Type 0 where
+  pub u : p .u < 2 ^ 32
+  pub v : p .v < 2 ^ 32
+  pub index : p .index < 2 ^ 32
+  pub x : p .x < 2 ^ 32
+  pub y : p .y < 2 ^ 32
+
+pub all-in-range : (ps : List Point) → All Words ps → anyIn offRange ps ≡ false → All Ranged ps
+all-in-range [] h e = tt
+all-in-range (p ∷ ps) h e = let w = or-none (offRange p) (anyIn offRange ps) e in (ranged p (h .0 .u) (h .0 .v) (w .0), all-in-range ps (h .1) (w .1))
+
+-- points that are all in range, and no two in one cell
+pub record Apart (ps : List Point) : Type 0 where
+  pub words : All Words ps
+  pub in-range : anyIn offRange ps ≡ false
+  pub apart : pairIn sameCell ps ≡ false
+
+module _ (ps : List Point) (h : Apart ps) where
+  pub ranged-at : (i : ℕ) → i < length ps → Ranged (getD ps i nowhere)
+  ranged-at = all-at Ranged nowhere ps (all-in-range ps (h .words) (h .in-range))
+
   -- their keys differ
-  different : (i j : ℕ) → i < j → j < n → keyOf (recordOf s at i) ≡ keyOf (recordOf s at j) → ⊥
-  unfolding pointsIn
+  different : (i j : ℕ) → i < j → j < length ps → keyOf (getD ps i nowhere) ≡ keyOf (getD ps j nowhere) → ⊥
   different i j ij jn e =
-      true≢false
-      (sym (pair-yes (recordOf s at) n (clash (entryOf false) (together false)) i j ij jn (rw (eq-eqb (keyOf (recordOf s at i)) (keyOf (recordOf s at j)) e)))
-      ∙ sym (same-cells s at n (h .bytes) (h .in-range)) ∙ h .apart)
+      let p = getD ps i nowhere in
+      let q = getD ps j nowhere in
+      let y : sameCell p q ≡ true = cells-by-key p q (ranged-at i (omega arith)) (ranged-at j jn) ∙ rw (eq-eqb (keyOf p) (keyOf q) e) in
+      true≢false (sym y ∙ pair-none sameCell nowhere ps (h .apart) i j ij jn)
 
   -- one key, one point
-  abbrev Listed : Point → Type 0
-  Listed p = (i : ℕ) × (i < n) × (p ≡ recordOf s at i)
-
-  all-listed : All Listed (pointsIn s at n)
-  unfolding pointsIn
-  all-listed = at-all Listed nowhere (listOf n (recordOf s at)) (λ k b. let l : k < n = omega (arith, length-list n (recordOf s at)) in (k, l, list-at n (recordOf s at) k nowhere l))
-
-  one-point : (p q : Point) → Listed p → Listed q → keyOf p ≡ keyOf q → p ≡ q
-  one-point p q a b e = go (order-of (a .0) (b .0))
+  one-point : (p q : Point) → At nowhere ps p → At nowhere ps q → keyOf p ≡ keyOf q → p ≡ q
+  one-point p q a b e = go (order-of (a .place) (b .place))
     where
-      k : keyOf (recordOf s at (a .0)) ≡ keyOf (recordOf s at (b .0))
-      k = ap keyOf (sym (a .2)) ∙ e ∙ ap keyOf (b .2)
+      k : keyOf (getD ps (a .place) nowhere) ≡ keyOf (getD ps (b .place) nowhere)
+      k = ap keyOf (sym (a .is)) ∙ e ∙ ap keyOf (b .is)
 
-      go : (a .0 ≡ b .0) ⊎ ((a .0 < b .0) ⊎ (b .0 < a .0)) → p ≡ q
-      go (inl i) = a .2 ∙ ap (recordOf s at) i ∙ sym (b .2)
-      go (inr (inl l)) = absurd (different (a .0) (b .0) l (b .1) k)
-      go (inr (inr l)) = absurd (different (b .0) (a .0) l (a .1) (sym k))
+      go : (a .place ≡ b .place) ⊎ ((a .place < b .place) ⊎ (b .place < a .place)) → p ≡ q
+      go (inl i) = a .is ∙ ap (λ (i : ℕ). getD ps i nowhere) i ∙ sym (b .is)
+      go (inr (inl l)) = absurd (different (a .place) (b .place) l (b .below) k)
+      go (inr (inr l)) = absurd (different (b .place) (a .place) l (a .below) (sym k))
+
+  all-listed : All (At nowhere ps) ps
+  all-listed = at-all (At nowhere ps) nowhere ps (λ i l. record { place = i; below = l; is = refl })
+
+  ordered : Ordered ahead (At nowhere ps)
+  ordered = by-key keyOf (At nowhere ps) one-point
 
   -- "Another order is any rearrangement of the points": they have one cell order
-  pub one-order : (qs : List Point) → List·Permᴰ (pointsIn s at n) qs → cellOrder (pointsIn s at n) ≡ cellOrder qs
-  one-order qs p = order-free ahead Listed (by-key keyOf Listed one-point) p all-listed
+  pub one-order : (qs : List Point) → List·Permᴰ ps qs → cellOrder ps ≡ cellOrder qs
+  one-order qs p = order-free ahead (At nowhere ps) ordered p all-listed
+
+  pub sorted-apart : Apart (cellOrder ps)
+  sorted-apart = record {
+    words = sort-all ahead Words ps (h .words);
+    in-range = sym (any-order offRange (sort-perm ahead ps)) ∙ h .in-range;
+    apart = sym (pair-order sameCell cell-either-way (sort-perm ahead ps)) ∙ h .apart;
+  }
+
+  sorted-rises : Rises ahead (cellOrder ps)
+  sorted-rises = sort-rises ahead (At nowhere ps) ordered ps all-listed
 
   -- "in cell order, by u, then v"
-  pub by-u-then-v : cellOrder (pointsIn s at n) ≡ sort (λ (p q : Point). before (cellOf p) (cellOf q)) (pointsIn s at n)
-  unfolding pointsIn
+  pub by-u-then-v : cellOrder ps ≡ sort (λ (p q : Point). before (cellOf p) (cellOf q)) ps
   by-u-then-v =
-      let g = recordOf s at in
-      let in-range : (i : ℕ) → i < n → InRange (g i) = λ i l. all-ranged s at n (h .bytes) (h .in-range) i l .cell in
-      sorted-by-number g n (λ (i j : ℕ). ahead (g i) (g j)) ahead (λ i j a b. refl)
-      ∙ sym (sorted-by-number g n (λ (i j : ℕ). ahead (g i) (g j)) (λ (p q : Point). before (cellOf p) (cellOf q)) (λ i j a b. key-order (g j) (g i) (in-range j b) (in-range i a)))
+      let g : ℕ → Point = λ i. getD ps i nowhere in
+      let n = length ps in
+      let own : ps ≡ listOf n g = is-list nowhere n g ps refl (λ k l. refl) in
+      let second : Point → Point → Bool = λ p q. before (cellOf p) (cellOf q) in
+      ap cellOrder own ∙ sorted-by-number g n (λ (i j : ℕ). ahead (g i) (g j)) ahead (λ i j a b. refl)
+      ∙ sym (sorted-by-number g n (λ (i j : ℕ). ahead (g i) (g j)) second (λ i j a b. key-order (g j) (g i) (ranged-at j b .cell) (ranged-at i a .cell)))
+      ∙ ap (sort second) (sym own)
 
-  module _ (few : n ≤ maxPoints) where
-    abbrev key : ℕ → ℕ
-    key = entriesOf s at false
+-- the points, sorted, are ready for the tables of the grid
+pub in-cell-order : (ps : List Point) → Apart ps → length ps ≤ maxPoints → CellOrder (cellOrder ps)
+in-cell-order ps h few =
+    let o = sorted-apart ps h in
+    record {
+      few = omega (arith, sort-length ahead ps);
+      inside = λ k b. ranged-at (cellOrder ps) o k b .cell;
+      rising = λ i j ij jn.
+          omega (arith, ltb-false (keyOf (getD (cellOrder ps) j nowhere)) (keyOf (getD (cellOrder ps) i nowhere)) (rises-at ahead nowhere (cellOrder ps) (sorted-rises ps h) i j ij jn), different (cellOrder ps) o i j ij jn);
+    }
 
-    rising : (i j : ℕ) → i < j → j < n → keyOf (recordOf s at (placed key n i)) < keyOf (recordOf s at (placed key n j))
-    rising i j ij jn =
-        let pi = placed-is key n (omega arith) i (omega arith) in
-        let pj = placed-is key n (omega arith) j jn in
-        let bi = placed-below key n (omega arith) i (omega arith) in
-        let bj = placed-below key n (omega arith) j jn in
-        let up = placed-rises key n (omega arith) i j ij jn in
-        let ne : (keyOf (recordOf s at (placed key n i)) ≡ keyOf (recordOf s at (placed key n j)) → ⊥) = λ e. go e pi pj bi bj up (order-of (placed key n i) (placed key n j)) in
-        omega (arith, pi, pj, bi, bj, up, ne, few)
-      where
-        go : keyOf (recordOf s at (placed key n i)) ≡ keyOf (recordOf s at (placed key n j)) → getD (inOrder key n) i 0 ≡ key (placed key n i) * 4096 + placed key n i → getD (inOrder key n) j 0 ≡ key (placed key n j) * 4096 + placed key n j
-            → placed key n i < n → placed key n j < n → getD (inOrder key n) i 0 < getD (inOrder key n) j 0 → (placed key n i ≡ placed key n j) ⊎ ((placed key n i < placed key n j) ⊎ (placed key n j < placed key n i)) → ⊥
-        go e pi pj bi bj up (inl q) = omega (arith, e, q, pi, pj, up)
-        go e pi pj bi bj up (inr (inl l)) = different (placed key n i) (placed key n j) l bj e
-        go e pi pj bi bj up (inr (inr l)) = different (placed key n j) (placed key n i) l bi (sym e)
+-- where no number applies, they are so
+pub none-apart : (ps : List Point) → All Words ps → anyIn holds (pointRefusals ps) ≡ false → Apart ps
+unfolding pointRefusals
+none-apart ps h e = let no = none-applies-in (pointRefusals ps) e in record { words = h; in-range = no 6; apart = no 8 }
 
-    at-row : (k : ℕ) → k < n → getD (cellOrder (pointsIn s at n)) k nowhere ≡ recordOf s at (placed key n k)
-    at-row k b = point-at s at n few k b ∙ ap (pointOf s at) (row-at s at n false few k b)
+in-limit : (ps : List Point) → anyIn holds (pointRefusals ps) ≡ false → anyIn offLimit ps ≡ false
+unfolding pointRefusals
+in-limit ps e = none-applies-in (pointRefusals ps) e 7
 
-    pub in-cell-order : CellOrder (cellOrder (pointsIn s at n))
-    in-cell-order =
-        let l = points-length s at n few in
-        record {
-          few = omega (arith, l);
-          inside = λ k b. rw (at-row k (omega arith)) (all-ranged s at n (h .bytes) (h .in-range) (placed key n k) (placed-below key n (omega arith) k (omega arith)) .cell);
-          rising = λ i j ij jn. rw (at-row i (omega arith), at-row j (omega arith)) (rising i j ij (omega arith));
-        }
+-- what accepted points are: "in cell order", no position off the limit
+pub record Sound (ps : List Point) : Type 0 where
+  pub order : CellOrder ps
+  pub limits : (k : ℕ) → k < length ps → offLimit (getD ps k nowhere) ≡ false
+  pub words : (k : ℕ) → k < length ps → Words (getD ps k nowhere)
 
--- ---- of an accepted file
+pub sound-for : (w v : Settings) (ps qs : List Point) → All Words ps → length ps ≤ maxPoints → rulingFor w ps ≡ accepted v qs → Sound qs
+sound-for w v ps qs h few e =
+    let k = for-accepted w v ps qs e in
+    let q : qs ≡ cellOrder ps = cc (k .1) in
+    rw q
+    (record {
+      order = in-cell-order ps (none-apart ps h (k .0)) few;
+      limits = all-at (λ (p : Point). offLimit p ≡ false) nowhere (cellOrder ps) (none-in offLimit (cellOrder ps) (sym (any-order offLimit (sort-perm ahead ps)) ∙ in-limit ps (k .0)));
+      words = all-at Words nowhere (cellOrder ps) (sort-all ahead Words ps h);
+    })
+
+-- ---- of a file
+
+pub words-in : (s : List ℕ) (at n : ℕ) → Bytes s → All Words (pointsIn s at n)
+unfolding pointsIn
+words-in s at n b =
+    at-all Words nowhere (listOf n (recordOf s at))
+    (λ k l. rw (list-at n (recordOf s at) k nowhere (omega (arith, length-list n (recordOf s at)))) (record { u = le32-small s b _; v = le32-small s b _; index = le32-small s b _; x = le32-small s b _; y = le32-small s b _ }))
+
+pub length-points : (s : List ℕ) (at n : ℕ) → length (pointsIn s at n) ≡ n
+unfolding pointsIn
+length-points s at n = length-list n (recordOf s at)
 
 -- what an accepted ruling says
 pub record Taken (s : List ℕ) (f : Layout) (w : Settings) (ps : List Point) : Type 0 where
@@ -128,25 +187,30 @@ pub record Taken (s : List ℕ) (f : Layout) (w : Settings) (ps : List Point) : 
   pub few : f .count ≤ maxPoints
   pub settings-are : w ≡ settingsOf s f
   pub points-are : ps ≡ cellOrder (pointsIn s (f .points) (f .count))
-  pub apart : Apart s (f .points) (f .count)
+  pub ruled-so : rulingFor (settingsOf s f) (pointsIn s (f .points) (f .count)) ≡ accepted w ps
+  pub size : length ps ≡ f .count
 
-pub taken : (s : List ℕ) (room : ℕ) (w : Settings) (ps : List Point) → Bytes s → rulingOf s room ≡ accepted w ps → Taken s (layoutOf s) w ps
+pub taken : (s : List ℕ) (room : ℕ) (w : Settings) (ps : List Point) → rulingOf s room ≡ accepted w ps → Taken s (layoutOf s) w ps
 unfolding applies
-taken s room w ps b e =
+taken s room w ps e =
     let no = none-applies s room e in
-    let q : accepted w ps ≡ accepted (settingsOf s (layoutOf s)) (cellOrder (pointsOf s)) = sym e ∙ none-given s room no in
+    let q = is-accepted s room e .1 in
+    let p : ps ≡ cellOrder (pointsOf s) = cc q in
     record {
-      framed = go (framingOf s) refl (no 1 (omega arith));
-      few = ltb-false maxPoints (layoutOf s .count) (no 2 (omega arith));
-      settings-are = cc;
-      points-are = cc;
-      apart = record { bytes = b; in-range = no 6 (omega arith); apart = no 8 (omega arith) };
+      framed = is-framed s (no 1);
+      few = ltb-false maxPoints (layoutOf s .count) (no 2);
+      settings-are = cc q;
+      points-are = p;
+      ruled-so = in-file s room e .1;
+      size = ap length p ∙ sort-length ahead (pointsOf s) ∙ length-points s (layoutOf s .points) (layoutOf s .count);
     }
-  where
-    go : (x : Framing) → framingOf s ≡ x → misframing x ≡ false → framingOf s ≡ Framed (layoutIn x)
-    go (Framed f) h m = h
-    go Misframed h m = absurd (true≢false m)
+
+pub sound : (s : List ℕ) (room : ℕ) (w : Settings) (ps : List Point) → Bytes s → rulingOf s room ≡ accepted w ps → Sound ps
+sound s room w ps b e =
+    let f = layoutOf s in
+    let k = taken s room w ps e in
+    sound-for (settingsOf s f) w (pointsOf s) ps (words-in s (f .points) (f .count) b) (omega (arith, k .few, length-points s (f .points) (f .count))) (k .ruled-so)
 
 -- "in cell order": the points of an accepted file are ready for the tables of the grid
 pub accepted-order : (s : List ℕ) (room : ℕ) (w : Settings) (ps : List Point) → Bytes s → rulingOf s room ≡ accepted w ps → CellOrder ps
-accepted-order s room w ps b e = let k = taken s room w ps b e in rw (k .points-are) (in-cell-order s (layoutOf s .points) (layoutOf s .count) (k .apart) (k .few))
+accepted-order s room w ps b e = sound s room w ps b e .order

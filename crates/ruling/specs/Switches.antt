@@ -12,12 +12,13 @@ use Rattle.folds.specs.Lists.{list-ext}
 use Rattle.cells.specs.Points.{Point, nowhere}
 use Rattle.sheet_file.specs.Bytes.{Bytes, byteAt, le16, le32}
 use Rattle.sheet_file.specs.Frame.{fieldAt, pointsFrom, gateFrom, framingOf, layoutOf, GateAt, gate-there, gate-absent, Fields, full-settings, short-settings, fields-of, points-in}
-use Rattle.sheet_file.specs.Refusals.{settingsIn, gateIn, edgeShapeOf, settingsOf, noFlag, badFlag, badFloat}
+use Rattle.sheet_file.specs.Refusals.{settingsIn, gateIn, edgeShapeOf, settingsOf, noFlag, badFlag, badFloat, headerRefusals}
 use Rattle.sheet_file.specs.declared.Layout.{Layout}
 use Rattle.sheet_file.specs.declared.Settings.{Settings}
 use Rattle.sheet_file.specs.declared.Framing.the-variants.{Framed}
 use Rattle.points.specs.Records.{recordOf, pointsIn}
-use Rattle.ruling.specs.Ruling.{accepted, rulingOf, applies, none-applies}
+use Rattle.refusals.specs.First.{passed}
+use Rattle.ruling.specs.Ruling.{refused, accepted, rulingFor, other-settings, rulingOf, by-points, applies, none-applies, in-file}
 use Rattle.ruling.specs.Standing.{taken}
 
 -- t is s with other switches, bytes 22 and 23, each 0 or 1
@@ -143,26 +144,21 @@ module _ (s t : List ℕ) (f : Layout) (h : Switched s t) where
         word : (i j : ℕ) → le32 t (f .points + 20 * i + j) ≡ le32 s (f .points + 20 * i + j)
         word i j = high-word (f .points + 20 * i + j) (omega (arith, after))
 
+    refusals-same : (room : ℕ) → badFlag s f ≡ false → headerRefusals t room (Framed f) ≡ headerRefusals s room (Framed f)
+    unfolding headerRefusals
+    refusals-same room e = rw (e, flags-fine e, floats-same)
+
+flags : (s : List ℕ) (room : ℕ) (w : Settings) (ps : List Point) → rulingOf s room ≡ accepted w ps → badFlag s (layoutOf s) ≡ false
+unfolding applies
+flags s room w ps e = none-applies s room e 4
+
 pub switches : (s t : List ℕ) → Bytes s → Switched s t → layoutOf s .full ≡ true → (room : ℕ) (w : Settings) (ps : List Point) → rulingOf s room ≡ accepted w ps
     → rulingOf t room ≡ accepted (switched w (byteAt t 22) (byteAt t 23)) ps
-unfolding rulingOf applies
 switches s t b h full room w ps e =
     let f = layoutOf s in
-    let k = taken s room w ps b e in
-    let no = none-applies s room e in
-    rw (
-      frame-same s t f h (k .framed) full,
-      no 2 (omega arith),
-      no 3 (omega arith),
-      flags-fine s t f h (k .framed) full (no 4 (omega arith)),
-      floats-same s t f h (k .framed) full,
-      no 5 (omega arith),
-      points-are s t f h (k .framed) full,
-      no 6 (omega arith),
-      no 7 (omega arith),
-      no 8 (omega arith),
-      no 9 (omega arith),
-      settings-switched s t f h (k .framed) full,
-      k .settings-are,
-      k .points-are,
-    )
+    let k = taken s room w ps e in
+    let v = switched w (byteAt t 22) (byteAt t 23) in
+    let same : rulingFor v (pointsIn s (f .points) (f .count)) ≡ accepted v ps = other-settings w v (pointsIn s (f .points) (f .count)) ps (rw (← k .settings-are) at (k .ruled-so)) in
+    by-points t room
+    ∙ rw (frame-same s t f h (k .framed) full, settings-switched s t f h (k .framed) full, ← k .settings-are, points-are s t f h (k .framed) full, refusals-same s t f h (k .framed) full room (flags s room w ps e))
+    (passed refused (rulingFor v (pointsIn s (f .points) (f .count))) (headerRefusals s room (Framed f)) (rw (k .framed) at (in-file s room e .0)) ∙ same)

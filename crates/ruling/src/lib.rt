@@ -6,9 +6,8 @@ use sheet_file::Reading;
 use sheet_file::Settings;
 ghost use Rattle.points.specs.Records.{pointsIn, Room};
 ghost use Rattle.points.specs.Table.{Tabled};
-ghost use Rattle.ruling.specs.Ruling.{refused, rulingOf};
+ghost use Rattle.ruling.specs.Ruling.{refused, rulingFor, rulingOf};
 ghost use Rattle.ruling.specs.Sheet.{Ruled};
-ghost use Rattle.ruling.specs.Parts.{rulingFor};
 ghost use mathlib.Core.List.{[]};
 
 // The settings, how many points there are, and the points in cell order. The number of a refusal is the table's; it is 0 for none.

@@ -1,6 +1,7 @@
 -- The settings of a sheet file, the conditions of the numbers 1 to 5, and what is read of a file and the length of a result buffer.
 -- Assumes nothing.
-use mathlib.Core.Bool.{Bool, true, false, cond, not, _&&_, _||_}
+use mathlib.Core.Path.{_≡_, refl}
+use mathlib.Core.Bool.{Bool, true, false, cond, not, _&&_, _||_, true≢false}
 use mathlib.Core.List.{List, [], _∷_}
 use Prim.Native.Nat.{ℕ, _+_, _*_}
 use lib.Dec.{eqb, ltb}
@@ -8,9 +9,10 @@ use lib.Ieee.{Float}
 use Rattle.folds.specs.Arith.{f32}
 use Rattle.folds.specs.Among.{anyIn}
 use Rattle.view.specs.View.{maxPoints}
+use Rattle.refusals.specs.First.{Refusal, ruled}
 use Rattle.sheet_file.specs.Bytes.{byteAt, le16, le32}
 use Rattle.sheet_file.specs.Limit.{outside}
-use Rattle.sheet_file.specs.Frame.{framingOf, layoutOf, gateStart}
+use Rattle.sheet_file.specs.Frame.{framingOf, layoutIn, layoutOf, gateStart}
 use Rattle.sheet_file.specs.declared.Layout.{Layout}
 use Rattle.sheet_file.specs.declared.Framing.{Framing}
 use Rattle.sheet_file.specs.declared.Framing.the-variants.{Framed, Misframed}
@@ -18,6 +20,7 @@ use Rattle.sheet_file.specs.declared.EdgeShapeParams.{EdgeShapeParams}
 use Rattle.sheet_file.specs.declared.EdgeGate.{EdgeGate}
 use Rattle.sheet_file.specs.declared.EdgeGate.the-variants.{Off, On}
 use Rattle.sheet_file.specs.declared.Settings.{Settings}
+use Rattle.sheet_file.specs.declared.Header.{Header}
 use Rattle.sheet_file.specs.declared.Reading.{Reading}
 use Rattle.sheet_file.specs.declared.Reading.the-variants.{Refused, Accepted}
 
@@ -83,6 +86,13 @@ misframing Misframed = true
 abbrev pub misframed : List ℕ → Bool
 misframed s = misframing (framingOf s)
 
+pub is-framed : (s : List ℕ) → misframed s ≡ false → framingOf s ≡ Framed (layoutOf s)
+is-framed s m = go (framingOf s) m
+  where
+    go : (x : Framing) → misframing x ≡ false → x ≡ Framed (layoutIn x)
+    go (Framed f) m = refl
+    go Misframed m = absurd (true≢false m)
+
 -- "2. There are more than 2,048 points."
 abbrev pub tooMany : Layout → Bool
 tooMany f = ltb maxPoints (f .count)
@@ -112,13 +122,25 @@ badFloat s f = anyIn outside (settingsFloats s (f .full)) || (f .gated && anyIn 
 
 -- ---- what is read
 
+-- the refusals of a file that is framed so, before its points are looked at, in their order
+unfoldable pub headerRefusals : List ℕ → ℕ → Framing → List Refusal
+headerRefusals s room x =
+    let f = layoutIn x in
+    (1, misframing x)
+    ∷ (2, tooMany f)
+    ∷ (3, tooShort room f)
+    ∷ (4, badFlag s f)
+    ∷ (5, badFloat s f)
+    ∷ []
+
+abbrev pub headerOf : List ℕ → Layout → Header
+headerOf s f = record { settings = settingsOf s f; points = f .points; count = f .count }
+
 -- "A call returns the first number that applies"
-unfoldable pub readingIn : List ℕ → ℕ → Layout → Reading
-readingIn s room f =
-    cond (tooMany f) (Refused 2)
-    (cond (tooShort room f) (Refused 3)
-    (cond (badFlag s f) (Refused 4)
-    (cond (badFloat s f) (Refused 5) (Accepted (record { settings = settingsOf s f; points = f .points; count = f .count })))))
+unfoldable pub readingIn : List ℕ → ℕ → Framing → Reading
+unfolding headerRefusals
+readingIn s room x = ruled Refused (Accepted (headerOf s (layoutIn x))) (headerRefusals s room x)
 
 unfoldable pub readingOf : List ℕ → ℕ → Reading
-readingOf s room = cond (misframed s) (Refused 1) (readingIn s room (layoutOf s))
+unfolding readingIn
+readingOf s room = readingIn s room (framingOf s)

@@ -351,7 +351,7 @@ fn settings_of(file: &[u8], f: Layout) -> Settings
 // Refusals 2 to 5 of a file with this layout.
 fn read_framed(file: &[u8], room: usize, f: Layout) -> Reading
     requires { ⌜ Held (now file) f ⌝ }
-    ensures { λ r. ⌜ r ≡ readingIn (now (file .entry)) room f ⌝ }
+    ensures { λ r. ⌜ r ≡ readingIn (now (file .entry)) room (Framing.Framed f) ⌝ }
 {
     if MAX_POINTS < f.count {
         return Reading::Refused(2);

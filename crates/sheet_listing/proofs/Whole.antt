@@ -1,5 +1,5 @@
 -- A buffer of listingSize bytes has room for the text of any bytes. Assumes nothing.
-use mathlib.Core.Path.{_≡_, refl, ap, _∙_}
+use mathlib.Core.Path.{_≡_, refl, _∙_}
 use mathlib.Core.Bool.{Bool, true, false}
 use mathlib.Core.List.{List, _++_}
 use Prim.{Dec, yes, no}
@@ -15,13 +15,10 @@ use Rattle.view.specs.View.{maxPoints}
 use Rattle.cells.specs.Points.{Point, nowhere, keyOf, keysOf, indicesOf}
 use Rattle.cells.specs.Cell.{key-small}
 use Rattle.grid.specs.Views.{viewOf}
-use Rattle.sheet_file.specs.Bytes.{Bytes, le32-small}
-use Rattle.sheet_file.specs.Frame.{layoutOf}
+use Rattle.sheet_file.specs.Bytes.{Bytes}
 use Rattle.sheet_file.specs.declared.Settings.{Settings}
-use Rattle.points.specs.Table.{point-at, points-length}
-use Rattle.points.specs.Rows.{rowsOf}
 use Rattle.ruling.specs.Ruling.{Ruling, refused, accepted, rulingOf, is-given}
-use Rattle.ruling.specs.Standing.{taken, accepted-order}
+use Rattle.ruling.specs.Standing.{sound, accepted-order}
 use Rattle.kept.specs.Answer.{rowsAfter}
 use Rattle.kept.specs.Marks.{countIn}
 use Rattle.kept.specs.Patch.{roots, count-on, count-off}
@@ -34,9 +31,9 @@ use Rattle.listing.specs.Listing.{refusalOf, listingSize}
 use Rattle.listing.proofs.Size.{listing-fits}
 use Rattle.sheet_listing.specs.Text.{rowsSize, noRows, textBy, textOf, text-is}
 
-refusal-fits : (k : ℕ) → k < 10 → length (refusalOf k) ≤ listingSize
+refusal-fits : (k : ℕ) → k < 256 → length (refusalOf k) ≤ listingSize
 unfolding refusalOf
-refusal-fits k h = simp length-append (omega (arith, decimal-length 0 k (omega arith)))
+refusal-fits k h = simp length-append (omega (arith, decimal-length 2 k (omega arith)))
 
 -- what is read of a column is below a bound if its entries are
 column-small : (n m : ℕ) (f : ℕ → ℕ) → 0 < m → ((k : ℕ) → k < n → f k < m) → (k : ℕ) → getD (column maxPoints 0 n f) k 0 < m
@@ -52,12 +49,7 @@ module _ (s : List ℕ) (b : Bytes s) (w : Settings) (ps : List Point) (e : ruli
   keys-small = column-small (length ps) (2 ^ 32) (λ (k : ℕ). keyOf (getD ps k nowhere)) (omega arith) (λ k h. omega (arith, key-small (getD ps k nowhere) (accepted-order s rowsSize w ps b e .inside k h)))
 
   index-small : (k : ℕ) → k < length ps → getD ps k nowhere .index < 2 ^ 32
-  index-small k h =
-      let t = taken s rowsSize w ps b e in
-      let at = layoutOf s .points in
-      let n = layoutOf s .count in
-      let l : k < n = omega (arith, ap length (t .points-are) ∙ points-length s at n (t .few)) in
-      rw (t .points-are, point-at s at n (t .few) k l) (le32-small s b _)
+  index-small k h = sound s rowsSize w ps b e .words k h .index
 
   indices-small : (k : ℕ) → getD (indicesOf ps) k 0 < 2 ^ 32
   unfolding indicesOf

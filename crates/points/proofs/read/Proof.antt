@@ -1,35 +1,42 @@
 -- `points::read` meets its contract: the numbers 6 to 9 in their order. Assumes nothing.
-use Rattle.points.specs.Table.{is-6, is-7, is-8, is-9, is-0, refused-by, accepted-by}
+use Rattle.refusals.specs.First.{neither}
+use Rattle.points.specs.Refusals.{pointRefusals}
+use Rattle.points.specs.Table.{refused-by, accepted-by}
 use Rattle.points.specs.Pairs.{cells-found, positions-found}
 use Rattle.points.specs.Rows.{rows-placed}
-use mathlib.Core.Path.{sym, _∙_}
+use mathlib.Core.Path.{refl, sym, _∙_}
 use borrow.Author.Needs.{needs}
 use Rattle.points.proofs.read.Statement.{statement}
 use Rattle.points.proofs.read.Tie as tie
 
 returns : tie.Need-returns
-returns c = refused-by _ (is-6 _ (sym (c .before .before .some-off .ensures) ∙ c .before .if1 .taken)) (c .refused .ensures)
+unfolding pointRefusals
+returns c = refused-by _ 6 (sym (c .before .before .some-off .ensures) ∙ c .before .if1 .taken) refl (c .refused .ensures)
 
 returns-2 : tie.Need-returns-2
-returns-2 c = refused-by _ (is-7 _ (sym (c .before .before .before .before .some-off .ensures) ∙ c .before .before .before .if1 .left) (sym (c .before .before .some-off2 .ensures) ∙ c .before .if2 .taken)) (c .refused2 .ensures)
+unfolding pointRefusals
+returns-2 c = refused-by _ 7 (sym (c .before .before .some-off2 .ensures) ∙ c .before .if2 .taken) (neither (sym (c .before .before .before .before .some-off .ensures) ∙ c .before .before .before .if1 .left) refl) (c .refused2 .ensures)
 
 some-clash-requires : tie.Need-some-clash-requires
 some-clash-requires c κs = (c .before .before .before .before .before .before .before .pre, rw (c .before .rows .ensures) (rows-placed _ _ _ _ (c .before .before .before .before .before .before .before .pre .few)))
 
 returns-3 : tie.Need-returns-3
-returns-3 c = refused-by _ (is-8 _ (sym (c .before .before .before .before .before .before .before .before .some-off .ensures) ∙ c .before .before .before .before .before .before .before .if1 .left) (sym (c .before .before .before .before .before .before .some-off2 .ensures) ∙ c .before .before .before .before .before .if2 .left) (cells-found _ _ _ (c .before .before .before .before .before .before .before .before .before .before .pre .few) _ (λ k. c .before .before .before .before .before .before .before .before .before .shared-slice-known .given k .fits) (sym (c .before .before .before .before .before .before .before .before .some-off .ensures) ∙ c .before .before .before .before .before .before .before .if1 .left) (c .before .before .before .before .rows .ensures) (c .before .before .some-clash .ensures) ∙ c .before .if3 .taken)) (c .refused3 .ensures)
+unfolding pointRefusals
+returns-3 c = refused-by _ 8 (cells-found _ _ _ (c .before .before .before .before .before .before .before .before .before .before .pre .few) _ (λ k. c .before .before .before .before .before .before .before .before .before .shared-slice-known .given k .fits) (sym (c .before .before .before .before .before .before .before .before .some-off .ensures) ∙ c .before .before .before .before .before .before .before .if1 .left) (c .before .before .before .before .rows .ensures) (c .before .before .some-clash .ensures) ∙ c .before .if3 .taken) (neither (sym (c .before .before .before .before .before .before .before .before .some-off .ensures) ∙ c .before .before .before .before .before .before .before .if1 .left) (neither (sym (c .before .before .before .before .before .before .some-off2 .ensures) ∙ c .before .before .before .before .before .if2 .left) refl)) (c .refused3 .ensures)
 
 some-clash-requires-2 : tie.Need-some-clash-requires-2
 some-clash-requires-2 c κs = (c .before .before .before .before .before .before .before .before .before .before .before .pre, rw (c .before .rows2 .ensures) (rows-placed _ _ _ _ (c .before .before .before .before .before .before .before .before .before .before .before .pre .few)))
 
 returns-4 : tie.Need-returns-4
-returns-4 c = refused-by _ (is-9 _ (sym (c .before .before .before .before .before .before .before .before .before .before .before .before .some-off .ensures) ∙ c .before .before .before .before .before .before .before .before .before .before .before .if1 .left) (sym (c .before .before .before .before .before .before .before .before .before .before .some-off2 .ensures) ∙ c .before .before .before .before .before .before .before .before .before .if2 .left) (cells-found _ _ _ (c .before .before .before .before .before .before .before .before .before .before .before .before .before .before .pre .few) _ (λ k. c .before .before .before .before .before .before .before .before .before .before .before .before .before .shared-slice-known .given k .fits) (sym (c .before .before .before .before .before .before .before .before .before .before .before .before .some-off .ensures) ∙ c .before .before .before .before .before .before .before .before .before .before .before .if1 .left) (c .before .before .before .before .before .before .before .before .rows .ensures) (c .before .before .before .before .before .before .some-clash .ensures) ∙ c .before .before .before .before .before .if3 .left) (positions-found _ _ _ (c .before .before .before .before .before .before .before .before .before .before .before .before .before .before .pre .few) _ (c .before .before .before .before .rows2 .ensures) (c .before .before .some-clash2 .ensures) ∙ c .before .if4 .taken)) (c .refused4 .ensures)
+unfolding pointRefusals
+returns-4 c = refused-by _ 9 (positions-found _ _ _ (c .before .before .before .before .before .before .before .before .before .before .before .before .before .before .pre .few) _ (c .before .before .before .before .rows2 .ensures) (c .before .before .some-clash2 .ensures) ∙ c .before .if4 .taken) (neither (sym (c .before .before .before .before .before .before .before .before .before .before .before .before .some-off .ensures) ∙ c .before .before .before .before .before .before .before .before .before .before .before .if1 .left) (neither (sym (c .before .before .before .before .before .before .before .before .before .before .some-off2 .ensures) ∙ c .before .before .before .before .before .before .before .before .before .if2 .left) (neither (cells-found _ _ _ (c .before .before .before .before .before .before .before .before .before .before .before .before .before .before .pre .few) _ (λ k. c .before .before .before .before .before .before .before .before .before .before .before .before .before .shared-slice-known .given k .fits) (sym (c .before .before .before .before .before .before .before .before .before .before .before .before .some-off .ensures) ∙ c .before .before .before .before .before .before .before .before .before .before .before .if1 .left) (c .before .before .before .before .before .before .before .before .rows .ensures) (c .before .before .before .before .before .before .some-clash .ensures) ∙ c .before .before .before .before .before .if3 .left) refl))) (c .refused4 .ensures)
 
 accepted-requires : tie.Need-accepted-requires
 accepted-requires c κs = record { room = c .before .before .before .before .before .before .before .before .before .before .before .before .before .before .pre; bytes = (λ k. c .before .before .before .before .before .before .before .before .before .before .before .before .before .shared-slice-known .given k .fits); in-range = sym (c .before .before .before .before .before .before .before .before .before .before .before .before .some-off .ensures) ∙ c .before .before .before .before .before .before .before .before .before .before .before .if1 .left; in-limit = sym (c .before .before .before .before .before .before .before .before .before .before .some-off2 .ensures) ∙ c .before .before .before .before .before .before .before .before .before .if2 .left; ordered = c .before .before .before .before .before .before .before .before .rows .ensures }
 
 returns-5 : tie.Need-returns-5
-returns-5 c = accepted-by _ (is-0 _ (sym (c .before .before .before .before .before .before .before .before .before .before .before .before .before .some-off .ensures) ∙ c .before .before .before .before .before .before .before .before .before .before .before .before .if1 .left) (sym (c .before .before .before .before .before .before .before .before .before .before .before .some-off2 .ensures) ∙ c .before .before .before .before .before .before .before .before .before .before .if2 .left) (cells-found _ _ _ (c .before .before .before .before .before .before .before .before .before .before .before .before .before .before .before .pre .few) _ (λ k. c .before .before .before .before .before .before .before .before .before .before .before .before .before .before .shared-slice-known .given k .fits) (sym (c .before .before .before .before .before .before .before .before .before .before .before .before .before .some-off .ensures) ∙ c .before .before .before .before .before .before .before .before .before .before .before .before .if1 .left) (c .before .before .before .before .before .before .before .before .before .rows .ensures) (c .before .before .before .before .before .before .before .some-clash .ensures) ∙ c .before .before .before .before .before .before .if3 .left) (positions-found _ _ _ (c .before .before .before .before .before .before .before .before .before .before .before .before .before .before .before .pre .few) _ (c .before .before .before .before .before .rows2 .ensures) (c .before .before .before .some-clash2 .ensures) ∙ c .before .before .if4 .left)) (c .accepted .ensures)
+unfolding pointRefusals
+returns-5 c = accepted-by _ (neither (sym (c .before .before .before .before .before .before .before .before .before .before .before .before .before .some-off .ensures) ∙ c .before .before .before .before .before .before .before .before .before .before .before .before .if1 .left) (neither (sym (c .before .before .before .before .before .before .before .before .before .before .before .some-off2 .ensures) ∙ c .before .before .before .before .before .before .before .before .before .before .if2 .left) (neither (cells-found _ _ _ (c .before .before .before .before .before .before .before .before .before .before .before .before .before .before .before .pre .few) _ (λ k. c .before .before .before .before .before .before .before .before .before .before .before .before .before .before .shared-slice-known .given k .fits) (sym (c .before .before .before .before .before .before .before .before .before .before .before .before .before .some-off .ensures) ∙ c .before .before .before .before .before .before .before .before .before .before .before .before .if1 .left) (c .before .before .before .before .before .before .before .before .before .rows .ensures) (c .before .before .before .before .before .before .before .some-clash .ensures) ∙ c .before .before .before .before .before .before .if3 .left) (neither (positions-found _ _ _ (c .before .before .before .before .before .before .before .before .before .before .before .before .before .before .before .pre .few) _ (c .before .before .before .before .before .rows2 .ensures) (c .before .before .before .some-clash2 .ensures) ∙ c .before .before .if4 .left) refl)))) (c .accepted .ensures)
 
 pub read-spec : {M : Type 1} → statement M
 read-spec =
