@@ -1,6 +1,7 @@
 -- Cells as document 01 speaks of them, u and v being whole numbers of either sign, and what their keys say of them: range, order,
 -- the cell at an offset, and a move of all cells. Assumes nothing.
 use mathlib.Core.Path.{_≡_, refl, sym, ap, _∙_}
+use mathlib.Core.List.{List}
 use mathlib.Core.Bool.{Bool, true, false, not, cond, _&&_, _||_}
 use Prim.Native.Nat.{ℕ, suc, _+_, _-_, _*_, _/_, _%_, _^_, _≤_, _<_}
 use Prim.{Dec, yes, no}
@@ -9,11 +10,12 @@ use native.Mathlib.Decide.{decLt}
 use lib.IntN.{ℤ, pos, negsuc, subℕ, _+ℤ_, _-ℤ_}
 use lib.Signed.{ltZ, leZ}
 use lib.Dec.{leb, ltb}
+use lib.ListN.{getD}
 use borrow.Author.Tests.{ltb-true, ltb-false, leb-true, lt-ltb, le-ltb, le-leb}
 use mir.Syntax.{w32}
 use mir.Val.{toZ, sel}
 use Rattle.folds.specs.Below.{and-left, and-right, and-both, both-ways}
-use Rattle.cells.specs.Points.{Point, biased, keyOf, stepOf, centreStep}
+use Rattle.cells.specs.Points.{Point, bias, stride, biased, keyOf, stepOf, centreStep}
 
 -- the whole number whose two's complement is the 32-bit pattern b
 abbrev pub signed : ℕ → ℤ
@@ -67,6 +69,16 @@ keyUp a b = upOf a * 16384 + upOf b
 
 abbrev pub keyDown : ℤ → ℤ → ℕ
 keyDown a b = downOf a * 16384 + downOf b
+
+-- ---- cells by their keys
+
+-- the cell with this key
+abbrev pub cellOfKey : ℕ → Cell
+cellOfKey key = record { u = pos (key / stride) -ℤ pos bias; v = pos (key % stride) -ℤ pos bias }
+
+-- by rank, the cells whose keys an array holds
+abbrev pub cellsAt : List ℕ → ℕ → Cell
+cellsAt keys k = cellOfKey (getD keys k 0)
 
 -- ---- one coordinate
 

@@ -19,23 +19,31 @@ pub record Point : Type 0 where
 abbrev pub nowhere : Point
 nowhere = record { u = 0; v = 0; index = 0; x = 0; y = 0 }
 
+-- ---- the key of a cell: (u + bias) * stride + (v + bias)
+
+abbrev pub bias : ℕ
+bias = 8003
+
+abbrev pub stride : ℕ
+stride = 16384
+
 -- u or v plus 8,003: in range it is 3 to 16,003, which leaves room for three cells each way
 abbrev pub biased : ℕ → ℕ
-biased b = (b + 8003) % 2 ^ 32
+biased b = (b + bias) % 2 ^ 32
 
 -- cells by u, then v, are in the order of their keys (proved in Cell)
 abbrev pub keyAt : ℕ → ℕ → ℕ
-keyAt u v = biased u * 16384 + biased v
+keyAt u v = biased u * stride + biased v
 
 abbrev pub keyOf : Point → ℕ
 keyOf p = keyAt (p .u) (p .v)
 
 -- Offset number d is 5 * (du + 2) + (dv + 2). A key plus stepOf d is the key of the cell at that offset plus centreStep (proved in Cell).
 abbrev pub stepOf : ℕ → ℕ
-stepOf d = 16384 * (d / 5) + d % 5
+stepOf d = stride * (d / 5) + d % 5
 
 abbrev pub centreStep : ℕ
-centreStep = 32770
+centreStep = 2 * stride + 2
 
 -- ---- the columns of the points ps
 

@@ -1,13 +1,32 @@
 // The cell of a point: whether it is in range, and its key. Points and cells are defined in specs/.
 ghost use mathlib.Core.Path.{_≡_};
-ghost use Rattle.cells.specs.Points.{biased, keyAt};
+ghost use Prim.Native.Nat.{_/_, _%_};
+ghost use Rattle.cells.specs.Points.{stride, biased, keyAt};
 ghost use Rattle.cells.specs.Cell.{signed, within};
+
+// The key of a cell is (u + BIAS) * STRIDE + (v + BIAS).
+pub const BIAS: u32 = 8003;
+
+pub const STRIDE: u32 = 16384;
+
+// The key's parts: u and v, each plus BIAS.
+pub fn u_part(key: u32) -> u32
+    ensures { λ r. ⌜ r ≡ key / stride ⌝ }
+{
+    key / STRIDE
+}
+
+pub fn v_part(key: u32) -> u32
+    ensures { λ r. ⌜ r ≡ key % stride ⌝ }
+{
+    key % STRIDE
+}
 
 // A pattern's u or v plus 8,003, modulo 2^32.
 pub fn bias(b: u32) -> u32
     ensures { λ r. ⌜ r ≡ biased b ⌝ }
 {
-    std::num::wrapping_add_u32(b, 8003)
+    std::num::wrapping_add_u32(b, BIAS)
 }
 
 // Whether the u or v in a pattern lies in −8,000 to 8,000.
@@ -27,5 +46,5 @@ pub fn key(u: u32, v: u32) -> u64
 {
     let a = bias(u) as u64;
     let b = bias(v) as u64;
-    a * 16384 + b
+    a * (STRIDE as u64) + b
 }

@@ -12,7 +12,8 @@ use lib.ListN.{getD, replicate}
 use Rattle.folds.specs.Below.{some, some-ext, some-no, and-false}
 use Rattle.folds.specs.Column.{column, column-ext, column-at}
 use Rattle.folds.specs.Marked.{bit, bit-is, Marked, marked-column}
-use Rattle.marks.specs.Arrays.{isSet, setFor}
+use Rattle.view.specs.View.{View, maxPoints, alike, indexHas}
+use Rattle.marks.specs.Marks.{isSet, indexMarks}
 
 pub guard : (a m n : ℕ) → m < n → ltb a n && eqb a m ≡ eqb a m
 guard a m n h = elim (ℕ-discrete a m) [ yes e ↦ rw (lt-ltb a n (omega arith)) | no f ↦ rw (ne-eqb a m f) (and-false (ltb a n)) ]
@@ -38,7 +39,9 @@ each-as-column hits tests size n h none same r =
 pub set-is : (size n : ℕ) (t : ℕ → Bool) (mark : List ℕ) → mark ≡ column size 0 n (λ (k : ℕ). bit (t k)) → (k : ℕ) → k < n → isSet mark k ≡ t k
 set-is size n t mark e k h = rw (e, column-at size 0 n (λ (k : ℕ). bit (t k)) k h) (bit-is (t k))
 
--- and what is gathered of it by key is what the test says of the key
-pub set-for : (size n : ℕ) (t : ℕ → Bool) (keys mark : List ℕ) → mark ≡ column size 0 n (λ (k : ℕ). bit (t k)) → (m : ℕ) → setFor keys mark n m ≡ some (λ (k : ℕ). t k && eqb (getD keys k 0) m) n
-set-for size n t keys mark e m =
-    some-ext (λ (k : ℕ). isSet mark k && eqb (getD keys k 0) m) (λ (k : ℕ). t k && eqb (getD keys k 0) m) n (λ k h. rw (set-is size n t mark e k h))
+-- and the marks of indices that are gathered of it are what the test says of the index
+pub index-marks : (w : View) (t : ℕ → Bool) (mark : List ℕ) → mark ≡ column maxPoints 0 (w .count) (λ (k : ℕ). bit (t k)) → indexMarks w mark ≡ column maxPoints 0 (w .count) (λ (k : ℕ). bit (indexHas w t k))
+unfolding indexMarks
+index-marks w t mark e =
+    column-ext maxPoints 0 (w .count) (λ (k : ℕ). bit (indexHas w (isSet mark) k)) (λ (k : ℕ). bit (indexHas w t k))
+    (λ k h. ap bit (some-ext (λ (j : ℕ). isSet mark j && alike w j k) (λ (j : ℕ). t j && alike w j k) (w .count) (λ j l. rw (set-is maxPoints (w .count) t mark e j l))))

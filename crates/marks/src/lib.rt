@@ -1,14 +1,16 @@
 // Marks of points, and the marks of their indices.
 use view::MAX_POINTS;
+use view::RANKS_SIZE;
 ghost use mathlib.Core.Path.{_≡_};
 ghost use mathlib.Core.Bool.{cond, _&&_};
+ghost use mathlib.Core.List.{List, []};
 ghost use Prim.Native.Nat.{ℕ, _+_, _≤_, _<_};
 ghost use lib.Dec.{eqb, ltb};
-ghost use lib.ListN.{getD};
+ghost use lib.Ieee.{Float};
 ghost use Rattle.folds.specs.Column.{column};
 ghost use Rattle.folds.specs.Marked.{bit, Marked};
-ghost use Rattle.view.specs.View.{maxPoints};
-ghost use Rattle.marks.specs.Arrays.{Ranks, setFor};
+ghost use Rattle.view.specs.View.{maxPoints, viewAt, Ranked};
+ghost use Rattle.marks.specs.Marks.{placeHas, indexMarks};
 
 // A mark as a number.
 pub fn bit_of(b: bool) -> u8
@@ -39,29 +41,29 @@ pub fn set_if(set: bool, m: usize, n: usize, mark: &mut [u8; MAX_POINTS])
 }
 
 // The marks, each at the place of its index.
-fn at_index(by_idx: &[u16; MAX_POINTS], mark: &[u8; MAX_POINTS], n: usize) -> [u8; MAX_POINTS]
+fn at_index(ranks: &[u16; RANKS_SIZE], mark: &[u8; MAX_POINTS], n: usize) -> [u8; MAX_POINTS]
     requires { ⌜ n ≤ maxPoints ⌝ }
-    ensures { λ r. ⌜ r ≡ column maxPoints 0 n (λ (m : ℕ). bit (setFor (now («by_idx» .entry)) (now (mark .entry)) n m)) ⌝ }
+    ensures { λ r. ⌜ r ≡ column maxPoints 0 n (λ (m : ℕ). bit (placeHas (viewAt n (now (ranks .entry)) [] []) (now (mark .entry)) m)) ⌝ }
 {
     let mut out = [0u8; MAX_POINTS];
     let mut k = 0;
     while k < n {
-        set_if(mark[k] == 1, view::wide(by_idx[k]), n, &mut out);
+        set_if(mark[k] == 1, view::index_of(ranks, k), n, &mut out);
         k += 1;
     }
     out
 }
 
 // At each rank the mark of its index: whether some point with that index is marked.
-pub fn by_index(by_idx: &[u16; MAX_POINTS], mark: &[u8; MAX_POINTS], n: usize) -> [u8; MAX_POINTS]
-    requires { ⌜ (n ≤ maxPoints) × Ranks n (now «by_idx») ⌝ }
-    ensures { λ r. ⌜ r ≡ column maxPoints 0 n (λ (k : ℕ). bit (setFor (now («by_idx» .entry)) (now (mark .entry)) n (getD (now («by_idx» .entry)) k 0))) ⌝ }
+pub fn by_index(ranks: &[u16; RANKS_SIZE], mark: &[u8; MAX_POINTS], n: usize) -> [u8; MAX_POINTS]
+    requires { ⌜ Ranked n (now ranks) ⌝ }
+    ensures { λ r. ⌜ ((xs ys : List Float) → r ≡ indexMarks (viewAt n (now (ranks .entry)) xs ys) (now (mark .entry))) ⌝ }
 {
-    let held = at_index(by_idx, mark, n);
+    let held = at_index(ranks, mark, n);
     let mut out = [0u8; MAX_POINTS];
     let mut k = 0;
     while k < n {
-        out[k] = held[view::wide(by_idx[k])];
+        out[k] = held[view::index_of(ranks, k)];
         k += 1;
     }
     out

@@ -2,19 +2,30 @@
 -- Assumes nothing.
 use mathlib.Core.Bool.{Bool, _&&_}
 use mathlib.Core.List.{List, [], _∷_}
-use Prim.Native.Nat.{ℕ, _+_, _*_}
-use lib.Dec.{eqb, ltb}
+use Prim.Native.Nat.{ℕ, _+_, _*_, _≤_, _<_}
+use lib.Dec.{T, eqb, ltb}
 use lib.ListN.{getD}
 use lib.Ieee.{Float, nan}
+use lib.Ieee.Scale.{finite}
 use Rattle.folds.specs.Below.{some, tally}
 
 -- the most points of a sheet ("There are more than 2,048 points")
 abbrev pub maxPoints : ℕ
 maxPoints = 2048
 
--- 25 entries for each point
-abbrev pub nearSize : ℕ
-nearSize = 51200
+-- ---- the table of ranks: 25 neighbours for each point, then its row, its column and the place of its index, each in a block of its own
+
+abbrev pub ranksSize : ℕ
+ranksSize = 28 * maxPoints
+
+abbrev pub rowsAt : ℕ
+rowsAt = 25 * maxPoints
+
+abbrev pub columnsAt : ℕ
+columnsAt = 26 * maxPoints
+
+abbrev pub indicesAt : ℕ
+indicesAt = 27 * maxPoints
 
 pub record View : Type 0 where
   -- how many points there are
@@ -29,18 +40,38 @@ pub record View : Type 0 where
   pub x : ℕ → Float
   pub y : ℕ → Float
 
--- the view that arrays give, or the lists that they hold
-abbrev pub viewAt : ℕ → List ℕ → List ℕ → List ℕ → List ℕ → List Float → List Float → View
-viewAt n near row column byIdx xs ys =
+-- the view that a table of ranks and the positions of n points give
+abbrev pub viewAt : ℕ → List ℕ → List Float → List Float → View
+viewAt n ranks xs ys =
     record {
       count = n;
-      near = λ (i : ℕ). getD near i 0;
-      row = λ (k : ℕ). getD row k 0;
-      column = λ (k : ℕ). getD column k 0;
-      byIdx = λ (k : ℕ). getD byIdx k 0;
+      near = λ (i : ℕ). getD ranks i 0;
+      row = λ (k : ℕ). getD ranks (rowsAt + k) 0;
+      column = λ (k : ℕ). getD ranks (columnsAt + k) 0;
+      byIdx = λ (k : ℕ). getD ranks (indicesAt + k) 0;
       x = λ (k : ℕ). getD xs k nan;
       y = λ (k : ℕ). getD ys k nan;
     }
+
+-- ---- what the arrays of an accepted sheet hold
+
+-- rows, columns and places of indices are ranks
+pub record Ranked (n : ℕ) (ranks : List ℕ) : Type 0 where
+  pub few : n ≤ maxPoints
+  pub rows : (k : ℕ) → k < n → getD ranks (rowsAt + k) 0 < n
+  pub columns : (k : ℕ) → k < n → getD ranks (columnsAt + k) 0 < n
+  pub indices : (k : ℕ) → k < n → getD ranks (indicesAt + k) 0 < n
+
+-- each coordinate of the first n is a finite number ("A position is not finite ..": refused)
+abbrev pub Finite : ℕ → List Float → Type 0
+Finite n l = (k : ℕ) → k < n → T (finite (getD l k nan))
+
+pub record Ready (n : ℕ) (ranks : List ℕ) (xs ys : List Float) : Type 0 where
+  pub ranked : Ranked n ranks
+  pub finite-x : Finite n xs
+  pub finite-y : Finite n ys
+
+-- ---- offsets
 
 -- Offset (du, dv), each from -2 to 2, has the number 5 * (du + 2) + (dv + 2). The cell itself:
 abbrev pub own : ℕ

@@ -1,17 +1,34 @@
-// The most points of a sheet, and the length of the table of neighbours. What the filters see of a sheet is defined in specs/View.antt.
+// What the filters see of a sheet, as arrays: the most points, the table of ranks and what is read of it. See specs/View.antt.
 ghost use mathlib.Core.Path.{_≡_};
 ghost use mathlib.Core.List.{[]};
 ghost use Prim.Native.Nat.{_+_, _*_, _≤_, _<_};
 ghost use lib.ListN.{getD};
-ghost use Rattle.view.specs.View.{maxPoints, nearSize, viewAt, degreeAt};
+ghost use Rattle.view.specs.View.{maxPoints, ranksSize, rowsAt, columnsAt, indicesAt, viewAt, degreeAt};
 ghost use lib.Dec.{ltb};
 ghost use Rattle.folds.specs.Marked.{bit};
 
 // Every array with an entry for each point has this length.
 pub const MAX_POINTS: usize = 2048;
 
-// 25 entries for each point.
-pub const NEAR_SIZE: usize = 25 * MAX_POINTS;
+// The table of ranks: 25 neighbours for each point, then its row, its column and the place of its index, each in a block of its own.
+pub const RANKS_SIZE: usize = 28 * MAX_POINTS;
+
+const ROWS_AT: usize = 25 * MAX_POINTS;
+
+const COLUMNS_AT: usize = 26 * MAX_POINTS;
+
+const INDICES_AT: usize = 27 * MAX_POINTS;
+
+// Offset (du, dv), each from -2 to 2, has the number 5 * (du + 2) + (dv + 2).
+pub const OWN: usize = 12;
+
+pub const NEXT_U: usize = 17;
+
+pub const PREV_U: usize = 7;
+
+pub const NEXT_V: usize = 13;
+
+pub const PREV_V: usize = 11;
 
 // The number that the specifications use is the code's.
 pub fn max_points() -> usize
@@ -20,10 +37,10 @@ pub fn max_points() -> usize
     MAX_POINTS
 }
 
-pub fn near_size() -> usize
-    ensures { λ r. ⌜ r ≡ nearSize ⌝ }
+pub fn ranks_size() -> usize
+    ensures { λ r. ⌜ r ≡ ranksSize ⌝ }
 {
-    NEAR_SIZE
+    RANKS_SIZE
 }
 
 // A rank or another small number, for use as an index.
@@ -34,25 +51,52 @@ pub fn wide(x: u16) -> usize
 }
 
 // The rank at offset d from rank k, or none.
-pub fn rank_at(near: &[u16; NEAR_SIZE], k: usize, d: usize) -> usize
+pub fn rank_at(ranks: &[u16; RANKS_SIZE], k: usize, d: usize) -> usize
     requires { ⌜ (k < maxPoints) × (d < 25) ⌝ }
-    ensures { λ r. ⌜ r ≡ getD (now (near .entry)) (25 * k + d) 0 ⌝ }
+    ensures { λ r. ⌜ r ≡ getD (now (ranks .entry)) (25 * k + d) 0 ⌝ }
 {
-    wide(near[25 * k + d])
+    wide(ranks[25 * k + d])
+}
+
+// The first rank of rank k's row.
+pub fn row_of(ranks: &[u16; RANKS_SIZE], k: usize) -> usize
+    requires { ⌜ k < maxPoints ⌝ }
+    ensures { λ r. ⌜ r ≡ getD (now (ranks .entry)) (rowsAt + k) 0 ⌝ }
+{
+    wide(ranks[ROWS_AT + k])
+}
+
+// The first rank of rank k's column.
+pub fn column_of(ranks: &[u16; RANKS_SIZE], k: usize) -> usize
+    requires { ⌜ k < maxPoints ⌝ }
+    ensures { λ r. ⌜ r ≡ getD (now (ranks .entry)) (columnsAt + k) 0 ⌝ }
+{
+    wide(ranks[COLUMNS_AT + k])
+}
+
+// The last rank with rank k's index, which is the place of the index.
+pub fn index_of(ranks: &[u16; RANKS_SIZE], k: usize) -> usize
+    requires { ⌜ k < maxPoints ⌝ }
+    ensures { λ r. ⌜ r ≡ getD (now (ranks .entry)) (indicesAt + k) 0 ⌝ }
+{
+    wide(ranks[INDICES_AT + k])
 }
 
 // 1 if there is a point at offset d from rank k, else 0.
-fn there(near: &[u16; NEAR_SIZE], n: usize, k: usize, d: usize) -> u8
+fn there(ranks: &[u16; RANKS_SIZE], n: usize, k: usize, d: usize) -> u8
     requires { ⌜ (k < maxPoints) × (d < 25) ⌝ }
-    ensures { λ r. ⌜ (r ≡ bit (ltb (getD (now (near .entry)) (25 * k + d) 0) n)) × (r ≤ 1) ⌝ }
+    ensures { λ r. ⌜ (r ≡ bit (ltb (getD (now (ranks .entry)) (25 * k + d) 0) n)) × (r ≤ 1) ⌝ }
 {
-    if rank_at(near, k, d) < n { 1 } else { 0 }
+    if rank_at(ranks, k, d) < n { 1 } else { 0 }
 }
 
 // How many of the four cells that share an edge with rank k's hold a point.
-pub fn degree_at(near: &[u16; NEAR_SIZE], n: usize, k: usize) -> u8
+pub fn degree_at(ranks: &[u16; RANKS_SIZE], n: usize, k: usize) -> u8
     requires { ⌜ k < maxPoints ⌝ }
-    ensures { λ r. ⌜ r ≡ degreeAt (viewAt n (now (near .entry)) [] [] [] [] []) k ⌝ }
+    ensures { λ r. ⌜ r ≡ degreeAt (viewAt n (now (ranks .entry)) [] []) k ⌝ }
 {
-    there(near, n, k, 7) + there(near, n, k, 17) + there(near, n, k, 11) + there(near, n, k, 13)
+    there(ranks, n, k, PREV_U)
+        + there(ranks, n, k, NEXT_U)
+        + there(ranks, n, k, PREV_V)
+        + there(ranks, n, k, NEXT_V)
 }
