@@ -1,8 +1,8 @@
--- `listing::filters::put_word` meets its contract. Assumes nothing.
-use Rattle.listing.proofs.LastArm.{last}
+-- `marks::filters::put_word` meets its contract. Assumes nothing.
+use Rattle.marks.proofs.Entries.{last}
 use borrow.Author.Needs.{needs}
-use Rattle.listing.proofs.filters.put_word.Statement.{statement}
-use Rattle.listing.proofs.filters.put_word.Tie as tie
+use Rattle.marks.proofs.filters.put_word.Statement.{statement}
+use Rattle.marks.proofs.filters.put_word.Tie as tie
 
 returns : tie.Need-returns
 returns c = rw (c .before .before .before .before .before .match .keys1) (c .before .before .put-text .ensures)
@@ -16,7 +16,7 @@ returns-3 c = rw (c .before .before .before .before .before .match .keys3) (c .b
 returns-4 : tie.Need-returns-4
 returns-4 c =
     let s = c .before .before .before .before .before .before .before in
-    rw (last (s .args .k) (s .pre) (c .before .before .before .before .before .match .rest)) (c .before .before .put-text4 .ensures)
+    rw (last (s .args .f) (s .pre) (c .before .before .before .before .before .match .rest)) (c .before .before .put-text4 .ensures)
 
 pub put-word-spec : {M : Type 1} → statement M
 put-word-spec =
