@@ -6,11 +6,11 @@ use mathlib.Core.List.{List, [], _∷_, _++_}
 use Prim.Native.Nat.{ℕ, _+_, _^_, _≤_, _<_}
 use native.Mathlib.Omega.{arith}
 use lib.Dec.{eqb, ltb}
-use lib.ListN.{getD}
-use borrow.Author.Tests.{eq-eqb, ltb-true}
+use lib.ListN.{getD, replicate}
+use borrow.Author.Tests.{eqb-true, eq-eqb, ltb-true}
 use Rattle.folds.specs.Among.{anyIn}
-use Rattle.folds.specs.Below.{every, every-at, and-left, and-right, or-none, or-false, not-false}
-use Rattle.folds.specs.Column.{column, column-at}
+use Rattle.folds.specs.Below.{some, some-yes, some-ext, every, every-at, not-true, and-left, and-right, or-none, or-false, not-false}
+use Rattle.folds.specs.Column.{column, column-at, column-ext, replicate-at}
 use Rattle.view.specs.View.{maxPoints}
 use Rattle.marks.specs.Filters.{filterAt, filterCount}
 use Rattle.marks.specs.Byte.{hasMark, withMark, markedBy, Marking, markedByAll}
@@ -112,6 +112,10 @@ unfolding markedByAll
 in-two n [] b marks = refl
 in-two n (g ∷ a) b marks = in-two n a b (markedBy n (g .filter) (g .marks marks) marks)
 
+pub one-more : (n : ℕ) (l : List Marking) (g : Marking) (marks : List ℕ) → markedByAll n (l ++ g ∷ []) marks ≡ markedBy n (g .filter) (g .marks (markedByAll n l marks)) (markedByAll n l marks)
+unfolding markedByAll
+one-more n l g marks = in-two n l (g ∷ []) marks
+
 module _ (n k : ℕ) (inside : k < n) where
   after-one : (f : ℕ) (t : ℕ → Bool) (marks : List ℕ) → getD (markedBy n f t marks) k 0 ≡ turned (t k) f (getD marks k 0)
   unfolding markedBy
@@ -181,3 +185,54 @@ module _ (n k : ℕ) (inside : k < n) where
       neither true true c = refl
       neither true false c = refl
       neither false b c = refl
+
+-- ---- bytes with no bit but those of the table
+
+-- the byte is 0 just where it has no mark
+abbrev Plain : ℕ → Type 0
+Plain m = eqb m 0 ≡ not (some (λ (f : ℕ). hasMark f m) filterCount)
+
+nothing-plain : Plain 0
+unfolding some
+nothing-plain = refl
+
+turned-plain : (b : Bool) (m f : ℕ) → m < 256 → f < filterCount → Plain m → Plain (turned b f m)
+turned-plain true m f h l p = set-not-zero m f h l ∙ ap not (sym (some-yes (λ (g : ℕ). hasMark g (withMark f m)) filterCount f l (own-set m f h l)))
+turned-plain false m f h l p = p
+
+module _ (n k : ℕ) (inside : k < n) where
+  pub zero-means : (l : List Marking) (marks : List ℕ) → Listed l → getD marks k 0 < 256 → Plain (getD marks k 0) → Plain (getD (markedByAll n l marks) k 0)
+  unfolding markedByAll
+  zero-means [] marks e h p = p
+  zero-means (g ∷ l) marks e h p =
+      let w = head n k inside g l e in
+      zero-means l (next n k inside g marks h (w .0)) (w .1) (next-small n k inside g marks h (w .0))
+      (rw (after-one n k inside (g .filter) (g .marks marks) marks) (turned-plain (g .marks marks k) (getD marks k 0) (g .filter) h (w .0) p))
+
+  -- a mark other than that of the last filter: the byte before it is not 0
+  pub others-than : (l : List Marking) (g : Marking) → Listed l → g .filter < filterCount → Absent (g .filter) l
+      → some (λ (f : ℕ). not (eqb f (g .filter)) && hasMark f (getD (markedByAll n (l ++ g ∷ []) []) k 0)) filterCount ≡ not (eqb (getD (markedByAll n l []) k 0) 0)
+  others-than l g e i a =
+      let m = markedByAll n l [] in
+      let s = all-small n k inside l [] e (omega arith) in
+      some-ext _ (λ (f : ℕ). hasMark f (getD m k 0)) filterCount (λ f h. go f h (eqb f (g .filter)) refl s)
+      ∙ sym (ap not (zero-means l [] e (omega arith) nothing-plain) ∙ not-not (some (λ (f : ℕ). hasMark f (getD m k 0)) filterCount))
+    where
+      not-not : (b : Bool) → not (not b) ≡ b
+      not-not true = refl
+      not-not false = refl
+
+      go : (f : ℕ) → f < filterCount → (b : Bool) → eqb f (g .filter) ≡ b → getD (markedByAll n l []) k 0 < 256
+          → not b && hasMark f (getD (markedByAll n (l ++ g ∷ []) []) k 0) ≡ hasMark f (getD (markedByAll n l []) k 0)
+      go f h true q s = sym (rw (eqb-true f (g .filter) q) (not-marked n k inside l [] (g .filter) i e a (omega arith) ∙ none-set (g .filter) i))
+      go f h false q s = ap (λ (m : List ℕ). hasMark f (getD m k 0)) (one-more n l g []) ∙ next-other n k inside g (markedByAll n l []) s i f h (not-true (eqb (g .filter) f) (λ r. true≢false (sym (eq-eqb f (g .filter) (sym (eqb-true (g .filter) f r))) ∙ q)))
+
+-- filters that mark the same ranks leave the same bytes
+pub by-same : (n f : ℕ) (t u : ℕ → Bool) (marks : List ℕ) → ((k : ℕ) → k < n → t k ≡ u k) → markedBy n f t marks ≡ markedBy n f u marks
+unfolding markedBy
+by-same n f t u marks h = column-ext maxPoints 0 n _ _ (λ k l. ap (λ (b : Bool). turned b f (getD marks k 0)) (h k l))
+
+-- an array of zeros is as good as none
+pub from-zeros : (n f : ℕ) (t : ℕ → Bool) → markedBy n f t (replicate maxPoints 0) ≡ markedBy n f t []
+unfolding markedBy
+from-zeros n f t = column-ext maxPoints 0 n _ _ (λ k l. ap (turned (t k) f) (replicate-at maxPoints 0 k))
