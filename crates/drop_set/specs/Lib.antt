@@ -1,1 +1,1 @@
-pub mod Drops
+pub mod Filters

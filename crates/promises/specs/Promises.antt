@@ -4,7 +4,7 @@ use mathlib.Core.Path.{_≡_, sym, ap, _∙_}
 use mathlib.Core.Bool.{Bool, true, false, _&&_}
 use mathlib.Core.Logic.{_⊎_, inl, inr}
 use mathlib.Core.List.{List}
-use Prim.Native.Nat.{ℕ, _+_, _*_, _/_, _%_, _<_}
+use Prim.Native.Nat.{ℕ, _<_}
 use native.Mathlib.Omega.{arith}
 use lib.Dec.{eqb, ltb}
 use lib.IntN.{ℤ}
@@ -12,11 +12,11 @@ use lib.ListN.{length, getD}
 use borrow.Author.Tests.{lt-ltb}
 use Rattle.folds.specs.Among.{anyIn}
 use Rattle.folds.specs.Below.{tally}
-use Rattle.folds.specs.Marked.{bit}
-use Rattle.cells.specs.Points.{Point, nowhere, keyOf, keysOf}
-use Rattle.cells.specs.Cell.{cellOf, before, key-order}
+use Rattle.cells.specs.Points.{Point, nowhere, keyOf}
+use Rattle.cells.specs.Cell.{cellOf, cellsOf, before}
+use Rattle.cells.proofs.Keys.{key-order}
 use Rattle.grid.specs.Views.{viewOf}
-use Rattle.grid.specs.Moved.{view-moved}
+use Rattle.grid.proofs.Moved.{view-moved}
 use Rattle.sheet_file.specs.Bytes.{Bytes, byteAt}
 use Rattle.sheet_file.specs.Frame.{framingOf, layoutOf, layoutIn}
 use Rattle.sheet_file.specs.declared.Framing.the-variants.{Framed}
@@ -25,22 +25,22 @@ use Rattle.sheet_file.specs.declared.Settings.{Settings}
 use Rattle.points.specs.Records.{pointsIn}
 use Rattle.points.specs.Refusals.{offRange}
 use Rattle.components.specs.Kept.{WholePatch, Smallest, Kept, Counted}
-use Rattle.ruling.specs.Ruling.{Ruling, accepted, rulingOf, applies}
-use Rattle.listing.specs.Listing.{countsOf}
+use Rattle.ruling.specs.Ruling.{accepted, rulingOf, applies}
 use Rattle.ruling.specs.Header.{frame-same}
 use Rattle.ruling.specs.Standing.{taken, accepted-order}
 use Rattle.ruling.specs.Order.{Relisted, order}
 use Rattle.ruling.specs.Switches.{Switched, switched, switches}
 use Rattle.ruling.specs.Offset.{Offset, MovedAlong, offset}
-use Rattle.kept.specs.Marks.{countIn}
+use Rattle.marks.specs.Filters.{validate, orientation, wrong}
+use Rattle.marks.specs.Byte.{hasMark}
+use Rattle.judging.specs.Judging.{judgedFor}
 use Rattle.kept.specs.Answer.{answerBy, rowsBy, answerOf, rowsAfter}
 use Rattle.kept.specs.declared.Answer.the-variants.{Accepted}
-use Rattle.kept.specs.Words.{Distinct, marksIn, hasValidate, hasOrientation, hasWrong, hasEarlier, survivor, joined, keptRank, marksByte}
-use Rattle.kept.specs.Depends.{low-bits}
-use Rattle.kept.specs.Patch.{none-kept, all-marked, reached-below, largest-kept, roots, patchOf, all-counted, count-on, count-off}
-use Rattle.kept.specs.Unswitched.{validate-stays}
-use Rattle.kept.specs.RowMarks.{row-marks, kept-rows}
-use Rattle.kept.specs.Moving.{orientation-stays, wrong-stays, kept-stays, middle-stays, rows-stay}
+use Rattle.promises.specs.Words.{DistinctIndices, marksIn, hasOther, survivor, joined, keptRank, marksByte, tallyBy, tallyOf}
+use Rattle.promises.proofs.Patch.{none-kept, all-marked, reached-below, largest-kept, roots, patchOf, all-counted, count-on, count-off}
+use Rattle.promises.proofs.Unswitched.{validate-stays}
+use Rattle.promises.proofs.RowMarks.{row-marks, kept-rows}
+use Rattle.promises.proofs.Moving.{validate-in, orientation-in, orientation-stays, wrong-stays, marks-stay, kept-stays, through, rows-stay}
 
 -- ---- ranks, and the rows
 
@@ -60,13 +60,13 @@ kept-by-rows = kept-rows
 -- The kept patch is empty exactly when the other filters mark every point; else it is one whole patch, every other whole patch has at most
 -- as many points, and any with as many has a later smallest cell, by rank and so by u, then v.
 pub record LargestPatch (s : Settings) (ps : List Point) : Type 0 where
-  pub empty : ((k : ℕ) → k < length ps → hasEarlier s ps k ≡ true) → (k : ℕ) → keptRank s ps k ≡ false
-  pub empty-only : ((k : ℕ) → keptRank s ps k ≡ false) → (k : ℕ) → k < length ps → hasEarlier s ps k ≡ true
+  pub empty : ((k : ℕ) → k < length ps → hasOther s ps k ≡ true) → (k : ℕ) → keptRank s ps k ≡ false
+  pub empty-only : ((k : ℕ) → keptRank s ps k ≡ false) → (k : ℕ) → k < length ps → hasOther s ps k ≡ true
   pub largest : Kept (survivor s ps) (joined s ps) (length ps) (keptRank s ps)
   pub later : (W : ℕ → Bool) → WholePatch (survivor s ps) (joined s ps) W → tally W (length ps) ≡ tally (keptRank s ps) (length ps)
       → ((k : ℕ) → W k ≡ keptRank s ps k) ⊎ ((x y : ℕ) → Smallest W x → Smallest (keptRank s ps) y → before (cellOf (getD ps y nowhere)) (cellOf (getD ps x nowhere)) ≡ true)
 
-pub kept-patch : (file : List ℕ) (room : ℕ) (s : Settings) (ps : List Point) → Bytes file → rulingOf file room ≡ accepted s ps → Distinct ps → s .«apply_largest_component» ≡ true → LargestPatch s ps
+pub kept-patch : (file : List ℕ) (room : ℕ) (s : Settings) (ps : List Point) → Bytes file → rulingOf file room ≡ accepted s ps → DistinctIndices ps → s .«apply_largest_component» ≡ true → LargestPatch s ps
 kept-patch file room s ps b e one on =
     let most = largest-kept s ps (accepted-order file room s ps b e) one on in
     record {
@@ -86,7 +86,7 @@ pub record PatchCount (file : List ℕ) (room : ℕ) (s : Settings) (ps : List P
   pub answer : answerOf file room ≡ Accepted (record { points = length ps; components = tally first (length ps) })
   pub each : Counted (survivor s ps) (joined s ps) (length ps) first patch
 
-answer-is : (file : List ℕ) (room : ℕ) (s : Settings) (ps : List Point) → rulingOf file room ≡ accepted s ps → answerOf file room ≡ Accepted (record { points = length ps; components = countIn s (viewOf ps) (keysOf ps) })
+answer-is : (file : List ℕ) (room : ℕ) (s : Settings) (ps : List Point) → rulingOf file room ≡ accepted s ps → answerOf file room ≡ Accepted (record { points = length ps; components = judgedFor s ps .components })
 unfolding answerOf
 answer-is file room s ps e = ap answerBy e
 
@@ -102,35 +102,36 @@ component-count file room s ps b e on =
 
 -- "With the switch off the count is 0."
 pub no-count : (file : List ℕ) (room : ℕ) (s : Settings) (ps : List Point) → rulingOf file room ≡ accepted s ps → s .«apply_largest_component» ≡ false → answerOf file room ≡ Accepted (record { points = length ps; components = 0 })
-no-count file room s ps e off = answer-is file room s ps e ∙ ap (λ (c : ℕ). Accepted (record { points = length ps; components = c })) (count-off s (viewOf ps) (keysOf ps) off)
+no-count file room s ps e off = answer-is file room s ps e ∙ ap (λ (c : ℕ). Accepted (record { points = length ps; components = c })) (count-off s ps off)
 
 -- ---- (b) another order
 
 -- "Another order is any rearrangement of the points in tag 3, all else and the result buffer's length unchanged": for every well-framed file
--- the same number, or the same counts, and the same rows byte for byte, from which the tally is counted
+-- the same number, or the same counts, and the same rows byte for byte
 pub record SameResult (file other : List ℕ) : Type 0 where
   pub answer : (room : ℕ) → answerOf other room ≡ answerOf file room
   pub rows : (buffer : List ℕ) → rowsAfter other buffer ≡ rowsAfter file buffer
-  -- "The counts are those of the listing's first line and of its tally": how many of n points are counted under each filter, or kept
-  pub tally : (n : ℕ) (buffer : List ℕ) → countsOf n (rowsAfter other buffer) ≡ countsOf n (rowsAfter file buffer)
+  -- "The counts are those of the listing's first line and of its tally."
+  pub tally : (room : ℕ) → tallyOf other room ≡ tallyOf file room
 
 pub another-order : (file other : List ℕ) (f : Layout) → Bytes file → framingOf file ≡ Framed f → Relisted file other f → SameResult file other
-unfolding answerOf rowsAfter
+unfolding answerOf rowsAfter tallyOf
 another-order file other f b e r = record {
   answer = λ room. ap answerBy (sym (order file other f b e r room));
   rows = λ buffer. ap (rowsBy buffer) (sym (order file other f b e r (length buffer)));
-  tally = λ n buffer. ap (λ (q : Ruling). countsOf n (rowsBy buffer q)) (sym (order file other f b e r (length buffer)));
+  tally = λ room. ap tallyBy (sym (order file other f b e r room));
 }
 
 -- ---- (c) an offset
 
 -- The moved file is accepted, its points are the old ones at their moved cells and no others, and each has the same orientation and
--- wrong-label marks; if each has the same validate mark too, "the kept patch has moved along".
+-- wrong-label marks; if each has the same validate mark too, each has the same marks, and "the kept patch has moved along".
 pub record MovedMarks (file : List ℕ) (room : ℕ) (a b : ℤ) (s : Settings) (ps : List Point) : Type 0 where
   pub along : MovedAlong file room a b s ps
-  pub orientation : (k : ℕ) → hasOrientation s (along .points) k ≡ hasOrientation s ps k
-  pub wrong : (k : ℕ) → hasWrong s (along .points) k ≡ hasWrong s ps k
-  pub kept : ((k : ℕ) → k < length ps → hasValidate s (along .points) k ≡ hasValidate s ps k) → (k : ℕ) → keptRank s (along .points) k ≡ keptRank s ps k
+  pub orientation : (k : ℕ) → k < length ps → hasMark orientation (marksIn s (along .points) k) ≡ hasMark orientation (marksIn s ps k)
+  pub wrong : (k : ℕ) → k < length ps → hasMark wrong (marksIn s (along .points) k) ≡ hasMark wrong (marksIn s ps k)
+  pub same : ((k : ℕ) → k < length ps → hasMark validate (marksIn s (along .points) k) ≡ hasMark validate (marksIn s ps k)) → (k : ℕ) → marksIn s (along .points) k ≡ marksIn s ps k
+  pub kept : ((k : ℕ) → k < length ps → hasMark validate (marksIn s (along .points) k) ≡ hasMark validate (marksIn s ps k)) → (k : ℕ) → keptRank s (along .points) k ≡ keptRank s ps k
 
 -- "In range means that the condition of number 6 fails."
 pub moved-sheet : (file other : List ℕ) (a b : ℤ) → Bytes file → Bytes other → Offset file other (layoutOf file) a b
@@ -145,44 +146,58 @@ moved-sheet file other a b bf bo o room in-range s ps e =
       along = m;
       orientation = orientation-stays s ps (m .points) (m .size) v;
       wrong = wrong-stays s ps (m .points) (m .size) v;
+      same = marks-stay s ps (m .points) (m .size) v;
       kept = kept-stays s ps (m .points) (m .size) v;
     }
 
--- the same, of the rows in one buffer: bits 1 and 2 stay; if bit 0 stays too, the same rows have no mark
+-- the same, of the rows in one buffer: the orientation and wrong-label marks stay; if the validate marks stay too, all marks do
 pub record MovedRows (file other buffer : List ℕ) (n : ℕ) : Type 0 where
-  pub marks : (k : ℕ) → k < n → marksByte other buffer k / 2 % 4 ≡ marksByte file buffer k / 2 % 4
-  pub kept : ((k : ℕ) → k < n → marksByte other buffer k % 2 ≡ marksByte file buffer k % 2) → (k : ℕ) → k < n → eqb (marksByte other buffer k) 0 ≡ eqb (marksByte file buffer k) 0
+  pub orientation : (k : ℕ) → k < n → hasMark orientation (marksByte other buffer k) ≡ hasMark orientation (marksByte file buffer k)
+  pub wrong : (k : ℕ) → k < n → hasMark wrong (marksByte other buffer k) ≡ hasMark wrong (marksByte file buffer k)
+  pub kept : ((k : ℕ) → k < n → hasMark validate (marksByte other buffer k) ≡ hasMark validate (marksByte file buffer k)) → (k : ℕ) → k < n → marksByte other buffer k ≡ marksByte file buffer k
 
 pub moved-rows : (file other buffer : List ℕ) (a b : ℤ) → Bytes file → Bytes other → Offset file other (layoutOf file) a b
     → applies other (length buffer) 6 ≡ false → (s : Settings) (ps : List Point) → rulingOf file (length buffer) ≡ accepted s ps → MovedRows file other buffer (length ps)
 moved-rows file other buffer a b bf bo o in-range s ps e =
-    let m = moved-sheet file other a b bf bo o (length buffer) in-range s ps e .along in
+    let r = moved-sheet file other a b bf bo o (length buffer) in-range s ps e in
+    let m = r .along in
     let v = view-moved a b ps (m .points) (m .size) (m .along) in
-    record { marks = middle-stays s ps (m .points) (m .size) v file other buffer e (m .ruling); kept = rows-stay s ps (m .points) (m .size) v file other buffer e (m .ruling) }
+    record {
+      orientation = through s ps (m .points) (m .size) v file other buffer e (m .ruling) orientation (r .orientation);
+      wrong = through s ps (m .points) (m .size) v file other buffer e (m .ruling) wrong (r .wrong);
+      kept = rows-stay s ps (m .points) (m .size) v file other buffer e (m .ruling);
+    }
 
 -- ---- (d) the switches
-
--- of any settings, with any bytes for the switches
-bits-stay : (s : Settings) (a b : ℕ) (ps : List Point) (k : ℕ) → marksIn (switched s a b) ps k % 4 ≡ marksIn s ps k % 4
-bits-stay s a b ps k =
-    low-bits (switched s a b) (viewOf ps) (keysOf ps) k
-    ∙ ap (λ (x : Bool). bit x + 2 * bit (hasOrientation s ps k)) (validate-stays s a b (viewOf ps) (keysOf ps) k)
-    ∙ sym (low-bits s (viewOf ps) (keysOf ps) k)
 
 -- "Changing only the two switches alters neither bit 0 nor bit 1": the file with other switches is accepted with the same points, each with the
 -- same two bits. Only settings of length 21 have the switches.
 pub record SameBits (other : List ℕ) (room : ℕ) (s : Settings) (ps : List Point) : Type 0 where
   pub settings : Settings
   pub ruling : rulingOf other room ≡ accepted settings ps
-  pub bits : (k : ℕ) → marksIn settings ps k % 4 ≡ marksIn s ps k % 4
+  pub validate : (k : ℕ) → k < length ps → hasMark validate (marksIn settings ps k) ≡ hasMark validate (marksIn s ps k)
+  pub orientation : (k : ℕ) → k < length ps → hasMark orientation (marksIn settings ps k) ≡ hasMark orientation (marksIn s ps k)
 
 pub switched-sheet : (file other : List ℕ) → Bytes file → Switched file other → layoutOf file .full ≡ true → (room : ℕ) (s : Settings) (ps : List Point) → rulingOf file room ≡ accepted s ps → SameBits other room s ps
 switched-sheet file other b w full room s ps e =
-    record { settings = switched s (byteAt other 22) (byteAt other 23); ruling = switches file other b w full room s ps e; bits = bits-stay s (byteAt other 22) (byteAt other 23) ps }
+    let t = switched s (byteAt other 22) (byteAt other 23) in
+    record {
+      settings = t;
+      ruling = switches file other b w full room s ps e;
+      validate = λ k h. validate-in t ps k h ∙ validate-stays s (byteAt other 22) (byteAt other 23) (viewOf ps) (cellsOf ps) k ∙ sym (validate-in s ps k h);
+      orientation = λ k h. orientation-in t ps k h ∙ sym (orientation-in s ps k h);
+    }
 
 -- the same, of the rows in one buffer
+pub record SameRowBits (file other buffer : List ℕ) (n : ℕ) : Type 0 where
+  pub validate : (k : ℕ) → k < n → hasMark validate (marksByte other buffer k) ≡ hasMark validate (marksByte file buffer k)
+  pub orientation : (k : ℕ) → k < n → hasMark orientation (marksByte other buffer k) ≡ hasMark orientation (marksByte file buffer k)
+
 pub switched-rows : (file other buffer : List ℕ) → Bytes file → Switched file other → layoutOf file .full ≡ true → (s : Settings) (ps : List Point) → rulingOf file (length buffer) ≡ accepted s ps
-    → (k : ℕ) → k < length ps → marksByte other buffer k % 4 ≡ marksByte file buffer k % 4
-switched-rows file other buffer b w full s ps e k h =
+    → SameRowBits file other buffer (length ps)
+switched-rows file other buffer b w full s ps e =
     let r = switched-sheet file other b w full (length buffer) s ps e in
-    ap (λ (x : ℕ). x % 4) (row-marks other buffer (r .settings) ps (r .ruling) k h) ∙ r .bits k ∙ ap (λ (x : ℕ). x % 4) (sym (row-marks file buffer s ps e k h))
+    record {
+      validate = λ k h. ap (hasMark validate) (row-marks other buffer (r .settings) ps (r .ruling) k h) ∙ r .validate k h ∙ ap (hasMark validate) (sym (row-marks file buffer s ps e k h));
+      orientation = λ k h. ap (hasMark orientation) (row-marks other buffer (r .settings) ps (r .ruling) k h) ∙ r .orientation k h ∙ ap (hasMark orientation) (sym (row-marks file buffer s ps e k h));
+    }
