@@ -4,21 +4,28 @@ use mathlib.Core.Bool.{_&&_}
 use mathlib.Core.List.{List, [], _∷_}
 use Prim.Native.Nat.{ℕ, _+_, _*_, _/_, _%_}
 use lib.Dec.{eqb}
+use lib.Ieee.{nan}
 use lib.ListN.{length, getD, take}
 use Rattle.folds.specs.Below.{some, tally, first, firstIn}
 use Rattle.folds.specs.Lists.{upFrom, listOf}
 use Rattle.folds.specs.Column.{column}
-use Rattle.view.specs.View.{View, squareSides, viewAt}
+use Rattle.view.specs.View.{View, squareSides}
+use Rattle.marks.specs.Marks.{indexMarks}
 use Rattle.patches.specs.Patches.{square, via, labelsBy, labelsOf, patchLabels}
-use Rattle.components.specs.Components.{countOf, sizesOf, largestAt, winnerOf, othersBy, othersOf, indexMarks, componentCount, componentMark}
+use Rattle.components.specs.Components.{countOf, sizesOf, largestAt, winnerOf, othersBy, othersOf, componentCount, componentMark}
 
 -- the view of cells in order, u and v from 2 on, with the place of each cell's index: entry 25 * k + d is the place of the cell at offset d
 unfoldable sheet : List ℕ → List ℕ → List ℕ → View
-unfolding first firstIn listOf upFrom
-sheet us vs byIdx =
-    viewAt (length us)
-    (listOf (25 * length us) (λ (i : ℕ). first (λ (j : ℕ). eqb (getD us j 0 + 2) (getD us (i / 25) 0 + (i % 25) / 5) && eqb (getD vs j 0 + 2) (getD vs (i / 25) 0 + (i % 25) % 5)) 0 (length us)))
-    [] [] byIdx [] []
+unfolding first firstIn
+sheet us vs places = record {
+  count = length us;
+  near = λ i. first (λ (j : ℕ). eqb (getD us j 0 + 2) (getD us (i / 25) 0 + (i % 25) / 5) && eqb (getD vs j 0 + 2) (getD vs (i / 25) 0 + (i % 25) % 5)) 0 (length us);
+  row = λ k. 0;
+  column = λ k. 0;
+  byIdx = λ k. getD places k 0;
+  x = λ k. nan;
+  y = λ k. nan;
+}
 
 -- index 7 at cells (0, 0) and (5, 5): two patches, and both points marked
 empty-kept : (componentCount (sheet (2 ∷ 7 ∷ []) (2 ∷ 7 ∷ []) (1 ∷ 1 ∷ [])) squareSides [] ≡ 2)

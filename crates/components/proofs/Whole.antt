@@ -12,10 +12,11 @@ use native.Mathlib.Nat.{eq-or-lt-of-le}
 use native.Mathlib.Omega.{arith}
 use borrow.Author.Tests.{eq-eqb, eqb-true, lt-ltb, ltb-true, ltb-false}
 use lib.Dec.{eqb, ltb}
+use lib.ListN.{getD}
 use Rattle.folds.specs.Below.{some-yes, tally, tally-ext, tally-some, and-left, and-right, and-both, both-ways, not-true}
 use Rattle.folds.specs.Column.{column-at}
 use Rattle.view.specs.View.{maxPoints}
-use Rattle.patches.specs.Patches.{at, survives, linked, labelsOf}
+use Rattle.patches.specs.Patches.{survives, linked, labelsOf}
 use Rattle.components.specs.Components.{sizesOf, largestAt, winnerOf, inPatch}
 use Rattle.patches.specs.Reach.{Reach, Mirrored, paired}
 use Rattle.components.specs.Kept.{WholePatch, Smallest, Kept, Counted}
@@ -38,30 +39,30 @@ tally-at p (suc n) h = go (p n) refl h (tally-at p n)
 
 -- ---- the first of the largest
 
-largest-most : (l : List ℕ) (n s : ℕ) → s < n → at l s ≤ at l (largestAt l n)
+largest-most : (l : List ℕ) (n s : ℕ) → s < n → getD l s 0 ≤ getD l (largestAt l n) 0
 unfolding largestAt
 largest-most l zero s h = absurd (omega arith)
-largest-most l (suc n) s h = go (ltb (at l (largestAt l n)) (at l n)) refl (eq-or-lt-of-le (omega arith)) (largest-most l n s)
+largest-most l (suc n) s h = go (ltb (getD l (largestAt l n) 0) (getD l n 0)) refl (eq-or-lt-of-le (omega arith)) (largest-most l n s)
   where
-    go : (b : Bool) → ltb (at l (largestAt l n)) (at l n) ≡ b → (s ≡ n) ⊎ (s < n) → (s < n → at l s ≤ at l (largestAt l n)) → at l s ≤ at l (cond b n (largestAt l n))
+    go : (b : Bool) → ltb (getD l (largestAt l n) 0) (getD l n 0) ≡ b → (s ≡ n) ⊎ (s < n) → (s < n → getD l s 0 ≤ getD l (largestAt l n) 0) → getD l s 0 ≤ getD l (cond b n (largestAt l n)) 0
     go true e (inl q) r = rw q (omega arith)
-    go true e (inr m) r = omega (arith, ltb-true (at l (largestAt l n)) (at l n) e, r m)
-    go false e (inl q) r = rw q (ltb-false (at l (largestAt l n)) (at l n) e)
+    go true e (inr m) r = omega (arith, ltb-true (getD l (largestAt l n) 0) (getD l n 0) e, r m)
+    go false e (inl q) r = rw q (ltb-false (getD l (largestAt l n) 0) (getD l n 0) e)
     go false e (inr m) r = r m
 
-largest-before : (l : List ℕ) (n s : ℕ) → s < largestAt l n → at l s < at l (largestAt l n)
+largest-before : (l : List ℕ) (n s : ℕ) → s < largestAt l n → getD l s 0 < getD l (largestAt l n) 0
 unfolding largestAt
 largest-before l zero s h = absurd (omega arith)
-largest-before l (suc n) s h = go (ltb (at l (largestAt l n)) (at l n)) refl h (largest-before l n s)
+largest-before l (suc n) s h = go (ltb (getD l (largestAt l n) 0) (getD l n 0)) refl h (largest-before l n s)
   where
-    go : (b : Bool) → ltb (at l (largestAt l n)) (at l n) ≡ b → s < cond b n (largestAt l n) → (s < largestAt l n → at l s < at l (largestAt l n)) → at l s < at l (cond b n (largestAt l n))
-    go true e m r = omega (arith, ltb-true (at l (largestAt l n)) (at l n) e, largest-most l n s m)
+    go : (b : Bool) → ltb (getD l (largestAt l n) 0) (getD l n 0) ≡ b → s < cond b n (largestAt l n) → (s < largestAt l n → getD l s 0 < getD l (largestAt l n) 0) → getD l s 0 < getD l (cond b n (largestAt l n)) 0
+    go true e m r = omega (arith, ltb-true (getD l (largestAt l n) 0) (getD l n 0) e, largest-most l n s m)
     go false e m r = r m
 
 largest-lt : (l : List ℕ) (n : ℕ) → 0 < n → largestAt l n < n
 unfolding largestAt
 largest-lt l zero h = h
-largest-lt l (suc n) h = go (ltb (at l (largestAt l n)) (at l n)) (largest-le l n)
+largest-lt l (suc n) h = go (ltb (getD l (largestAt l n) 0) (getD l n 0)) (largest-le l n)
   where
     go : (b : Bool) → largestAt l n ≤ n → cond b n (largestAt l n) < suc n
     go true e = omega arith
@@ -78,7 +79,7 @@ module _ (n : ℕ) (near : ℕ → ℕ) (sides dropped : List ℕ) where
   labels = labelsOf n near sides dropped
 
   abbrev label : ℕ → ℕ
-  label k = at labels k
+  label k = getD labels k 0
 
   module _ (fit : Fit n sides) (pairs : paired sides ≡ true) (mirror : Mirrored n near) where
     -- ---- patches by their labels
@@ -135,7 +136,7 @@ module _ (n : ℕ) (near : ℕ → ℕ) (sides dropped : List ℕ) where
     abbrev win : ℕ
     win = winnerOf n labels
 
-    size-of : (s : ℕ) → s < n → at (sizesOf n labels) s ≡ tally (inPatch n labels s) n
+    size-of : (s : ℕ) → s < n → getD (sizesOf n labels) s 0 ≡ tally (inPatch n labels s) n
     unfolding sizesOf
     size-of s h =
         column-at maxPoints 0 n (λ (s : ℕ). tally (λ (k : ℕ). eqb (label k) s) n) s h
@@ -168,7 +169,7 @@ module _ (n : ℕ) (near : ℕ → ℕ) (sides dropped : List ℕ) where
         no-one : ((a : ℕ) → alive a ≡ false) → (k : ℕ) → inPatch n labels win k ≡ true → ⊥
         no-one f k e = let w = patch-of win k e in omega (arith, w .0, w .1, label-none n near sides dropped k (w .0) (λ t. false≢true (sym (f k) ∙ t)), largest-lt (sizesOf n labels) n (omega (arith, w .0)))
 
-        sized : (W : ℕ → Bool) (p : WholePatch alive link W) → (tally W n ≡ at (sizesOf n labels) (counted .all W p .0)) × (tally (inPatch n labels win) n ≡ at (sizesOf n labels) win)
+        sized : (W : ℕ → Bool) (p : WholePatch alive link W) → (tally W n ≡ getD (sizesOf n labels) (counted .all W p .0) 0) × (tally (inPatch n labels win) n ≡ getD (sizesOf n labels) win 0)
         sized W p =
             let s = counted .all W p in
             (tally-ext W (inPatch n labels (s .0)) n (λ k l. s .3 k) ∙ sym (size-of (s .0) (s .1)), sym (size-of win (won (p .seed) (p .survives) .0)))

@@ -1,16 +1,16 @@
 // How many patches there are, which is the largest, and the component mark. See specs/Components.antt.
 ghost use mathlib.Core.Path.{_≡_};
 ghost use mathlib.Core.Bool.{cond, not, _&&_};
-ghost use mathlib.Core.List.{[]};
+ghost use mathlib.Core.List.{List};
 ghost use Prim.Native.Nat.{_+_, _≤_, _<_};
 ghost use lib.Dec.{eqb, ltb};
+ghost use lib.Ieee.{Float};
 ghost use Rattle.folds.specs.Marked.{bit};
-ghost use Rattle.view.specs.View.{maxPoints, viewAt};
+ghost use Rattle.view.specs.View.{maxPoints, viewAt, Ranked};
 ghost use Rattle.patches.specs.Search.{Fit};
-ghost use Rattle.marks.specs.Arrays.{Ranks};
-ghost use Rattle.components.specs.Components.{countOf, sizesOf, largestAt, winnerOf, othersBy, Filtered};
+ghost use Rattle.components.specs.Components.{countOf, sizesOf, largestAt, winnerOf, othersBy, filterOf};
 use view::MAX_POINTS;
-use view::NEAR_SIZE;
+use view::RANKS_SIZE;
 
 // ---- count, winner and the ranks outside it
 
@@ -114,22 +114,19 @@ pub struct ComponentFilter {
 
 // The component mark: an index with a cell outside the winner is marked at each of its cells.
 pub fn largest_component_filter(
-    near: &[u16; NEAR_SIZE],
-    by_idx: &[u16; MAX_POINTS],
+    ranks: &[u16; RANKS_SIZE],
     dropped: &[u8; MAX_POINTS],
     sides: &[u8],
     n: usize,
 ) -> ComponentFilter
-    requires { ⌜ Fit n (now sides) × Ranks n (now «by_idx») ⌝ }
-    ensures { λ r. ⌜ Filtered (viewAt n (now (near .entry)) [] [] (now («by_idx» .entry)) [] []) (now (sides .entry)) (now (dropped .entry)) (r .marks) (r .«components_seen») ⌝ }
+    requires { ⌜ Fit n (now sides) × Ranked n (now ranks) ⌝ }
+    ensures { λ r. ⌜ ((xs ys : List Float) → r ≡ filterOf (viewAt n (now (ranks .entry)) xs ys) (now (sides .entry)) (now (dropped .entry))) ⌝ }
 {
-    let label = patches::labels(near, dropped, sides, n);
+    let label = patches::labels(ranks, dropped, sides, n);
     let w = winner(&label, n);
     let out = others(&label, n, w);
-    let marks = marks::by_index(by_idx, &out, n);
-    let c = count(&label, n);
     ComponentFilter {
-        marks: marks,
-        components_seen: c,
+        marks: marks::by_index(ranks, &out, n),
+        components_seen: count(&label, n),
     }
 }

@@ -7,10 +7,10 @@ use Prim.Native.Nat.{ℕ, _+_, _-_, _*_, _≤_, _<_}
 use native.Mathlib.Nat.{le-antisymm}
 use borrow.Author.Tests.{eqb-true, ltb-true}
 use lib.Dec.{eqb, ltb}
-use lib.ListN.{length}
+use lib.ListN.{length, getD}
 use Rattle.folds.specs.Below.{some, some-at, every, every-at, and-under, both-ways}
 use Rattle.view.specs.View.{maxPoints, squareSides}
-use Rattle.patches.specs.Patches.{at, survives, touches, linked, via, labelsBy, labelsOf}
+use Rattle.patches.specs.Patches.{survives, touches, linked, via, labelsBy, labelsOf}
 use Rattle.patches.specs.Reach.{Reach, here, step, Mirrored, paired}
 use Rattle.patches.specs.Search.{Fit}
 use Rattle.patches.proofs.Surviving.{survives-lt, link-from, link-to, link-side, link-by}
@@ -22,18 +22,18 @@ pub square-paired : paired squareSides ≡ true
 unfolding paired every some
 square-paired = refl
 
--- and so has the honeycomb, at (1, 0), (0, 1), (-1, 1) and their opposites
+-- and so has the honeycomb, λ (i : ℕ). getD (1, 0) i 0, (0, 1), (-1, 1) and their opposites
 pub hex-paired : paired (17 ∷ 7 ∷ 13 ∷ 11 ∷ 8 ∷ 16 ∷ []) ≡ true
 unfolding paired every some
 hex-paired = refl
 
-small-sides : every (λ (i : ℕ). ltb (at squareSides i) 25) 4 ≡ true
+small-sides : every (λ (i : ℕ). ltb (getD squareSides i 0) 25) 4 ≡ true
 unfolding every
 small-sides = refl
 
 -- what a caller on the square lattice shows
 pub square-fit : (n : ℕ) (sides : List ℕ) → n ≤ maxPoints → sides ≡ squareSides → Fit n sides
-square-fit n sides h e = rw e (record { few = h; offsets = λ i l. ltb-true (at squareSides i) 25 (every-at (λ (i : ℕ). ltb (at squareSides i) 25) 4 small-sides i l) })
+square-fit n sides h e = rw e (record { few = h; offsets = λ i l. ltb-true (getD squareSides i 0) 25 (every-at (λ (i : ℕ). ltb (getD squareSides i 0) 25) 4 small-sides i l) })
 
 module _ (n : ℕ) (near : ℕ → ℕ) (sides dropped : List ℕ) where
   abbrev alive : ℕ → Bool
@@ -43,7 +43,7 @@ module _ (n : ℕ) (near : ℕ → ℕ) (sides dropped : List ℕ) where
   link = linked n near sides dropped
 
   abbrev label : ℕ → ℕ
-  label k = at (labelsOf n near sides dropped) k
+  label k = getD (labelsOf n near sides dropped) k 0
 
   module _ (fit : Fit n sides) (pairs : paired sides ≡ true) (mirror : Mirrored n near) where
     -- ---- shared edges lead both ways
@@ -54,11 +54,11 @@ module _ (n : ℕ) (near : ℕ → ℕ) (sides dropped : List ℕ) where
         let p = link-from n near sides dropped a b e in
         let q = link-to n near sides dropped a b e in
         let w = link-side n near sides dropped a b e in
-        let o = every-at (λ (i : ℕ). some (λ (j : ℕ). eqb (at sides j) (24 - at sides i)) (length sides)) (length sides) pairs (w .0) (w .1) in
-        let j = some-at (λ (j : ℕ). eqb (at sides j) (24 - at sides (w .0))) (length sides) o in
-        let f = eqb-true (at sides (j .0)) (24 - at sides (w .0)) (j .2) in
+        let o = every-at (λ (i : ℕ). some (λ (j : ℕ). eqb (getD sides j 0) (24 - getD sides i 0)) (length sides)) (length sides) pairs (w .0) (w .1) in
+        let j = some-at (λ (j : ℕ). eqb (getD sides j 0) (24 - getD sides (w .0) 0)) (length sides) o in
+        let f = eqb-true (getD sides (j .0) 0) (24 - getD sides (w .0) 0) (j .2) in
         link-by n near sides dropped b a q p (j .0) (j .1)
-        (ap (λ (d : ℕ). near (25 * b + d)) f ∙ mirror .back a b (at sides (w .0)) (survives-lt n dropped a p) (survives-lt n dropped b q) (fit .offsets (w .0) (w .1)) (w .2))
+        (ap (λ (d : ℕ). near (25 * b + d)) f ∙ mirror .back a b (getD sides (w .0) 0) (survives-lt n dropped a p) (survives-lt n dropped b q) (fit .offsets (w .0) (w .1)) (w .2))
 
     pub reach-back : {a b : ℕ} → Reach alive link a b → Reach alive link b a
     reach-back (here e) = here e

@@ -9,7 +9,7 @@ use lib.ListN.{getD, length-replicate}
 use Rattle.folds.specs.Below.{first}
 use Rattle.folds.specs.Column.{column-at, column-over, filled, replicate-at}
 use Rattle.view.specs.View.{maxPoints}
-use Rattle.patches.specs.Patches.{at, survives, linked, test, via, labelsBy, labelsOf}
+use Rattle.patches.specs.Patches.{survives, linked, test, via, labelsBy, labelsOf}
 use Rattle.patches.specs.Reach.{here, Labelled}
 use Rattle.patches.specs.Search.{Search}
 use Rattle.patches.proofs.Surviving.{survives-lt, link-from, link-to}
@@ -41,21 +41,21 @@ module _ (n : ℕ) (near : ℕ → ℕ) (sides dropped : List ℕ) where
   })
 
   -- each label is a place
-  label-at : (k : ℕ) → k < n → at (labelsOf n near sides dropped) k ≡ first (λ (a : ℕ). test (via n alive link n) a k) 0 n
+  label-at : (k : ℕ) → k < n → getD (labelsOf n near sides dropped) k 0 ≡ first (λ (a : ℕ). test (via n alive link n) a k) 0 n
   unfolding labelsOf labelsBy
   label-at k h = column-at maxPoints 0 n (λ (k : ℕ). first (λ (a : ℕ). test (via n alive link n) a k) 0 n) k h
 
-  pub label-none : (k : ℕ) → k < n → (alive k ≡ true → ⊥) → at (labelsOf n near sides dropped) k ≡ n
+  pub label-none : (k : ℕ) → k < n → (alive k ≡ true → ⊥) → getD (labelsOf n near sides dropped) k 0 ≡ n
   label-none k h f = label-at k h ∙ first-none n alive link joins k h f
 
-  pub label-some : (k : ℕ) → alive k ≡ true → Labelled alive link k (at (labelsOf n near sides dropped) k)
+  pub label-some : (k : ℕ) → alive k ≡ true → Labelled alive link k (getD (labelsOf n near sides dropped) k 0)
   label-some k e = rw (label-at k (survives-lt n dropped k e)) (first-labelled n alive link joins k e)
 
-  pub label-le : (k : ℕ) → alive k ≡ true → at (labelsOf n near sides dropped) k ≤ k
+  pub label-le : (k : ℕ) → alive k ≡ true → getD (labelsOf n near sides dropped) k 0 ≤ k
   label-le k e = label-some k e .least k (here e)
 
   -- a rank with a label below n survives
-  pub label-lives : (k : ℕ) → k < n → at (labelsOf n near sides dropped) k < n → alive k ≡ true
+  pub label-lives : (k : ℕ) → k < n → getD (labelsOf n near sides dropped) k 0 < n → alive k ≡ true
   label-lives k h l = go (alive k) refl
     where
       go : (b : Bool) → alive k ≡ b → alive k ≡ true

@@ -4,3 +4,5 @@ pub mod Closure
 pub mod Labelling
 pub mod Agreeing
 pub mod Gathering
+pub mod Extents
+pub mod BoxSheets

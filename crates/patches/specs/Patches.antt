@@ -11,17 +11,13 @@ use Rattle.folds.specs.Lists.{listOf}
 use Rattle.folds.specs.Column.{column}
 use Rattle.view.specs.View.{View, maxPoints}
 
--- what stands at a place of an array
-abbrev pub at : List ℕ → ℕ → ℕ
-at l k = getD l k 0
-
 -- "A survivor is a point whose index gets no mark under these rules other than the component mark."
 abbrev pub survives : ℕ → List ℕ → ℕ → Bool
-survives n dropped k = ltb k n && eqb (at dropped k) 0
+survives n dropped k = ltb k n && eqb (getD dropped k 0) 0
 
 -- "Two cells share an edge if they differ by one in u and agree in v, or the other way round": b is at one of the offsets from a
 abbrev pub touches : (ℕ → ℕ) → List ℕ → ℕ → ℕ → Bool
-touches near sides a b = some (λ (i : ℕ). eqb (near (25 * a + at sides i)) b) (length sides)
+touches near sides a b = some (λ (i : ℕ). eqb (near (25 * a + getD sides i 0)) b) (length sides)
 
 -- a step "over shared edges, survivor to survivor"
 abbrev pub linked : ℕ → (ℕ → ℕ) → List ℕ → List ℕ → ℕ → ℕ → Bool

@@ -1,11 +1,15 @@
 // Patches of surviving points: cells joined by shared edges, over any list of offsets. See specs/Patches.antt.
+pub mod boxes;
+
 ghost use mathlib.Core.Path.{_≡_};
 ghost use Prim.Native.Nat.{_+_, _≤_, _<_};
-ghost use Rattle.view.specs.View.{maxPoints, squareSides};
-ghost use Rattle.patches.specs.Patches.{at, survives, linked, labelsOf};
+ghost use mathlib.Core.List.{List, []};
+ghost use lib.Ieee.{Float};
+ghost use Rattle.view.specs.View.{maxPoints, squareSides, viewAt};
+ghost use Rattle.patches.specs.Patches.{survives, linked, patchLabels};
 ghost use Rattle.patches.specs.Search.{Fit, Sized, Visit, unlabelled, Search, Advanced};
 use view::MAX_POINTS;
-use view::NEAR_SIZE;
+use view::RANKS_SIZE;
 
 // The offsets of the square lattice: to u - 1, u + 1, v - 1 and v + 1.
 pub fn square_sides() -> [u8; 4]
@@ -53,7 +57,7 @@ fn visit(
 
 // Visits each neighbour of the rank at `head` of the worklist.
 fn expand(
-    near: &[u16; NEAR_SIZE],
+    ranks: &[u16; RANKS_SIZE],
     dropped: &[u8; MAX_POINTS],
     sides: &[u8],
     n: usize,
@@ -64,14 +68,14 @@ fn expand(
     queue: &mut [u16; MAX_POINTS],
     tail: usize,
 ) -> usize
-    requires { ⌜ Fit n (now sides) × (head < tail) × Search (survives n (now dropped)) (linked n (at (now near)) (now sides) (now dropped)) n s head (now seen) (now label) (now queue) tail ⌝ }
-    ensures { λ r. ⌜ Advanced (survives n (now (dropped .entry))) (linked n (at (now (near .entry))) (now (sides .entry)) (now (dropped .entry))) n s (head + 1) (now (seen .entry)) (now (seen .exit)) (now (label .exit)) (now (queue .exit)) r ⌝ }
+    requires { ⌜ Fit n (now sides) × (head < tail) × Search (survives n (now dropped)) (linked n (viewAt n (now ranks) [] [] .near) (now sides) (now dropped)) n s head (now seen) (now label) (now queue) tail ⌝ }
+    ensures { λ r. ⌜ Advanced (survives n (now (dropped .entry))) (linked n (viewAt n (now (ranks .entry)) [] [] .near) (now (sides .entry)) (now (dropped .entry))) n s (head + 1) (now (seen .entry)) (now (seen .exit)) (now (label .exit)) (now (queue .exit)) r ⌝ }
 {
     let x = view::wide(queue[head]);
     let mut t = tail;
     let mut d = 0;
     while d < sides.len() {
-        let j = view::wide(near[25 * x + offset(sides[d])]);
+        let j = view::rank_at(ranks, x, offset(sides[d]));
         t = visit(dropped, n, s, j, seen, label, queue, t);
         d += 1;
     }
@@ -80,7 +84,7 @@ fn expand(
 
 // Marks and labels the whole patch of rank s, if it survives and is not marked.
 fn fill(
-    near: &[u16; NEAR_SIZE],
+    ranks: &[u16; RANKS_SIZE],
     dropped: &[u8; MAX_POINTS],
     sides: &[u8],
     n: usize,
@@ -90,13 +94,13 @@ fn fill(
     queue: &mut [u16; MAX_POINTS],
     start: usize,
 ) -> usize
-    requires { ⌜ Fit n (now sides) × Search (survives n (now dropped)) (linked n (at (now near)) (now sides) (now dropped)) n s start (now seen) (now label) (now queue) start ⌝ }
-    ensures { λ r. ⌜ Search (survives n (now (dropped .entry))) (linked n (at (now (near .entry))) (now (sides .entry)) (now (dropped .entry))) n (s + 1) r (now (seen .exit)) (now (label .exit)) (now (queue .exit)) r ⌝ }
+    requires { ⌜ Fit n (now sides) × Search (survives n (now dropped)) (linked n (viewAt n (now ranks) [] [] .near) (now sides) (now dropped)) n s start (now seen) (now label) (now queue) start ⌝ }
+    ensures { λ r. ⌜ Search (survives n (now (dropped .entry))) (linked n (viewAt n (now (ranks .entry)) [] [] .near) (now (sides .entry)) (now (dropped .entry))) n (s + 1) r (now (seen .exit)) (now (label .exit)) (now (queue .exit)) r ⌝ }
 {
     let mut tail = visit(dropped, n, s, view::wide(s), seen, label, queue, start);
     let mut head = start;
     while head < tail {
-        tail = expand(near, dropped, sides, n, s, head, seen, label, queue, tail);
+        tail = expand(ranks, dropped, sides, n, s, head, seen, label, queue, tail);
         head += 1;
     }
     tail
@@ -119,13 +123,13 @@ fn blank(n: usize) -> [u16; MAX_POINTS]
 
 // The label of each rank: the least rank of its patch; n where it does not survive.
 pub fn labels(
-    near: &[u16; NEAR_SIZE],
+    ranks: &[u16; RANKS_SIZE],
     dropped: &[u8; MAX_POINTS],
     sides: &[u8],
     n: usize,
 ) -> [u16; MAX_POINTS]
     requires { ⌜ Fit n (now sides) ⌝ }
-    ensures { λ r. ⌜ r ≡ labelsOf n (at (now (near .entry))) (now (sides .entry)) (now (dropped .entry)) ⌝ }
+    ensures { λ r. ⌜ ((xs ys : List Float) → r ≡ patchLabels (viewAt n (now (ranks .entry)) xs ys) (now (sides .entry)) (now (dropped .entry))) ⌝ }
 {
     let mut seen = [0u8; MAX_POINTS];
     let mut queue = [0u16; MAX_POINTS];
@@ -134,7 +138,7 @@ pub fn labels(
     let mut i: usize = 0;
     while i < n {
         tail = fill(
-            near,
+            ranks,
             dropped,
             sides,
             n,

@@ -9,7 +9,6 @@ use lib.ListN.{replicate, length-replicate}
 use Rattle.view.specs.View.{maxPoints}
 use Rattle.folds.specs.Column.{Filling, fill-start, fill-more, filled}
 use Rattle.folds.specs.Marked.{bit}
-use Rattle.patches.specs.Patches.{at}
 use Rattle.components.specs.Components.{isOther, othersBy}
 use Rattle.components.proofs.others.Statement.{statement}
 use Rattle.components.proofs.others.Tie as tie

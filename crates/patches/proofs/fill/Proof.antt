@@ -1,11 +1,12 @@
 -- `patches::fill` meets its contract. The worklist is searched to its end. Assumes nothing.
 use mathlib.Core.Path.{_≡_}
 use mathlib.Core.Bool.{true}
-use Prim.Native.Nat.{_-_, _<_}
+use Prim.Native.Nat.{ℕ, _-_, _<_}
 use native.Mathlib.Omega.{arith}
 use borrow.Author.Needs.{needs}
+use lib.ListN.{getD}
 use Rattle.view.specs.View.{maxPoints}
-use Rattle.patches.specs.Patches.{at, survives, linked}
+use Rattle.patches.specs.Patches.{survives, linked}
 use Rattle.patches.specs.Search.{Seen, Search}
 use Rattle.patches.proofs.Surviving.{survives-lt}
 use Rattle.patches.proofs.Searching.{marked-le, search-start, search-end}
@@ -13,11 +14,11 @@ use Rattle.patches.proofs.fill.Statement.{statement}
 use Rattle.patches.proofs.fill.Tie as tie
 
 abbrev Inv-loop : tie.InvT-loop
-Inv-loop near dropped sides n s seen₀ label₀ queue₀ start tail₀ head₀ seen label queue tail head =
-    Search (survives n dropped) (linked n (at near) sides dropped) n s head seen label queue tail × (survives n dropped s ≡ true → Seen seen s)
+Inv-loop ranks dropped sides n s seen₀ label₀ queue₀ start tail₀ head₀ seen label queue tail head =
+    Search (survives n dropped) (linked n (λ (i : ℕ). getD ranks i 0) sides dropped) n s head seen label queue tail × (survives n dropped s ≡ true → Seen seen s)
 
 abbrev μ-loop : tie.MeasureT-loop
-μ-loop near dropped sides n s seen₀ label₀ queue₀ start tail₀ head₀ seen label queue tail head = maxPoints - head
+μ-loop ranks dropped sides n s seen₀ label₀ queue₀ start tail₀ head₀ seen label queue tail head = maxPoints - head
 
 visit-requires : tie.Need-visit-requires Inv-loop μ-loop
 visit-requires c κs = let p = c .before .before .before .before .before .pre in (p .0 .few, p .1 .sized)

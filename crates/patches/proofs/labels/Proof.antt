@@ -1,8 +1,9 @@
 -- `patches::labels` meets its contract. After the last patch the labels are those of the definition. Assumes nothing.
-use Prim.Native.Nat.{_-_, _≤_}
+use Prim.Native.Nat.{ℕ, _-_, _≤_}
 use native.Mathlib.Omega.{arith}
 use borrow.Author.Needs.{needs}
-use Rattle.patches.specs.Patches.{at, survives, linked}
+use lib.ListN.{getD}
+use Rattle.patches.specs.Patches.{survives, linked}
 use Rattle.patches.specs.Search.{Search}
 use Rattle.patches.proofs.Searching.{search-none}
 use Rattle.patches.proofs.Labelling.{search-labels}
@@ -10,10 +11,10 @@ use Rattle.patches.proofs.labels.Statement.{statement}
 use Rattle.patches.proofs.labels.Tie as tie
 
 abbrev Inv-loop : tie.InvT-loop
-Inv-loop near dropped sides n seen₀ queue₀ label₀ tail₀ i₀ seen queue label tail i = (i ≤ n) × Search (survives n dropped) (linked n (at near) sides dropped) n i tail seen label queue tail
+Inv-loop ranks dropped sides n seen₀ queue₀ label₀ tail₀ i₀ seen queue label tail i = (i ≤ n) × Search (survives n dropped) (linked n (λ (i : ℕ). getD ranks i 0) sides dropped) n i tail seen label queue tail
 
 abbrev μ-loop : tie.MeasureT-loop
-μ-loop near dropped sides n seen₀ queue₀ label₀ tail₀ i₀ seen queue label tail i = n - i
+μ-loop ranks dropped sides n seen₀ queue₀ label₀ tail₀ i₀ seen queue label tail i = n - i
 
 blank-requires : tie.Need-blank-requires Inv-loop μ-loop
 blank-requires c κs = c .before .pre .few
@@ -31,9 +32,9 @@ loop-again : tie.Need-loop-again Inv-loop μ-loop
 loop-again c = (omega arith, c .fill .ensures)
 
 returns : tie.Need-returns Inv-loop μ-loop
-returns c =
+returns c xs ys =
     let a = c .before .before .before .before .args in
-    search-labels (a .n) (at (a .near .now)) (a .sides .now) (a .dropped .now) _ _ _ _ _ (c .loop-test .left) (c .before .before .before .before .pre .few) (c .before .loop .inv .1)
+    search-labels (a .n) (λ (i : ℕ). getD (a .ranks .now) i 0) (a .sides .now) (a .dropped .now) _ _ _ _ _ (c .loop-test .left) (c .before .before .before .before .pre .few) (c .before .loop .inv .1)
 
 pub labels-spec : {M : Type 1} → statement M
 labels-spec =
