@@ -11,8 +11,9 @@ use Rattle.folds.specs.Lists.{upFrom, listOf}
 use Rattle.folds.specs.Column.{column}
 use Rattle.view.specs.View.{View, squareSides}
 use Rattle.marks.specs.Marks.{indexMarks}
-use Rattle.patches.specs.Patches.{square, via, labelsBy, labelsOf, patchLabels}
-use Rattle.components.specs.Components.{countOf, sizesOf, largestAt, winnerOf, othersBy, othersOf, componentCount, componentMark}
+use Rattle.patches.specs.Patches.{testTable, via, labelsBy, labelsOf, patchLabels}
+use Rattle.patches.proofs.Lattices.{hexSides}
+use Rattle.components.specs.Components.{patchCount, sizesOf, largestAt, winnerOf, outsideBy, outsideOf, componentCount, componentMark}
 
 -- the view of cells in order, u and v from 2 on, with the place of each cell's index: entry 25 * k + d is the place of the cell at offset d
 unfoldable sheet : List ℕ → List ℕ → List ℕ → View
@@ -30,13 +31,13 @@ sheet us vs places = record {
 -- index 7 at cells (0, 0) and (5, 5): two patches, and both points marked
 empty-kept : (componentCount (sheet (2 ∷ 7 ∷ []) (2 ∷ 7 ∷ []) (1 ∷ 1 ∷ [])) squareSides [] ≡ 2)
     × (take 2 (componentMark (sheet (2 ∷ 7 ∷ []) (2 ∷ 7 ∷ []) (1 ∷ 1 ∷ [])) squareSides []) ≡ 1 ∷ 1 ∷ [])
-unfolding sheet first firstIn listOf upFrom some tally column square via labelsBy labelsOf countOf sizesOf largestAt winnerOf othersBy othersOf indexMarks
+unfolding sheet first firstIn listOf upFrom some tally column testTable via labelsBy labelsOf patchCount sizesOf largestAt winnerOf outsideBy outsideOf indexMarks
 empty-kept = (refl, refl)
 
 -- indices 1, 2, 3 at cells (0, 0), (1, 0), (2, 0), and 2 again at (9, 9): 1 and 3 are left
 pieces-kept : (take 4 (patchLabels (sheet (2 ∷ 3 ∷ 4 ∷ 11 ∷ []) (2 ∷ 2 ∷ 2 ∷ 11 ∷ []) (0 ∷ 3 ∷ 2 ∷ 3 ∷ [])) squareSides []) ≡ 0 ∷ 0 ∷ 0 ∷ 3 ∷ [])
     × (take 4 (componentMark (sheet (2 ∷ 3 ∷ 4 ∷ 11 ∷ []) (2 ∷ 2 ∷ 2 ∷ 11 ∷ []) (0 ∷ 3 ∷ 2 ∷ 3 ∷ [])) squareSides []) ≡ 0 ∷ 1 ∷ 0 ∷ 1 ∷ [])
-unfolding sheet first firstIn listOf upFrom some tally column square via labelsBy labelsOf countOf sizesOf largestAt winnerOf othersBy othersOf indexMarks
+unfolding sheet first firstIn listOf upFrom some tally column testTable via labelsBy labelsOf patchCount sizesOf largestAt winnerOf outsideBy outsideOf indexMarks
 pieces-kept = (refl, refl)
 
 -- "points 5 components 2": (0, 0), (0, 1), (1, 0), (1, 1) and (5, 5); with (0, 0) dropped, three are kept; with (0, 1) and (1, 0) dropped the
@@ -45,5 +46,10 @@ five-kept : (componentCount (sheet (2 ∷ 2 ∷ 3 ∷ 3 ∷ 7 ∷ []) (2 ∷ 3 �
     × (take 5 (componentMark (sheet (2 ∷ 2 ∷ 3 ∷ 3 ∷ 7 ∷ []) (2 ∷ 3 ∷ 2 ∷ 3 ∷ 7 ∷ []) (0 ∷ 1 ∷ 2 ∷ 3 ∷ 4 ∷ [])) squareSides []) ≡ 0 ∷ 0 ∷ 0 ∷ 0 ∷ 1 ∷ [])
     × (take 5 (componentMark (sheet (2 ∷ 2 ∷ 3 ∷ 3 ∷ 7 ∷ []) (2 ∷ 3 ∷ 2 ∷ 3 ∷ 7 ∷ []) (0 ∷ 1 ∷ 2 ∷ 3 ∷ 4 ∷ [])) squareSides (1 ∷ [])) ≡ 0 ∷ 0 ∷ 0 ∷ 0 ∷ 1 ∷ [])
     × (take 5 (componentMark (sheet (2 ∷ 2 ∷ 3 ∷ 3 ∷ 7 ∷ []) (2 ∷ 3 ∷ 2 ∷ 3 ∷ 7 ∷ []) (0 ∷ 1 ∷ 2 ∷ 3 ∷ 4 ∷ [])) squareSides (0 ∷ 1 ∷ 1 ∷ [])) ≡ 0 ∷ 0 ∷ 0 ∷ 1 ∷ 1 ∷ [])
-unfolding sheet first firstIn listOf upFrom some tally column square via labelsBy labelsOf countOf sizesOf largestAt winnerOf othersBy othersOf indexMarks
+unfolding sheet first firstIn listOf upFrom some tally column testTable via labelsBy labelsOf patchCount sizesOf largestAt winnerOf outsideBy outsideOf indexMarks
 five-kept = (refl, refl, refl, refl)
+
+-- cells (0, 1) and (1, 0) share an edge on the honeycomb, not on the square lattice
+hex-joined : (componentCount (sheet (2 ∷ 3 ∷ []) (3 ∷ 2 ∷ []) (0 ∷ 1 ∷ [])) hexSides [] ≡ 1) × (componentCount (sheet (2 ∷ 3 ∷ []) (3 ∷ 2 ∷ []) (0 ∷ 1 ∷ [])) squareSides [] ≡ 2)
+unfolding sheet first firstIn listOf upFrom some tally column testTable via labelsBy labelsOf patchCount
+hex-joined = (refl, refl)

@@ -14,9 +14,9 @@ use Rattle.patches.specs.Patches.{labelsOf, patchLabels}
 use Rattle.components.specs.declared.ComponentFilter.{ComponentFilter}
 
 -- "the component count is how many whole patches there are": how many ranks are the label of themselves
-unfoldable pub countOf : ℕ → List ℕ → ℕ
+unfoldable pub patchCount : ℕ → List ℕ → ℕ
 unfolding tally
-countOf n labels = tally (λ (k : ℕ). eqb (getD labels k 0) k) n
+patchCount n labels = tally (λ (k : ℕ). eqb (getD labels k 0) k) n
 
 -- how many points each label has
 unfoldable pub sizesOf : ℕ → List ℕ → List ℕ
@@ -38,27 +38,27 @@ abbrev pub inPatch : ℕ → List ℕ → ℕ → ℕ → Bool
 inPatch n labels w k = ltb k n && eqb (getD labels k 0) w
 
 -- rank k survives and is in another patch than the winner w
-abbrev pub isOther : ℕ → List ℕ → ℕ → ℕ → Bool
-isOther n labels w k = ltb (getD labels k 0) n && not (eqb (getD labels k 0) w)
+abbrev pub isOutside : ℕ → List ℕ → ℕ → ℕ → Bool
+isOutside n labels w k = ltb (getD labels k 0) n && not (eqb (getD labels k 0) w)
 
-unfoldable pub othersBy : ℕ → List ℕ → ℕ → List ℕ
+unfoldable pub outsideBy : ℕ → List ℕ → ℕ → List ℕ
 unfolding column
-othersBy n labels w = column maxPoints 0 n (λ (k : ℕ). bit (isOther n labels w k))
+outsideBy n labels w = column maxPoints 0 n (λ (k : ℕ). bit (isOutside n labels w k))
 
-unfoldable pub othersOf : ℕ → List ℕ → List ℕ
-unfolding othersBy winnerOf
-othersOf n labels = othersBy n labels (winnerOf n labels)
+unfoldable pub outsideOf : ℕ → List ℕ → List ℕ
+unfolding outsideBy winnerOf
+outsideOf n labels = outsideBy n labels (winnerOf n labels)
 
 -- ---- the component mark
 
 -- "dropping component cells by cell where the Rust drops indices" is the error that this rules out
 abbrev pub componentMark : View → List ℕ → List ℕ → List ℕ
-componentMark w sides dropped = indexMarks w (othersOf (w .count) (patchLabels w sides dropped))
+componentMark w sides dropped = indexMarks w (outsideOf (w .count) (patchLabels w sides dropped))
 
 abbrev pub componentCount : View → List ℕ → List ℕ → ℕ
-componentCount w sides dropped = countOf (w .count) (patchLabels w sides dropped)
+componentCount w sides dropped = patchCount (w .count) (patchLabels w sides dropped)
 
 -- what the filter hands back
 unfoldable pub filterOf : View → List ℕ → List ℕ → ComponentFilter
-unfolding labelsOf countOf othersOf indexMarks
+unfolding labelsOf patchCount outsideOf indexMarks
 filterOf w sides dropped = record { marks = componentMark w sides dropped; «components_seen» = componentCount w sides dropped }

@@ -29,15 +29,15 @@ linked n near sides dropped a b = survives n dropped a && (survives n dropped b 
 abbrev pub test : List (List Bool) → ℕ → ℕ → Bool
 test m a b = getD (getD m a []) b false
 
-unfoldable pub square : ℕ → (ℕ → ℕ → Bool) → List (List Bool)
+unfoldable pub testTable : ℕ → (ℕ → ℕ → Bool) → List (List Bool)
 unfolding listOf
-square n f = listOf n (λ (a : ℕ). listOf n (f a))
+testTable n f = listOf n (λ (a : ℕ). listOf n (f a))
 
 -- b is reached from the survivor a by way of ranks below i
 unfoldable pub via : ℕ → (ℕ → Bool) → (ℕ → ℕ → Bool) → ℕ → List (List Bool)
-unfolding square
-via n alive link zero = square n (λ (a b : ℕ). (eqb a b && alive a) || link a b)
-via n alive link (suc i) = let m = via n alive link i in square n (λ (a b : ℕ). test m a b || (test m a i && test m i b))
+unfolding testTable
+via n alive link zero = testTable n (λ (a b : ℕ). (eqb a b && alive a) || link a b)
+via n alive link (suc i) = let m = via n alive link i in testTable n (λ (a b : ℕ). test m a b || (test m a i && test m i b))
 
 -- ---- labels
 

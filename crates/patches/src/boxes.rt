@@ -8,7 +8,7 @@ ghost use lib.Ieee.{Float};
 ghost use Rattle.folds.specs.Marked.{bit};
 ghost use Rattle.view.specs.View.{maxPoints, viewAt, Ranked};
 ghost use Rattle.cells.specs.Cell.{cellsAt};
-ghost use Rattle.patches.specs.Search.{Fit};
+ghost use Rattle.patches.specs.Search.{Offsets};
 ghost use Rattle.patches.specs.Boxes.{CellKeys, extent, farthestOf, atEnd, boundaryAmong, boundaryOf};
 use crate::labels;
 use view::MAX_POINTS;
@@ -134,7 +134,7 @@ pub fn boundary(
     sides: &[u8],
     n: usize,
 ) -> [u8; MAX_POINTS]
-    requires { ⌜ Fit n (now sides) × Ranked n (now ranks) × CellKeys n (now keys) ⌝ }
+    requires { ⌜ Ranked n (now ranks) × Offsets (now sides) × CellKeys n (now keys) ⌝ }
     ensures { λ r. ⌜ ((xs ys : List Float) → r ≡ boundaryOf (viewAt n (now (ranks .entry)) xs ys) (now (sides .entry)) (cellsAt (now (keys .entry)))) ⌝ }
 {
     let dropped = [0u8; MAX_POINTS];

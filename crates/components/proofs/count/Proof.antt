@@ -6,7 +6,7 @@ use borrow.Author.Needs.{needs}
 use lib.Dec.{eqb}
 use lib.ListN.{getD}
 use Rattle.folds.specs.Below.{tally, tally-none, tally-le, tally-turn}
-use Rattle.components.specs.Components.{countOf}
+use Rattle.components.specs.Components.{patchCount}
 use Rattle.components.proofs.count.Statement.{statement}
 use Rattle.components.proofs.count.Tie as tie
 
@@ -30,7 +30,7 @@ loop-again c =
     (omega arith, tally-turn _ (l .loop .i) (c .one-more .ensures) (ap (λ (v : ℕ). eqb v (l .loop .i)) (c .before .wide .ensures)) (l .loop .inv .1))
 
 returns : tie.Need-returns Inv-loop μ-loop
-unfolding countOf
+unfolding patchCount
 returns c = let e : c .before .loop .i ≡ c .before .before .args .n = omega arith in rw e at (c .before .loop .inv .1)
 
 pub count-spec : {M : Type 1} → statement M
