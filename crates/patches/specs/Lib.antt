@@ -1,3 +1,4 @@
 pub mod Patches
 pub mod Reach
 pub mod Search
+pub mod Boxes

@@ -1,31 +1,34 @@
-// The boxes of patches, for the edge gate: whether a point is on the boundary of its patch's box.
+// The boxes of patches, for the edge gate: whether a point is on the boundary of its patch's box. See specs/Boxes.antt.
 ghost use mathlib.Core.Path.{_≡_};
-ghost use mathlib.Core.Bool.{cond, not, _&&_, _||_};
+ghost use mathlib.Core.Bool.{cond, _&&_, _||_};
+ghost use mathlib.Core.List.{List, []};
 ghost use Prim.Native.Nat.{ℕ, _≤_, _<_, _^_};
-ghost use lib.Dec.{eqb, ltb};
-ghost use Rattle.folds.specs.Below.{fold, turn};
-ghost use Rattle.folds.specs.Column.{column};
+ghost use lib.Dec.{ltb};
+ghost use lib.Ieee.{Float};
 ghost use Rattle.folds.specs.Marked.{bit};
-ghost use Rattle.folds.specs.Scattered.{larger};
-ghost use Rattle.view.specs.View.{maxPoints};
-ghost use Rattle.patches.specs.Patches.{at};
-ghost use Rattle.patches.specs.Search.{Fit};
-ghost use Rattle.boxes.specs.Boxes.{Cells, extent, boundaryBy, boundaryOf};
+ghost use Rattle.view.specs.View.{maxPoints, viewAt, Ranked};
+ghost use Rattle.cells.specs.Cell.{cellsAt};
+ghost use Rattle.patches.specs.Search.{Offsets};
+ghost use Rattle.patches.specs.Boxes.{CellKeys, extent, farthestOf, atEnd, boundaryAmong, boundaryOf};
+use crate::labels;
 use view::MAX_POINTS;
-use view::NEAR_SIZE;
+use view::RANKS_SIZE;
+
+// The greatest that a part of a cell's key can be.
+const FAR_END: u16 = 16383;
 
 // How far a cell lies to one of the four ways.
 fn extent_of(key: u32, way: usize) -> u16
     requires { ⌜ key < 2 ^ 28 ⌝ }
     ensures { λ r. ⌜ r ≡ extent way key ⌝ }
 {
-    let u = (key / 16384) as u16;
-    let v = (key % 16384) as u16;
+    let u = cells::u_part(key) as u16;
+    let v = cells::v_part(key) as u16;
     match way {
         0 => u,
-        1 => 16383 - u,
+        1 => FAR_END - u,
         2 => v,
-        _ => 16383 - v,
+        _ => FAR_END - v,
     }
 }
 
@@ -45,8 +48,8 @@ fn farthest(
     n: usize,
     way: usize,
 ) -> [u16; MAX_POINTS]
-    requires { ⌜ Cells n (now keys) ⌝ }
-    ensures { λ r. ⌜ r ≡ column maxPoints 0 n (λ (s : ℕ). fold (turn (λ (k : ℕ). eqb (at (now (label .entry)) k) s) (larger (λ (k : ℕ). extent way (at (now (keys .entry)) k)))) 0 n) ⌝ }
+    requires { ⌜ (n ≤ maxPoints) × CellKeys n (now keys) ⌝ }
+    ensures { λ r. ⌜ r ≡ farthestOf n (now (label .entry)) (now (keys .entry)) way ⌝ }
 {
     let mut far = [0u16; MAX_POINTS];
     let mut i: usize = 0;
@@ -64,7 +67,7 @@ fn farthest(
 // Whether the cell lies as far one way as the patch with label s reaches.
 fn reaches(key: u32, way: usize, s: usize, far: &[u16; MAX_POINTS]) -> bool
     requires { ⌜ (key < 2 ^ 28) × (s < maxPoints) ⌝ }
-    ensures { λ r. ⌜ r ≡ not (ltb (extent way key) (at (now (far .entry)) s)) ⌝ }
+    ensures { λ r. ⌜ r ≡ atEnd (now (far .entry)) way s key ⌝ }
 {
     !(extent_of(key, way) < far[s])
 }
@@ -80,7 +83,7 @@ fn on_boundary(
     d: &[u16; MAX_POINTS],
 ) -> u8
     requires { ⌜ (key < 2 ^ 28) × (n ≤ maxPoints) ⌝ }
-    ensures { λ r. ⌜ r ≡ bit (ltb s n && (not (ltb (extent 1 key) (at (now (b .entry)) s)) || (not (ltb (extent 0 key) (at (now (a .entry)) s)) || (not (ltb (extent 3 key) (at (now (d .entry)) s)) || not (ltb (extent 2 key) (at (now (c .entry)) s)))))) ⌝ }
+    ensures { λ r. ⌜ r ≡ bit (ltb s n && (atEnd (now (b .entry)) 1 s key || (atEnd (now (a .entry)) 0 s key || (atEnd (now (d .entry)) 3 s key || atEnd (now (c .entry)) 2 s key)))) ⌝ }
 {
     if n <= s {
         return 0;
@@ -100,14 +103,15 @@ fn on_boundary(
     0
 }
 
-// 1 for each rank on the boundary of the box of its patch, given the labels.
-pub fn boundary_by(
+// 1 at each rank whose index has its place on the boundary of the box of its patch, given the labels.
+fn boundary_among(
+    ranks: &[u16; RANKS_SIZE],
     keys: &[u32; MAX_POINTS],
     label: &[u16; MAX_POINTS],
     n: usize,
 ) -> [u8; MAX_POINTS]
-    requires { ⌜ Cells n (now keys) ⌝ }
-    ensures { λ r. ⌜ r ≡ boundaryBy n (now (label .entry)) (now (keys .entry)) ⌝ }
+    requires { ⌜ Ranked n (now ranks) × CellKeys n (now keys) ⌝ }
+    ensures { λ r. ⌜ r ≡ boundaryAmong (viewAt n (now (ranks .entry)) [] []) (now (label .entry)) (cellsAt (now (keys .entry))) ⌝ }
 {
     let a = farthest(keys, label, n, 0);
     let b = farthest(keys, label, n, 1);
@@ -116,23 +120,24 @@ pub fn boundary_by(
     let mut out = [0u8; MAX_POINTS];
     let mut i: usize = 0;
     while i < n {
-        out[i] = on_boundary(keys[i], view::wide(label[i]), n, &a, &b, &c, &d);
+        let m = view::index_of(ranks, i);
+        out[i] = on_boundary(keys[m], view::wide(label[m]), n, &a, &b, &c, &d);
         i += 1;
     }
     out
 }
 
-// 1 for each rank on the boundary of the box of its patch of all points.
+// 1 at each rank whose index has its place on the boundary of the box of its patch of all points.
 pub fn boundary(
-    near: &[u16; NEAR_SIZE],
+    ranks: &[u16; RANKS_SIZE],
     keys: &[u32; MAX_POINTS],
     sides: &[u8],
     n: usize,
 ) -> [u8; MAX_POINTS]
-    requires { ⌜ Fit n (now sides) × Cells n (now keys) ⌝ }
-    ensures { λ r. ⌜ r ≡ boundaryOf n (at (now (near .entry))) (now (sides .entry)) (now (keys .entry)) ⌝ }
+    requires { ⌜ Ranked n (now ranks) × Offsets (now sides) × CellKeys n (now keys) ⌝ }
+    ensures { λ r. ⌜ ((xs ys : List Float) → r ≡ boundaryOf (viewAt n (now (ranks .entry)) xs ys) (now (sides .entry)) (cellsAt (now (keys .entry)))) ⌝ }
 {
     let dropped = [0u8; MAX_POINTS];
-    let label = patches::labels(near, &dropped, sides, n);
-    boundary_by(keys, &label, n)
+    let label = labels(ranks, &dropped, sides, n);
+    boundary_among(ranks, keys, &label, n)
 }

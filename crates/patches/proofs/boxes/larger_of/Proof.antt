@@ -1,9 +1,9 @@
--- `boxes::larger_of` meets its contract. Assumes nothing.
+-- `patches::boxes::larger_of` meets its contract. Assumes nothing.
 use mathlib.Core.Path.{refl}
 use Prim.Native.Nat.{_-_}
 use borrow.Author.Tests.{lt-ltb, le-ltb}
-use Rattle.boxes.proofs.larger_of.Statement.{statement}
-use Rattle.boxes.proofs.larger_of.Tie as tie
+use Rattle.patches.proofs.boxes.larger_of.Statement.{statement}
+use Rattle.patches.proofs.boxes.larger_of.Tie as tie
 
 returns : tie.Need-returns
 returns c = rw (lt-ltb _ _ (c .if1 .taken)) refl

@@ -1,8 +1,8 @@
--- `boxes::on_boundary` meets its contract. Assumes nothing.
+-- `patches::boxes::on_boundary` meets its contract. Assumes nothing.
 use borrow.Author.Needs.{needs}
 use borrow.Author.Tests.{lt-ltb, le-ltb}
-use Rattle.boxes.proofs.on_boundary.Statement.{statement}
-use Rattle.boxes.proofs.on_boundary.Tie as tie
+use Rattle.patches.proofs.boxes.on_boundary.Statement.{statement}
+use Rattle.patches.proofs.boxes.on_boundary.Tie as tie
 
 returns : tie.Need-returns
 returns c = rw (le-ltb _ _ (c .if1 .taken))

@@ -1,20 +1,19 @@
--- `boxes::farthest` meets its contract. Assumes nothing.
+-- `patches::boxes::farthest` meets its contract. Assumes nothing.
 use mathlib.Core.Path.{_≡_}
 use Prim.Native.Nat.{ℕ, _-_, _≤_, zero-le}
 use native.Mathlib.Omega.{arith}
 use borrow.Author.Needs.{needs}
 use borrow.Author.Tests.{lt-ltb, le-ltb}
-use lib.ListN.{replicate, length-replicate}
+use lib.ListN.{getD, replicate, length-replicate}
 use Rattle.view.specs.View.{maxPoints}
-use Rattle.patches.specs.Patches.{at}
 use Rattle.folds.specs.Scattered.{Scattered, larger, scattered-none, scattered-put, scattered-skip}
 use Rattle.patches.proofs.Gathering.{labelled, labels-column}
-use Rattle.boxes.specs.Boxes.{extent}
-use Rattle.boxes.proofs.farthest.Statement.{statement}
-use Rattle.boxes.proofs.farthest.Tie as tie
+use Rattle.patches.specs.Boxes.{extent}
+use Rattle.patches.proofs.boxes.farthest.Statement.{statement}
+use Rattle.patches.proofs.boxes.farthest.Tie as tie
 
 abbrev Inv-loop : tie.InvT-loop
-Inv-loop keys label n way far₀ i₀ far i = (i ≤ n) × Scattered 0 (at label) (labelled n label) (larger (λ (k : ℕ). extent way (at keys k))) (replicate maxPoints 0) i far
+Inv-loop keys label n way far₀ i₀ far i = (i ≤ n) × Scattered 0 (λ (i : ℕ). getD label i 0) (labelled n label) (larger (λ (k : ℕ). extent way (getD keys k 0))) (replicate maxPoints 0) i far
 
 abbrev μ-loop : tie.MeasureT-loop
 μ-loop keys label n way far₀ i₀ far i = n - i
@@ -25,15 +24,15 @@ loop-holds c = (zero-le, scattered-none _ _ _ _ _)
 extent-of-requires : tie.Need-extent-of-requires Inv-loop μ-loop
 extent-of-requires c κs =
     let l = c .before .before .before .before in
-    l .before .pre .small (l .loop .i) (c .before .before .before .loop-test .taken)
+    l .before .pre .1 (l .loop .i) (c .before .before .before .loop-test .taken)
 
 loop-again : tie.Need-loop-again Inv-loop μ-loop
 loop-again c =
     let w = c .before .before .before .before in
     let l = w .before .before .before in
     let a = l .before .args in
-    let put = scattered-put 0 (at (a .label .now)) (labelled (a .n) (a .label .now)) (larger (λ (k : ℕ). extent (a .way) (at (a .keys .now) k))) (replicate maxPoints 0) (l .loop .i) (w .wide .result) (l .loop .far)
-    (omega (arith, length-replicate {A = ℕ} maxPoints 0)) (w .wide .ensures) (lt-ltb (at (a .label .now) (l .loop .i)) (a .n) (omega (arith, c .before .if1 .taken, w .wide .ensures))) (l .loop .inv .1) in
+    let put = scattered-put 0 (λ (i : ℕ). getD (a .label .now) i 0) (labelled (a .n) (a .label .now)) (larger (λ (k : ℕ). extent (a .way) (getD (a .keys .now) k 0))) (replicate maxPoints 0) (l .loop .i) (w .wide .result) (l .loop .far)
+    (omega (arith, length-replicate {A = ℕ} maxPoints 0)) (w .wide .ensures) (lt-ltb (getD (a .label .now) (l .loop .i) 0) (a .n) (omega (arith, c .before .if1 .taken, w .wide .ensures))) (l .loop .inv .1) in
     (omega arith, rw (c .larger-of .ensures, c .before .before .extent-of .ensures) put)
 
 loop-again-2 : tie.Need-loop-again-2 Inv-loop μ-loop
@@ -41,13 +40,13 @@ loop-again-2 c =
     let w = c .before .before .before in
     let l = w .before .before .before in
     let a = l .before .args in
-    (omega arith, scattered-skip _ _ _ _ _ (l .loop .i) _ (le-ltb (at (a .label .now) (l .loop .i)) (a .n) (omega (arith, c .if1 .left, w .wide .ensures))) (l .loop .inv .1))
+    (omega arith, scattered-skip _ _ _ _ _ (l .loop .i) _ (le-ltb (getD (a .label .now) (l .loop .i) 0) (a .n) (omega (arith, c .if1 .left, w .wide .ensures))) (l .loop .inv .1))
 
 returns : tie.Need-returns Inv-loop μ-loop
 returns c =
     let a = c .before .before .args in
     let e : c .before .loop .i ≡ a .n = omega arith in
-    labels-column (a .label .now) _ (a .n) _ (c .before .before .pre .few) (rw e at (c .before .loop .inv .1))
+    labels-column (a .label .now) _ (a .n) _ (c .before .before .pre .0) (rw e at (c .before .loop .inv .1))
 
 pub farthest-spec : {M : Type 1} → statement M
 farthest-spec =

@@ -1,19 +1,20 @@
--- `boxes::boundary` meets its contract. Assumes nothing.
+-- `patches::boxes::boundary` meets its contract. Assumes nothing.
 use mathlib.Core.Path.{_≡_, refl, sym, ap, _∙_}
 use mathlib.Core.Bool.{_&&_}
 use mathlib.Core.List.{List, []}
 use Prim.Native.Nat.{ℕ}
 use borrow.Author.Needs.{needs}
 use lib.Dec.{eqb, ltb}
-use lib.ListN.{replicate}
+use lib.ListN.{getD, replicate}
 use Rattle.folds.specs.Lists.{past-end}
 use Rattle.folds.specs.Column.{replicate-at}
-use Rattle.view.specs.View.{maxPoints}
-use Rattle.patches.specs.Patches.{at, labelsOf}
+use Rattle.view.specs.View.{maxPoints, viewAt}
+use Rattle.cells.specs.Cell.{cellsAt}
+use Rattle.patches.specs.Patches.{labelsOf}
 use Rattle.patches.proofs.Agreeing.{labels-depend}
-use Rattle.boxes.specs.Boxes.{boundaryBy, boundaryOf}
-use Rattle.boxes.proofs.boundary.Statement.{statement}
-use Rattle.boxes.proofs.boundary.Tie as tie
+use Rattle.patches.specs.Boxes.{boundaryAmong, boundaryOf}
+use Rattle.patches.proofs.boxes.boundary.Statement.{statement}
+use Rattle.patches.proofs.boxes.boundary.Tie as tie
 
 -- with nothing dropped, every rank survives
 all-alike : (n : ℕ) (near : ℕ → ℕ) (sides : List ℕ) → labelsOf n near sides (replicate maxPoints 0) ≡ labelsOf n near sides []
@@ -22,10 +23,12 @@ all-alike n near sides =
 
 returns : tie.Need-returns
 unfolding boundaryOf
-returns c =
+returns c xs ys =
     let l = c .before .before in
     let a = l .before .before .before .args in
-    c .boundary-by .ensures ∙ ap (λ (s : List ℕ). boundaryBy (a .n) s (a .keys .now)) (l .labels .ensures ∙ all-alike (a .n) (at (a .near .now)) (a .sides .now))
+    let w = viewAt (a .n) (a .ranks .now) [] [] in
+    c .boundary-among .ensures
+    ∙ ap (λ (s : List ℕ). boundaryAmong w s (cellsAt (a .keys .now))) (l .labels .ensures [] [] ∙ all-alike (a .n) (w .near) (a .sides .now))
 
 pub boundary-spec : {M : Type 1} → statement M
 boundary-spec = tie.close

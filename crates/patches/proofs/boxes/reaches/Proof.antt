@@ -1,7 +1,7 @@
--- `boxes::reaches` meets its contract. Assumes nothing.
+-- `patches::boxes::reaches` meets its contract. Assumes nothing.
 use borrow.Author.Needs.{needs}
-use Rattle.boxes.proofs.reaches.Statement.{statement}
-use Rattle.boxes.proofs.reaches.Tie as tie
+use Rattle.patches.proofs.boxes.reaches.Statement.{statement}
+use Rattle.patches.proofs.boxes.reaches.Tie as tie
 
 returns : tie.Need-returns
 returns c = rw (c .before .extent-of .ensures)

@@ -21,7 +21,7 @@ pub record Smallest (W : ℕ → Bool) (x : ℕ) : Type 0 where
 
 -- Of the ranks below n, K is what is kept: nothing where nothing survives, else one whole patch; every other whole patch has at most as
 -- many points, and any with as many has a later smallest cell.
-pub record Kept (alive : ℕ → Bool) (link : ℕ → ℕ → Bool) (n : ℕ) (K : ℕ → Bool) : Type 0 where
+pub record KeptPatch (alive : ℕ → Bool) (link : ℕ → ℕ → Bool) (n : ℕ) (K : ℕ → Bool) : Type 0 where
   pub none : ((a : ℕ) → alive a ≡ false) → (k : ℕ) → K k ≡ false
   pub whole : (a : ℕ) → alive a ≡ true → WholePatch alive link K
   pub most : (W : ℕ → Bool) → WholePatch alive link W → tally W n ≤ tally K n
@@ -29,7 +29,7 @@ pub record Kept (alive : ℕ → Bool) (link : ℕ → ℕ → Bool) (n : ℕ) (
 
 -- The ranks below n that `roots` picks stand for the whole patches, one for each: patch s is the one of s, and s its smallest cell. So
 -- there are as many whole patches as such ranks.
-pub record Counted (alive : ℕ → Bool) (link : ℕ → ℕ → Bool) (n : ℕ) (roots : ℕ → Bool) (patch : ℕ → ℕ → Bool) : Type 0 where
+pub record PatchesCounted (alive : ℕ → Bool) (link : ℕ → ℕ → Bool) (n : ℕ) (roots : ℕ → Bool) (patch : ℕ → ℕ → Bool) : Type 0 where
   pub whole : (s : ℕ) → s < n → roots s ≡ true → WholePatch alive link (patch s)
   pub member : (s : ℕ) → s < n → roots s ≡ true → Smallest (patch s) s
   pub apart : (s t : ℕ) → s < n → t < n → roots s ≡ true → roots t ≡ true → ((k : ℕ) → patch s k ≡ patch t k) → s ≡ t
