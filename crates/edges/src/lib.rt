@@ -14,7 +14,7 @@ ghost use Rattle.edges.specs.Edges.{side, edgesOf, edgePlace, FilledTo};
 pub const EDGES_SIZE: usize = 6 * MAX_POINTS;
 
 // The offset that the edges of a way lead over: way 0 is along u, 1 along v.
-fn side_of(way: usize) -> usize
+pub fn side_of(way: usize) -> usize
     ensures { λ r. ⌜ (r ≡ side way) × (r < 25) ⌝ }
 {
     if way == 0 { NEXT_U } else { NEXT_V }
