@@ -146,7 +146,13 @@ pub fn steps(
 }
 
 // The scale of rank k's index, from the steps of the indices.
-fn scale_at(ranks: &[u16; RANKS_SIZE], steps: &[f32; MAX_POINTS], n: usize, size: f32, k: usize) -> f32
+fn scale_at(
+    ranks: &[u16; RANKS_SIZE],
+    steps: &[f32; MAX_POINTS],
+    n: usize,
+    size: f32,
+    k: usize,
+) -> f32
     requires { ⌜ Ranked n (now ranks) × (k < n) ⌝ }
     ensures { λ r. ⌜ r ≡ scaleAt (viewAt n (now (ranks .entry)) [] []) (λ (m : ℕ). getD (now (steps .entry)) m nan) size k ⌝ }
 {
