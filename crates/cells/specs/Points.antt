@@ -1,5 +1,5 @@
 -- A point as it stands in the file, the key of its cell, and the columns of the points in cell order. Assumes nothing.
-use Prim.Native.Nat.{ℕ, _+_, _*_, _/_, _%_, _^_}
+use Prim.Native.Nat.{ℕ, _+_, _*_, _%_, _^_}
 use mathlib.Core.List.{List}
 use lib.ListN.{length, getD}
 use lib.Ieee.{Float, nan}
@@ -27,23 +27,16 @@ bias = 8003
 abbrev pub stride : ℕ
 stride = 16384
 
--- u or v plus 8,003: in range it is 3 to 16,003, which leaves room for three cells each way
+-- u or v plus the bias, from its pattern: in range it leaves room for three cells each way
 abbrev pub biased : ℕ → ℕ
 biased b = (b + bias) % 2 ^ 32
 
--- cells by u, then v, are in the order of their keys (proved in Cell)
+-- cells by u, then v, are in the order of their keys (proofs/Keys.antt, key-order)
 abbrev pub keyAt : ℕ → ℕ → ℕ
 keyAt u v = biased u * stride + biased v
 
 abbrev pub keyOf : Point → ℕ
 keyOf p = keyAt (p .u) (p .v)
-
--- Offset number d is 5 * (du + 2) + (dv + 2). A key plus stepOf d is the key of the cell at that offset plus centreStep (proved in Cell).
-abbrev pub stepOf : ℕ → ℕ
-stepOf d = stride * (d / 5) + d % 5
-
-abbrev pub centreStep : ℕ
-centreStep = 2 * stride + 2
 
 -- ---- the columns of the points ps
 

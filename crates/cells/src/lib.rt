@@ -9,6 +9,11 @@ pub const BIAS: u32 = 8003;
 
 pub const STRIDE: u32 = 16384;
 
+// The ends of the range of u and v, plus BIAS.
+const LOWEST: u32 = BIAS - 8000;
+
+const HIGHEST: u32 = BIAS + 8000;
+
 // The key's parts: u and v, each plus BIAS.
 pub fn u_part(key: u32) -> u32
     ensures { λ r. ⌜ r ≡ key / stride ⌝ }
@@ -22,7 +27,7 @@ pub fn v_part(key: u32) -> u32
     key % STRIDE
 }
 
-// A pattern's u or v plus 8,003, modulo 2^32.
+// A pattern's u or v plus BIAS, modulo 2^32.
 pub fn bias(b: u32) -> u32
     ensures { λ r. ⌜ r ≡ biased b ⌝ }
 {
@@ -34,10 +39,10 @@ pub fn in_range(b: u32) -> bool
     ensures { λ r. ⌜ r ≡ within (signed b) ⌝ }
 {
     let a = bias(b);
-    if a < 3 {
+    if a < LOWEST {
         return false;
     }
-    a <= 16003
+    a <= HIGHEST
 }
 
 // The key of the cell with these patterns of u and v.

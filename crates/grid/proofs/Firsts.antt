@@ -1,4 +1,4 @@
--- The first rank with the v, and with the u, of each rank. Assumes nothing.
+-- The first rank with the v, and with the u, of each rank, by the parts of the keys. Assumes nothing.
 use mathlib.Core.Path.{_≡_, refl, sym, ap, _∙_}
 use mathlib.Core.Bool.{cond}
 use mathlib.Core.Logic.{_⊎_, inl, inr}
@@ -12,106 +12,131 @@ use lib.Dec.{eqb, ltb}
 use lib.ListN.{length, set, length-set, replicate, length-replicate, getD-replicate}
 use lib.Seq.{getD-set-same, getD-set-other}
 use borrow.Author.Tests.{lt-ltb, le-ltb, eq-eqb, ne-eqb}
-use Rattle.folds.specs.Below.{first-hit}
+use Rattle.folds.specs.Below.{first, first-hit, first-ext}
 use Rattle.view.specs.View.{maxPoints}
-use Rattle.grid.specs.Tables.{rowAt, columnAt, at}
-use Rattle.grid.specs.Standing.{Rising}
+use Rattle.cells.specs.Points.{stride}
+use Rattle.cells.specs.Cell.{agree, cellsAt}
+use Rattle.cells.proofs.Keys.{same-u, same-v}
+use Rattle.grid.specs.Tables.{entryIn, firstInRow, firstInColumn}
 
-module _ (key : ℕ → ℕ) where
-  -- ---- rows
+-- the v parts and the u parts of an array of keys
+abbrev pub vParts : List ℕ → ℕ → ℕ
+vParts keys k = entryIn keys k % stride
 
-  -- no rank before k has this v
+abbrev pub uParts : List ℕ → ℕ → ℕ
+uParts keys k = entryIn keys k / stride
+
+module _ (part : ℕ → ℕ) where
+  -- no rank before k has this part
   abbrev Unseen : ℕ → ℕ → Type 0
-  Unseen v k = (j : ℕ) → j < k → key j % 16384 ≡ v → ⊥
+  Unseen v k = (j : ℕ) → j < k → part j ≡ v → ⊥
 
-  -- r is the first with this v
-  abbrev FirstOf : ℕ → ℕ → Type 0
-  FirstOf v r = (key r % 16384 ≡ v) × Unseen v r
+  -- r is the first rank with the part of k, and not after it
+  pub record FirstFor (k r : ℕ) : Type 0 where
+    pub low : r ≤ k
+    pub has : part r ≡ part k
+    pub none : Unseen (part k) r
 
-  -- for each v, the first rank before k that has it, or no rank
-  pub record Seen (seen : List ℕ) (k : ℕ) : Type 0 where
-    pub size : length seen ≡ 16384
-    pub each : (v : ℕ) → v < 16384 → ((at seen v < k) × FirstOf v (at seen v)) ⊎ ((maxPoints ≤ at seen v) × Unseen v k)
+  first-for : {k r : ℕ} (n : ℕ) → k < n → FirstFor k r → r ≡ first (λ (j : ℕ). eqb (part j) (part k)) 0 n
+  first-for {k} {r} n h f =
+      sym (first-hit (λ (j : ℕ). eqb (part j) (part k)) n r (omega (arith, f .low)) (eq-eqb (part r) (part k) (f .has)) (λ j l. ne-eqb (part j) (part k) (f .none j l)))
 
-  pub seen-start : Seen (replicate 16384 65535) 0
-  seen-start = record {
-    size = length-replicate {A = ℕ} 16384 65535;
-    each = λ v l. inr (rw (getD-replicate {A = ℕ} 16384 v 65535 0 l) (omega arith), λ j h. absurd (omega arith));
+  -- ---- by a table over all values of the part
+
+  -- for each value, the first rank before k that has it, or no rank
+  pub record Tabled (seen : List ℕ) (k : ℕ) : Type 0 where
+    pub size : length seen ≡ stride
+    pub each : (v : ℕ) → v < stride → ((entryIn seen v < k) × (part (entryIn seen v) ≡ v) × Unseen v (entryIn seen v)) ⊎ ((maxPoints ≤ entryIn seen v) × Unseen v k)
+
+  pub tabled-start : Tabled (replicate stride 65535) 0
+  tabled-start = record {
+    size = length-replicate {A = ℕ} stride 65535;
+    each = λ v l. inr (rw (getD-replicate {A = ℕ} stride v 65535 0 l) (omega arith), λ j h. absurd (omega arith));
   }
 
-  module _ (seen : List ℕ) (k r : ℕ) (s : Seen seen k) (few : k < maxPoints) (e : r ≡ cond (ltb (at seen (key k % 16384)) k) (at seen (key k % 16384)) k) where
-    entry : (r ≤ k) × FirstOf (key k % 16384) r
-    entry = go (s .each (key k % 16384) (omega arith))
+  module _ (seen : List ℕ) (k v r : ℕ) (is : v ≡ part k) (fits : part k < stride) (s : Tabled seen k) (few : k < maxPoints) (e : r ≡ cond (ltb (entryIn seen v) k) (entryIn seen v) k) where
+    pub tabled-first : FirstFor k r
+    tabled-first = go (s .each (part k) fits)
       where
-        go : ((at seen (key k % 16384) < k) × FirstOf (key k % 16384) (at seen (key k % 16384))) ⊎ ((maxPoints ≤ at seen (key k % 16384)) × Unseen (key k % 16384) k) → (r ≤ k) × FirstOf (key k % 16384) r
-        go (inl f) = let q : r ≡ at seen (key k % 16384) = rw (lt-ltb (at seen (key k % 16384)) k (f .0)) at e in rw q (omega (arith, f .0), f .1)
-        go (inr f) = let q : r ≡ k = rw (le-ltb (at seen (key k % 16384)) k (omega (arith, f .0))) at e in rw q (omega arith, (refl, f .1))
+        go : ((entryIn seen (part k) < k) × (part (entryIn seen (part k)) ≡ part k) × Unseen (part k) (entryIn seen (part k))) ⊎ ((maxPoints ≤ entryIn seen (part k)) × Unseen (part k) k) → FirstFor k r
+        go (inl f) = let q : r ≡ entryIn seen (part k) = rw (is, lt-ltb (entryIn seen (part k)) k (f .0)) at e in rw q (record { low = omega (arith, f .0); has = f .1; none = f .2 })
+        go (inr f) = let q : r ≡ k = rw (is, le-ltb (entryIn seen (part k)) k (omega (arith, f .0))) at e in rw q (record { low = omega arith; has = refl; none = f .1 })
 
-    pub row-is : (n : ℕ) → k < n → r ≡ rowAt n key k
-    unfolding rowAt
-    row-is n h =
-        sym (first-hit (λ (j : ℕ). eqb (key j % 16384) (key k % 16384)) n r (omega (arith, entry .0)) (eq-eqb (key r % 16384) (key k % 16384) (entry .1 .0))
-        (λ j l. ne-eqb (key j % 16384) (key k % 16384) (entry .1 .1 j l)))
-
-    pub seen-more : Seen (set seen (key k % 16384) r) (k + 1)
-    seen-more = record { size = length-set seen (key k % 16384) r ∙ s .size; each = λ v l. go v l (ℕ-discrete v (key k % 16384)) }
+    pub tabled-more : Tabled (set seen v r) (k + 1)
+    tabled-more = rw is (record { size = length-set seen (part k) r ∙ s .size; each = λ x l. go x l (ℕ-discrete x (part k)) })
       where
-        other : (v : ℕ) → (v ≡ key k % 16384 → ⊥) → ((at seen v < k) × FirstOf v (at seen v)) ⊎ ((maxPoints ≤ at seen v) × Unseen v k) → ((at seen v < k + 1) × FirstOf v (at seen v)) ⊎ ((maxPoints ≤ at seen v) × Unseen v (k + 1))
-        other v x (inl f) = inl (omega (arith, f .0), f .1)
+        other : (v : ℕ) → (v ≡ part k → ⊥) → ((entryIn seen v < k) × (part (entryIn seen v) ≡ v) × Unseen v (entryIn seen v)) ⊎ ((maxPoints ≤ entryIn seen v) × Unseen v k)
+            → ((entryIn seen v < k + 1) × (part (entryIn seen v) ≡ v) × Unseen v (entryIn seen v)) ⊎ ((maxPoints ≤ entryIn seen v) × Unseen v (k + 1))
+        other v x (inl f) = inl (omega (arith, f .0), f .1, f .2)
         other v x (inr f) = inr (f .0, λ j l q. past j (eq-or-lt-of-le (omega arith)) q)
           where
-            past : (j : ℕ) → (j ≡ k) ⊎ (j < k) → key j % 16384 ≡ v → ⊥
-            past j (inl d) q = x (sym q ∙ ap (λ (i : ℕ). key i % 16384) d)
+            past : (j : ℕ) → (j ≡ k) ⊎ (j < k) → part j ≡ v → ⊥
+            past j (inl d) q = x (sym q ∙ ap part d)
             past j (inr l) q = f .1 j l q
 
-        go : (v : ℕ) → v < 16384 → Dec (v ≡ key k % 16384) → ((at (set seen (key k % 16384) r) v < k + 1) × FirstOf v (at (set seen (key k % 16384) r) v)) ⊎ ((maxPoints ≤ at (set seen (key k % 16384) r) v) × Unseen v (k + 1))
-        go v l (yes q) = rw (q, getD-set-same seen (key k % 16384) r 0 (omega (arith, s .size))) (inl (omega (arith, entry .0), entry .1))
-        go v l (no x) = rw (getD-set-other seen (key k % 16384) v r 0 x) (other v x (s .each v l))
+        go : (v : ℕ) → v < stride → Dec (v ≡ part k)
+            → ((entryIn (set seen (part k) r) v < k + 1) × (part (entryIn (set seen (part k) r) v) ≡ v) × Unseen v (entryIn (set seen (part k) r) v)) ⊎ ((maxPoints ≤ entryIn (set seen (part k) r) v) × Unseen v (k + 1))
+        go v l (yes q) = rw (q, getD-set-same seen (part k) r 0 (omega (arith, s .size))) (inl (omega (arith, tabled-first .low), tabled-first .has, tabled-first .none))
+        go v l (no x) = rw (getD-set-other seen (part k) v r 0 x) (other v x (s .each v l))
 
-  -- ---- columns
+  -- ---- where the parts rise
 
-  -- `start` is the first of the column that rank k - 1 is in
+  -- `start` is the first rank with the part of rank k - 1
   pub record Started (start k : ℕ) : Type 0 where
     pub low : start ≤ k
-    pub before : (j : ℕ) → j < start → key j / 16384 < key start / 16384
-    pub since : (j : ℕ) → start ≤ j → j < k → key j / 16384 ≡ key start / 16384
+    pub before : (j : ℕ) → j < start → part j < part start
+    pub since : (j : ℕ) → start ≤ j → j < k → part j ≡ part start
 
   pub start-none : Started 0 0
   start-none = record { low = omega arith; before = λ j l. absurd (omega arith); since = λ j l h. absurd (omega arith) }
 
-  module _ (n start k r : ℕ) (rising : Rising n key) (h : k < n) (s : Started start k) (e : r ≡ cond (eqb (key start / 16384) (key k / 16384)) start k) where
-    -- another column starts at k
-    new-column : (key start / 16384 ≡ key k / 16384 → ⊥) → (j : ℕ) → j < k → key j / 16384 < key k / 16384
-    new-column x j l = go (decLt j start)
+  module _ (start k r : ℕ) (rises : (j : ℕ) → j < k → part j ≤ part k) (s : Started start k) (e : r ≡ cond (eqb (part start) (part k)) start k) where
+    pub started : (part r ≡ part k) × Started r (k + 1)
+    started = go (ℕ-discrete (part start) (part k))
       where
-        up : start < k → key start / 16384 < key k / 16384
-        up m = omega (arith, x, rising start k m h)
-
-        go : Dec (j < start) → key j / 16384 < key k / 16384
-        go (yes m) = omega (arith, s .before j m, rising j k l h, up (differs (eq-or-lt-of-le (s .low))))
-          where
-            differs : (start ≡ k) ⊎ (start < k) → start < k
-            differs (inl q) = absurd (x (ap (λ (i : ℕ). key i / 16384) q))
-            differs (inr m) = m
-        go (no y) = omega (arith, s .since j (omega arith) l, up (omega arith))
-
-    pub started : (r ≤ k) × (key r / 16384 ≡ key k / 16384) × Started r (k + 1)
-    started = go (ℕ-discrete (key start / 16384) (key k / 16384))
-      where
-        go : Dec (key start / 16384 ≡ key k / 16384) → (r ≤ k) × (key r / 16384 ≡ key k / 16384) × Started r (k + 1)
+        go : Dec (part start ≡ part k) → (part r ≡ part k) × Started r (k + 1)
         go (yes q) =
-            let d : r ≡ start = rw (eq-eqb (key start / 16384) (key k / 16384) q) at e in
-            rw d (s .low, q, record { low = omega (arith, s .low); before = s .before; since = λ j l m. last j l (eq-or-lt-of-le (omega arith)) })
+            let d : r ≡ start = rw (eq-eqb (part start) (part k) q) at e in
+            rw d (q, record { low = omega (arith, s .low); before = s .before; since = λ j l m. last j l (eq-or-lt-of-le (omega arith)) })
           where
-            last : (j : ℕ) → start ≤ j → (j ≡ k) ⊎ (j < k) → key j / 16384 ≡ key start / 16384
+            last : (j : ℕ) → start ≤ j → (j ≡ k) ⊎ (j < k) → part j ≡ part start
             last j l (inl d) = rw d (sym q)
             last j l (inr m) = s .since j l m
         go (no x) =
-            let d : r ≡ k = rw (ne-eqb (key start / 16384) (key k / 16384) x) at e in
-            rw d (omega arith, refl, record { low = omega arith; before = new-column x; since = λ j l m. let q : j ≡ k = omega arith in rw q refl })
+            let d : r ≡ k = rw (ne-eqb (part start) (part k) x) at e in
+            rw d (refl, record { low = omega arith; before = λ j l. before j l (decLt j start); since = λ j l m. let q : j ≡ k = omega arith in rw q refl })
+          where
+            up : start < k → part start < part k
+            up m = omega (arith, x, rises start m)
 
-    pub column-is : r ≡ columnAt n key k
-    unfolding columnAt
-    column-is =
-        sym (first-hit (λ (j : ℕ). eqb (key j / 16384) (key k / 16384)) n r (omega (arith, started .0)) (eq-eqb (key r / 16384) (key k / 16384) (started .1))
-        (λ j l. ne-eqb (key j / 16384) (key k / 16384) (λ q. omega (arith, q, started .1, started .2 .before j l))))
+            differs : (start ≡ k) ⊎ (start < k) → start < k
+            differs (inl q) = absurd (x (ap part q))
+            differs (inr m) = m
+
+            before : (j : ℕ) → j < k → Dec (j < start) → part j < part k
+            before j l (yes m) = omega (arith, s .before j m, up (differs (eq-or-lt-of-le (s .low))))
+            before j l (no y) = omega (arith, s .since j (omega arith) l, up (omega arith))
+
+    pub started-first : FirstFor k r
+    started-first = record { low = omega (arith, low-is); has = started .0; none = λ j l q. omega (arith, q, started .0, started .1 .before j l) }
+      where
+        low-is : r ≤ k
+        low-is = go (ℕ-discrete (part start) (part k))
+          where
+            go : Dec (part start ≡ part k) → r ≤ k
+            go (yes q) = let d : r ≡ start = rw (eq-eqb (part start) (part k) q) at e in omega (arith, d, s .low)
+            go (no x) = let d : r ≡ k = rw (ne-eqb (part start) (part k) x) at e in omega (arith, d)
+
+-- ---- by cells
+
+pub row-is : (keys : List ℕ) (n k r : ℕ) → k < n → FirstFor (vParts keys) k r → r ≡ firstInRow n (cellsAt keys) k
+unfolding firstInRow
+row-is keys n k r h f =
+    first-for (vParts keys) n h f
+    ∙ first-ext (λ (j : ℕ). eqb (vParts keys j) (vParts keys k)) (λ (j : ℕ). agree (cellsAt keys j .v) (cellsAt keys k .v)) n (λ j l. sym (same-v (entryIn keys j) (entryIn keys k)))
+
+pub column-is : (keys : List ℕ) (n k r : ℕ) → k < n → FirstFor (uParts keys) k r → r ≡ firstInColumn n (cellsAt keys) k
+unfolding firstInColumn
+column-is keys n k r h f =
+    first-for (uParts keys) n h f
+    ∙ first-ext (λ (j : ℕ). eqb (uParts keys j) (uParts keys k)) (λ (j : ℕ). agree (cellsAt keys j .u) (cellsAt keys k .u)) n (λ j l. sym (same-u (entryIn keys j) (entryIn keys k)))

@@ -1,65 +1,72 @@
--- The tables of a sheet, each an entry for each rank: the ranks near it, the first rank of its row and of its column, and the last rank with
--- its index. `key` and `index` give each rank's; a point's rank is its place in cell order. Assumes nothing.
+-- The table of ranks of a sheet, by the cells and the indices of its points; a point's rank is its place in cell order. Assumes nothing.
 use mathlib.Core.Path.{_≡_}
+use mathlib.Core.Bool.{cond, _&&_}
 use mathlib.Core.List.{List}
-use Prim.Native.Nat.{ℕ, _+_, _*_, _/_, _%_, _≤_, _<_, _^_}
-use lib.Dec.{eqb}
+use Prim.Native.Nat.{ℕ, _+_, _-_, _*_, _/_, _%_, _≤_, _<_}
+use lib.Dec.{eqb, leb, ltb}
 use lib.ListN.{length, getD}
 use Rattle.folds.specs.Below.{first, last}
-use Rattle.folds.specs.Column.{column}
-use Rattle.view.specs.View.{maxPoints, nearSize}
-use Rattle.cells.specs.Points.{stepOf, centreStep}
+use Rattle.folds.specs.Lists.{listOf}
+use Rattle.view.specs.View.{maxPoints, ranksSize, rowsAt, columnsAt, indicesAt}
+use Rattle.cells.specs.Cell.{Cell, CellInRange, agree, coincide, offsetBy, cellsAt}
 
--- the first rank whose key, plus centreStep, is t; n where there is none
-unfoldable pub standing : ℕ → (ℕ → ℕ) → ℕ → ℕ
+-- ---- what it holds of rank k of n
+
+-- the rank at offset d: the first whose cell is k's moved by (du, dv); n where there is none
+unfoldable pub neighbourOf : ℕ → (ℕ → Cell) → ℕ → ℕ → ℕ
 unfolding first
-standing n key t = first (λ (j : ℕ). eqb (key j + centreStep) t) 0 n
+neighbourOf n cell k d = first (λ (j : ℕ). coincide (cell j) (offsetBy d (cell k))) 0 n
 
--- the rank at offset d from rank k; n where there is none
-abbrev pub nearAt : ℕ → (ℕ → ℕ) → ℕ → ℕ → ℕ
-nearAt n key k d = standing n key (key k + stepOf d)
-
--- the entries of all ranks, 25 for each
-abbrev pub nearEntry : ℕ → (ℕ → ℕ) → ℕ → ℕ
-nearEntry n key i = nearAt n key (i / 25) (i % 25)
-
--- "Rows and columns": a row has one v, a column one u. The first rank of rank k's row:
-unfoldable pub rowAt : ℕ → (ℕ → ℕ) → ℕ → ℕ
+-- "Rows and columns": a row has one v, a column one u. The first rank of k's row:
+unfoldable pub firstInRow : ℕ → (ℕ → Cell) → ℕ → ℕ
 unfolding first
-rowAt n key k = first (λ (j : ℕ). eqb (key j % 16384) (key k % 16384)) 0 n
+firstInRow n cell k = first (λ (j : ℕ). agree (cell j .v) (cell k .v)) 0 n
 
--- the first rank of rank k's column
-unfoldable pub columnAt : ℕ → (ℕ → ℕ) → ℕ → ℕ
+-- the first rank of k's column
+unfoldable pub firstInColumn : ℕ → (ℕ → Cell) → ℕ → ℕ
 unfolding first
-columnAt n key k = first (λ (j : ℕ). eqb (key j / 16384) (key k / 16384)) 0 n
+firstInColumn n cell k = first (λ (j : ℕ). agree (cell j .u) (cell k .u)) 0 n
 
--- "For a repeated index the larger cell's entry wins": the last rank with rank k's index
-unfoldable pub byIdxAt : ℕ → (ℕ → ℕ) → ℕ → ℕ
+-- "For a repeated index the larger cell's entry wins": the last rank with k's index
+unfoldable pub lastWithIndex : ℕ → (ℕ → ℕ) → ℕ → ℕ
 unfolding last
-byIdxAt n index k = last (λ (j : ℕ). eqb (index j) (index k)) 0 n
+lastWithIndex n index k = last (λ (j : ℕ). eqb (index j) (index k)) 0 n
 
--- ---- as arrays, from arrays of keys and indices
+-- ---- where it holds that
 
-abbrev pub at : List ℕ → ℕ → ℕ
-at l k = getD l k 0
+-- the neighbours of all ranks, 25 for each
+abbrev pub neighbourEntry : ℕ → (ℕ → Cell) → ℕ → ℕ
+neighbourEntry n cell i = neighbourOf n cell (i / 25) (i % 25)
 
-unfoldable pub nearOf : ℕ → List ℕ → List ℕ
-nearOf n keys = column nearSize 0 (25 * n) (nearEntry n (at keys))
+-- from place `from` on the n entries f 0, f 1, ..; elsewhere what `rest` has
+abbrev pub splice : ℕ → ℕ → (ℕ → ℕ) → (ℕ → ℕ) → ℕ → ℕ
+splice from n f rest i = cond (leb from i && ltb i (from + n)) (f (i - from)) (rest i)
 
-unfoldable pub rowsOf : ℕ → List ℕ → List ℕ
-rowsOf n keys = column maxPoints 0 n (rowAt n (at keys))
+-- the four blocks of the table, by place
+abbrev pub blocks : ℕ → (ℕ → ℕ) → (ℕ → ℕ) → (ℕ → ℕ) → (ℕ → ℕ) → ℕ → ℕ
+blocks n near row column index =
+    splice indicesAt n index (splice columnsAt n column (splice rowsAt n row (splice 0 (25 * n) near (λ (i : ℕ). 0))))
 
-unfoldable pub columnsOf : ℕ → List ℕ → List ℕ
-columnsOf n keys = column maxPoints 0 n (columnAt n (at keys))
+-- ---- as arrays
 
-unfoldable pub byIdxOf : ℕ → List ℕ → List ℕ
-byIdxOf n indices = column maxPoints 0 n (byIdxAt n (at indices))
+abbrev pub entryIn : List ℕ → ℕ → ℕ
+entryIn l k = getD l k 0
 
--- ---- what the code asks of its arrays
+-- an array l with n entries put in
+unfoldable pub spliced : ℕ → ℕ → (ℕ → ℕ) → List ℕ → List ℕ
+unfolding listOf
+spliced from n f l = listOf (length l) (splice from n f (entryIn l))
 
--- the first n keys rise, and leave room for two cells each way
+-- the table of ranks, from the arrays of n keys and indices
+unfoldable pub ranksOf : ℕ → List ℕ → List ℕ → List ℕ
+unfolding listOf
+ranksOf n keys indices =
+    let cell = cellsAt keys in
+    listOf ranksSize (blocks n (neighbourEntry n cell) (firstInRow n cell) (firstInColumn n cell) (lastWithIndex n (entryIn indices)))
+
+-- what the code asks of its keys: the first n rise, and are those of cells in range
 pub record Keys (keys : List ℕ) (n : ℕ) : Type 0 where
   pub size : length keys ≡ maxPoints
   pub few : n ≤ maxPoints
-  pub rising : (i j : ℕ) → i < j → j < n → at keys i < at keys j
-  pub small : (k : ℕ) → k < n → at keys k < 2 ^ 28
+  pub rising : (i j : ℕ) → i < j → j < n → entryIn keys i < entryIn keys j
+  pub in-range : (k : ℕ) → k < n → CellInRange (cellsAt keys k)

@@ -1,25 +1,37 @@
-// The tables of a sheet, from the keys and indices of its points in cell order: the ranks near each rank, the first rank of its row and of
-// its column, and the last rank with its index.
+// The table of ranks of a sheet (see the crate `view`), from the keys and indices of its points in cell order.
 ghost use mathlib.Core.Path.{_≡_};
 ghost use mathlib.Core.Bool.{cond, _&&_};
 ghost use Prim.Native.Nat.{_+_, _*_, _/_, _%_, _≤_, _<_};
 ghost use lib.Dec.{eqb, ltb};
-ghost use lib.ListN.{replicate};
+ghost use lib.ListN.{length, replicate};
 ghost use Rattle.folds.specs.Column.{column};
-ghost use Rattle.view.specs.View.{maxPoints, nearSize};
-ghost use Rattle.cells.specs.Points.{centreStep};
+ghost use Rattle.view.specs.View.{maxPoints, ranksSize, rowsAt, columnsAt, indicesAt};
+ghost use Rattle.cells.specs.Points.{stride};
+ghost use Rattle.cells.specs.Cell.{cellsAt};
 ghost use Rattle.sort.specs.Packed.{packed};
-ghost use Rattle.grid.specs.Tables.{Keys, at, nearOf, rowsOf, columnsOf, byIdxOf};
-ghost use Rattle.grid.specs.Sweep.{Behind, Reached, Room, Five};
+ghost use Rattle.grid.specs.Tables.{entryIn, neighbourEntry, firstInRow, firstInColumn, lastWithIndex, spliced, ranksOf, Keys};
+ghost use Rattle.grid.specs.Sweep.{keyCentre, rankRoom, Behind, Reached, FiveFit, standingFrom};
+
+// A rank stands at a target if its key plus this is the target, so that the targets of two cells down are no negative numbers.
+const CENTRE: u32 = 2 * cells::STRIDE + 2;
+
+// How many values the v part of a key has.
+const V_PARTS: usize = cells::STRIDE as usize;
+
+// In the table over all v: no rank yet.
+const NO_RANK: u16 = 65535;
+
+// An index and a rank in one number: the index times this, plus the rank.
+const RANK_ROOM: u64 = 4096;
 
 // The first rank from `from` on that does not stand before the target.
 fn advance(keys: &[u32; view::MAX_POINTS], n: usize, from: usize, target: u32) -> usize
-    requires { ⌜ Keys (now keys) n × Behind n (at (now keys)) from target ⌝ }
-    ensures { λ r. ⌜ Reached n (at (now (keys .entry))) r target ⌝ }
+    requires { ⌜ Keys (now keys) n × Behind n (entryIn (now keys)) from target ⌝ }
+    ensures { λ r. ⌜ Reached n (entryIn (now (keys .entry))) r target ⌝ }
 {
     let mut p = from;
     while p < n {
-        if target <= keys[p] + 32770 {
+        if target <= keys[p] + CENTRE {
             return p;
         }
         p += 1;
@@ -30,25 +42,26 @@ fn advance(keys: &[u32; view::MAX_POINTS], n: usize, from: usize, target: u32) -
 // Whether rank p stands at the target.
 fn stands(keys: &[u32; view::MAX_POINTS], n: usize, p: usize, target: u32) -> bool
     requires { ⌜ Keys (now keys) n ⌝ }
-    ensures { λ r. ⌜ r ≡ ltb p n && eqb (at (now (keys .entry)) p + centreStep) target ⌝ }
+    ensures { λ r. ⌜ r ≡ ltb p n && eqb (entryIn (now (keys .entry)) p + keyCentre) target ⌝ }
 {
     if p < n {
-        return keys[p] + 32770 == target;
+        return keys[p] + CENTRE == target;
     }
     false
 }
 
-// Writes the ranks that stand at five targets, from `target` on, into near from `to` on; `from` is the first that does not stand before them.
+// Writes the ranks that stand at five targets, from `target` on, into the table from `to` on, n where none stands; `from` is the first
+// rank that does not stand before them.
 fn five(
     keys: &[u32; view::MAX_POINTS],
     n: usize,
     from: usize,
     target: u32,
-    near: &mut [u16; view::NEAR_SIZE],
+    ranks: &mut [u16; view::RANKS_SIZE],
     to: usize,
 )
-    requires { ⌜ Keys (now keys) n × Reached n (at (now keys)) from target × Room (now near) target to ⌝ }
-    ensures { λ r. ⌜ Five n (at (now (keys .entry))) target to 5 (now (near .entry)) (now (near .exit)) ⌝ }
+    requires { ⌜ Keys (now keys) n × Reached n (entryIn (now keys)) from target × FiveFit (now ranks) target to ⌝ }
+    ensures { λ r. ⌜ now (ranks .exit) ≡ spliced to 5 (standingFrom n (entryIn (now (keys .entry))) target) (now (ranks .entry)) ⌝ }
 {
     let mut p = from;
     let mut goal = target;
@@ -56,31 +69,31 @@ fn five(
     while e < 5 {
         let next = e + 1;
         if stands(keys, n, p, goal) {
-            near[to + e] = p as u16;
+            ranks[to + e] = p as u16;
             p += 1;
             goal += 1;
             e = next;
         } else {
-            near[to + e] = n as u16;
+            ranks[to + e] = n as u16;
             goal += 1;
             e = next;
         }
     }
 }
 
-// 16,384 for each step in u.
+// What e steps in u add to a key.
 fn steps(e: usize) -> u32
     requires { ⌜ e < 5 ⌝ }
-    ensures { λ r. ⌜ r ≡ 16384 * e ⌝ }
+    ensures { λ r. ⌜ r ≡ stride * e ⌝ }
 {
-    16384 * (e as u32)
+    cells::STRIDE * (e as u32)
 }
 
-// Fills the table of neighbours, which is all zeros: 25 entries for each rank, n where no point stands. The ranks that stand two cells to one
-// side and two to the other follow each other, so that one reached rank for each difference of u will do.
-pub fn fill_near(keys: &[u32; view::MAX_POINTS], n: usize, near: &mut [u16; view::NEAR_SIZE])
-    requires { ⌜ Keys (now keys) n × (now near ≡ replicate nearSize 0) ⌝ }
-    ensures { λ r. ⌜ now (near .exit) ≡ nearOf n (now (keys .entry)) ⌝ }
+// Fills the block of neighbours: 25 entries for each rank, n where no point stands. The ranks that stand two cells to one side and two to
+// the other follow each other, so that one reached rank for each difference of u will do.
+fn fill_near(keys: &[u32; view::MAX_POINTS], n: usize, ranks: &mut [u16; view::RANKS_SIZE])
+    requires { ⌜ Keys (now keys) n × (length (now ranks) ≡ ranksSize) ⌝ }
+    ensures { λ r. ⌜ now (ranks .exit) ≡ spliced 0 (25 * n) (neighbourEntry n (cellsAt (now (keys .entry)))) (now (ranks .entry)) ⌝ }
 {
     let mut reached = [0usize; 5];
     let mut i: usize = 0;
@@ -89,7 +102,7 @@ pub fn fill_near(keys: &[u32; view::MAX_POINTS], n: usize, near: &mut [u16; view
         let target = keys[i / 5] + steps(e);
         let p = advance(keys, n, reached[e], target);
         reached[e] = p;
-        five(keys, n, p, target, near, 5 * i);
+        five(keys, n, p, target, ranks, 5 * i);
         i += 1;
     }
 }
@@ -105,62 +118,58 @@ fn earlier(r: u16, k: usize) -> u16
     k as u16
 }
 
-// The first rank of each rank's row, by a table over all v.
-pub fn rows(keys: &[u32; view::MAX_POINTS], n: usize) -> [u16; view::MAX_POINTS]
-    requires { ⌜ n ≤ maxPoints ⌝ }
-    ensures { λ r. ⌜ r ≡ rowsOf n (now (keys .entry)) ⌝ }
+// Fills the block of rows: the first rank of each rank's row, by a table over all v.
+fn fill_rows(keys: &[u32; view::MAX_POINTS], n: usize, ranks: &mut [u16; view::RANKS_SIZE])
+    requires { ⌜ (n ≤ maxPoints) × (length (now ranks) ≡ ranksSize) ⌝ }
+    ensures { λ r. ⌜ now (ranks .exit) ≡ spliced rowsAt n (firstInRow n (cellsAt (now (keys .entry)))) (now (ranks .entry)) ⌝ }
 {
-    let mut seen = [65535u16; 16384];
-    let mut out = [0u16; view::MAX_POINTS];
+    let mut seen = [NO_RANK; V_PARTS];
     let mut k: usize = 0;
     while k < n {
-        let v = (keys[k] % 16384) as usize;
+        let v = cells::v_part(keys[k]) as usize;
         let r = earlier(seen[v], k);
         seen[v] = r;
-        out[k] = r;
+        ranks[view::ROWS_AT + k] = r;
         k += 1;
     }
-    out
 }
 
 // The rank `start` if it has rank k's u, else k.
 fn start_of(keys: &[u32; view::MAX_POINTS], start: usize, k: usize) -> usize
     requires { ⌜ (start < maxPoints) × (k < maxPoints) ⌝ }
-    ensures { λ r. ⌜ r ≡ cond (eqb (at (now (keys .entry)) start / 16384) (at (now (keys .entry)) k / 16384)) start k ⌝ }
+    ensures { λ r. ⌜ r ≡ cond (eqb (entryIn (now (keys .entry)) start / stride) (entryIn (now (keys .entry)) k / stride)) start k ⌝ }
 {
-    if keys[start] / 16384 == keys[k] / 16384 {
+    if cells::u_part(keys[start]) == cells::u_part(keys[k]) {
         return start;
     }
     k
 }
 
-// The first rank of each rank's column: the ranks of a column follow each other.
-pub fn columns(keys: &[u32; view::MAX_POINTS], n: usize) -> [u16; view::MAX_POINTS]
-    requires { ⌜ Keys (now keys) n ⌝ }
-    ensures { λ r. ⌜ r ≡ columnsOf n (now (keys .entry)) ⌝ }
+// Fills the block of columns: the first rank of each rank's column. The ranks of a column follow each other.
+fn fill_columns(keys: &[u32; view::MAX_POINTS], n: usize, ranks: &mut [u16; view::RANKS_SIZE])
+    requires { ⌜ Keys (now keys) n × (length (now ranks) ≡ ranksSize) ⌝ }
+    ensures { λ r. ⌜ now (ranks .exit) ≡ spliced columnsAt n (firstInColumn n (cellsAt (now (keys .entry)))) (now (ranks .entry)) ⌝ }
 {
-    let mut out = [0u16; view::MAX_POINTS];
     let mut start: usize = 0;
     let mut k: usize = 0;
     while k < n {
         start = start_of(keys, start, k);
-        out[k] = start as u16;
+        ranks[view::COLUMNS_AT + k] = start as u16;
         k += 1;
     }
-    out
 }
 
 // An index and a rank in one number.
 fn pack(index: u32, rank: usize) -> u64
-    requires { ⌜ rank < 4096 ⌝ }
-    ensures { λ r. ⌜ r ≡ index * 4096 + rank ⌝ }
+    requires { ⌜ rank < maxPoints ⌝ }
+    ensures { λ r. ⌜ r ≡ index * rankRoom + rank ⌝ }
 {
-    (index as u64) * 4096 + (rank as u64)
+    (index as u64) * RANK_ROOM + (rank as u64)
 }
 
 fn packed_ranks(idx: &[u32; view::MAX_POINTS], n: usize) -> [u64; view::MAX_POINTS]
     requires { ⌜ n ≤ maxPoints ⌝ }
-    ensures { λ r. ⌜ r ≡ column maxPoints 0 n (packed (at (now (idx .entry)))) ⌝ }
+    ensures { λ r. ⌜ r ≡ column maxPoints 0 n (packed (entryIn (now (idx .entry)))) ⌝ }
 {
     let mut out = [0u64; view::MAX_POINTS];
     let mut k: usize = 0;
@@ -174,33 +183,47 @@ fn packed_ranks(idx: &[u32; view::MAX_POINTS], n: usize) -> [u64; view::MAX_POIN
 // The last rank with the index at place i of the order by index and rank; `after` is that of the next place.
 fn last_rank(order: &[u64; view::MAX_POINTS], n: usize, i: usize, after: u16) -> u16
     requires { ⌜ (i < n) × (n ≤ maxPoints) ⌝ }
-    ensures { λ r. ⌜ r ≡ cond (ltb (i + 1) n && eqb (at (now (order .entry)) i / 4096) (at (now (order .entry)) (i + 1) / 4096)) after (at (now (order .entry)) i % 4096) ⌝ }
+    ensures { λ r. ⌜ r ≡ cond (ltb (i + 1) n && eqb (entryIn (now (order .entry)) i / rankRoom) (entryIn (now (order .entry)) (i + 1) / rankRoom)) after (entryIn (now (order .entry)) i % rankRoom) ⌝ }
 {
-    let rank = (order[i] % 4096) as u16;
+    let rank = (order[i] % RANK_ROOM) as u16;
     if n <= i + 1 {
         return rank;
     }
-    if order[i] / 4096 == order[i + 1] / 4096 {
+    if order[i] / RANK_ROOM == order[i + 1] / RANK_ROOM {
         return after;
     }
     rank
 }
 
-// The last rank with each rank's index, which stands for the index.
-pub fn by_idx(idx: &[u32; view::MAX_POINTS], n: usize) -> [u16; view::MAX_POINTS]
-    requires { ⌜ n ≤ maxPoints ⌝ }
-    ensures { λ r. ⌜ r ≡ byIdxOf n (now (idx .entry)) ⌝ }
+// Fills the block of indices: the last rank with each rank's index, which stands for the index.
+fn fill_indices(idx: &[u32; view::MAX_POINTS], n: usize, ranks: &mut [u16; view::RANKS_SIZE])
+    requires { ⌜ (n ≤ maxPoints) × (length (now ranks) ≡ ranksSize) ⌝ }
+    ensures { λ r. ⌜ now (ranks .exit) ≡ spliced indicesAt n (lastWithIndex n (entryIn (now (idx .entry)))) (now (ranks .entry)) ⌝ }
 {
     let mut order = packed_ranks(idx, n);
     sort::sort(&mut order, n);
-    let mut out = [0u16; view::MAX_POINTS];
     let mut last: u16 = 0;
     let mut i = n;
     while 0 < i {
         i -= 1;
         last = last_rank(&order, n, i, last);
-        let k = (order[i] % 4096) as usize;
-        out[k] = last;
+        let k = (order[i] % RANK_ROOM) as usize;
+        ranks[view::INDICES_AT + k] = last;
     }
-    out
+}
+
+// Fills the table of ranks, which is all zeros.
+pub fn fill(
+    keys: &[u32; view::MAX_POINTS],
+    idx: &[u32; view::MAX_POINTS],
+    n: usize,
+    ranks: &mut [u16; view::RANKS_SIZE],
+)
+    requires { ⌜ Keys (now keys) n × (now ranks ≡ replicate ranksSize 0) ⌝ }
+    ensures { λ r. ⌜ now (ranks .exit) ≡ ranksOf n (now (keys .entry)) (now (idx .entry)) ⌝ }
+{
+    fill_near(keys, n, ranks);
+    fill_rows(keys, n, ranks);
+    fill_columns(keys, n, ranks);
+    fill_indices(idx, n, ranks);
 }

@@ -13,11 +13,11 @@ pub const MAX_POINTS: usize = 2048;
 // The table of ranks: 25 neighbours for each point, then its row, its column and the place of its index, each in a block of its own.
 pub const RANKS_SIZE: usize = 28 * MAX_POINTS;
 
-const ROWS_AT: usize = 25 * MAX_POINTS;
+pub const ROWS_AT: usize = 25 * MAX_POINTS;
 
-const COLUMNS_AT: usize = 26 * MAX_POINTS;
+pub const COLUMNS_AT: usize = 26 * MAX_POINTS;
 
-const INDICES_AT: usize = 27 * MAX_POINTS;
+pub const INDICES_AT: usize = 27 * MAX_POINTS;
 
 // Offset (du, dv), each from -2 to 2, has the number 5 * (du + 2) + (dv + 2).
 pub const OWN: usize = 12;

@@ -2,14 +2,15 @@
 use borrow.Author.Needs.{needs}
 use Prim.Native.Nat.{_-_}
 use native.Mathlib.Omega.{arith}
-use Rattle.grid.specs.Tables.{at}
+use Rattle.grid.specs.Tables.{entryIn}
 use Rattle.grid.specs.Sweep.{Behind}
+use Rattle.grid.proofs.Standing.{keys-small}
 use Rattle.grid.proofs.Passing.{behind-more}
 use Rattle.grid.proofs.advance.Statement.{statement}
 use Rattle.grid.proofs.advance.Tie as tie
 
 abbrev Inv-loop : tie.InvT-loop
-Inv-loop keys n from target p₀ p = Behind n (at keys) p target
+Inv-loop keys n from target p₀ p = Behind n (entryIn keys) p target
 
 abbrev μ-loop : tie.MeasureT-loop
 μ-loop keys n from target p₀ p = n - p
@@ -18,7 +19,7 @@ loop-holds : tie.Need-loop-holds Inv-loop μ-loop
 loop-holds c = c .pre .1
 
 add-if1 : tie.Need-add-if1 Inv-loop μ-loop
-add-if1 c = omega (arith, c .before .before .before .pre .0 .small (c .before .before .loop .p) (omega arith))
+add-if1 c = omega (arith, keys-small _ _ (c .before .before .before .pre .0) (c .before .before .loop .p) (omega arith))
 
 returns : tie.Need-returns Inv-loop μ-loop
 returns c = record { behind = c .before .before .before .loop .inv; stop = λ h. c .if1 .taken }

@@ -6,34 +6,35 @@ use Prim.Native.Nat.{ℕ, _+_, _-_, _≤_}
 use native.Mathlib.Omega.{arith}
 use lib.ListN.{length, length-set}
 use mathlib.Core.List.{List}
-use Rattle.view.specs.View.{nearSize}
-use Rattle.grid.specs.Tables.{at, standing}
-use Rattle.grid.specs.Sweep.{Reached, Five}
-use Rattle.grid.proofs.Passing.{reached-hit, reached-miss, five-start, five-more, stands-there, stands-not}
+use Rattle.view.specs.View.{ranksSize}
+use Rattle.grid.specs.Tables.{entryIn, spliced}
+use Rattle.grid.specs.Sweep.{standing, standingFrom, Reached}
+use Rattle.grid.proofs.Splicing.{spliced-none, spliced-more}
+use Rattle.grid.proofs.Passing.{reached-hit, reached-miss, stands-there, stands-not}
 use Rattle.grid.proofs.five.Statement.{statement}
 use Rattle.grid.proofs.five.Tie as tie
 
-record Written (key : ℕ → ℕ) (n target to : ℕ) (near₀ near : List ℕ) (p goal e : ℕ) : Type 0 where
+record Written (key : ℕ → ℕ) (n target to : ℕ) (ranks₀ ranks : List ℕ) (p goal e : ℕ) : Type 0 where
   pub most : e ≤ 5
   pub next : goal ≡ target + e
-  pub size : length near ≡ nearSize
+  pub size : length ranks ≡ ranksSize
   pub reached : Reached n key p goal
-  pub five : Five n key target to e near₀ near
+  pub five : ranks ≡ spliced to e (standingFrom n key target) ranks₀
 
 abbrev Inv-loop : tie.InvT-loop
-Inv-loop keys n from target near₀ to p₀ goal₀ e₀ near p goal e = Written (at keys) n target to near₀ near p goal e
+Inv-loop keys n from target ranks₀ to p₀ goal₀ e₀ ranks p goal e = Written (entryIn keys) n target to ranks₀ ranks p goal e
 
 abbrev μ-loop : tie.MeasureT-loop
-μ-loop keys n from target near₀ to p₀ goal₀ e₀ near p goal e = 5 - e
+μ-loop keys n from target ranks₀ to p₀ goal₀ e₀ ranks p goal e = 5 - e
 
 loop-holds : tie.Need-loop-holds Inv-loop μ-loop
-loop-holds c = record { most = omega arith; next = omega arith; size = c .pre .2 .size; reached = c .pre .1; five = five-start _ _ _ _ _ }
+loop-holds c = record { most = omega arith; next = omega arith; size = c .pre .2 .size; reached = c .pre .1; five = spliced-none _ _ _ }
 
 stands-requires : tie.Need-stands-requires Inv-loop μ-loop
 stands-requires c κs = c .before .before .pre .0
 
-cast-near : tie.Need-cast-near Inv-loop μ-loop
-cast-near c = omega (arith, c .before .before .before .loop .inv .reached .behind .within, c .before .before .before .before .pre .0 .few)
+cast-ranks : tie.Need-cast-ranks Inv-loop μ-loop
+cast-ranks c = omega (arith, c .before .before .before .loop .inv .reached .behind .within, c .before .before .before .before .pre .0 .few)
 
 add-p : tie.Need-add-p Inv-loop μ-loop
 add-p c = omega (arith, c .before .before .before .loop .inv .reached .behind .within, c .before .before .before .before .pre .0 .few)
@@ -48,9 +49,9 @@ loop-again c =
     record {
       most = omega arith;
       next = omega (arith, l .inv .next);
-      size = length-set (l .near) _ _ ∙ l .inv .size;
+      size = length-set (l .ranks) _ _ ∙ l .inv .size;
       reached = r .1;
-      five = five-more (a .n) _ (a .target) (a .to) (l .e) (l .p) (sym (r .0) ∙ ap (standing (a .n) (at (a .keys .now))) (l .inv .next)) (l .inv .five);
+      five = spliced-more (a .to) (l .e) (standingFrom (a .n) (entryIn (a .keys .now)) (a .target)) (l .p) (a .ranks .now) (omega (arith, pre .2)) (sym (r .0) ∙ ap (standing (a .n) (entryIn (a .keys .now))) (l .inv .next)) (l .inv .five);
     }
 
 loop-again-2 : tie.Need-loop-again-2 Inv-loop μ-loop
@@ -62,9 +63,9 @@ loop-again-2 c =
     record {
       most = omega arith;
       next = omega (arith, l .inv .next);
-      size = length-set (l .near) _ _ ∙ l .inv .size;
+      size = length-set (l .ranks) _ _ ∙ l .inv .size;
       reached = r .1;
-      five = five-more (a .n) _ (a .target) (a .to) (l .e) (a .n) (sym (r .0) ∙ ap (standing (a .n) (at (a .keys .now))) (l .inv .next)) (l .inv .five);
+      five = spliced-more (a .to) (l .e) (standingFrom (a .n) (entryIn (a .keys .now)) (a .target)) (a .n) (a .ranks .now) (omega (arith, pre .2)) (sym (r .0) ∙ ap (standing (a .n) (entryIn (a .keys .now))) (l .inv .next)) (l .inv .five);
     }
 
 returns : tie.Need-returns Inv-loop μ-loop
@@ -73,6 +74,6 @@ returns c = let e : c .before .loop .e ≡ 5 = omega (arith, c .before .loop .in
 pub five-spec : {M : Type 1} → statement M
 five-spec =
     tie.close
-    (tie.spec Inv-loop μ-loop loop-holds (λ c. search needs) stands-requires cast-near (λ c. search needs) (λ c. search needs) (λ c. search needs)
+    (tie.spec Inv-loop μ-loop loop-holds (λ c. search needs) stands-requires cast-ranks (λ c. search needs) (λ c. search needs) (λ c. search needs)
     add-p (λ c. search needs) (λ c. search needs) loop-again (λ c. search needs) (λ c. search needs) (λ c. search needs)
     (λ c. search needs) (λ c. search needs) (λ c. search needs) loop-again-2 returns)

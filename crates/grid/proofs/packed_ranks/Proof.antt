@@ -7,12 +7,12 @@ use lib.ListN.{replicate}
 use Rattle.folds.specs.Column.{Filling, fill-start, fill-more, filled}
 use Rattle.view.specs.View.{maxPoints}
 use Rattle.sort.specs.Packed.{packed}
-use Rattle.grid.specs.Tables.{at}
+use Rattle.grid.specs.Tables.{entryIn}
 use Rattle.grid.proofs.packed_ranks.Statement.{statement}
 use Rattle.grid.proofs.packed_ranks.Tie as tie
 
 abbrev Inv-loop : tie.InvT-loop
-Inv-loop idx n out₀ k₀ out k = (k ≤ n) × Filling (replicate maxPoints 0) 0 (packed (at idx)) k out
+Inv-loop idx n out₀ k₀ out k = (k ≤ n) × Filling (replicate maxPoints 0) 0 (packed (entryIn idx)) k out
 
 abbrev μ-loop : tie.MeasureT-loop
 μ-loop idx n out₀ k₀ out k = n - k

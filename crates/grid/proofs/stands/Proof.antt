@@ -2,11 +2,12 @@
 use borrow.Author.Needs.{needs}
 use borrow.Author.Tests.{lt-ltb, le-ltb}
 use native.Mathlib.Omega.{arith}
+use Rattle.grid.proofs.Standing.{keys-small}
 use Rattle.grid.proofs.stands.Statement.{statement}
 use Rattle.grid.proofs.stands.Tie as tie
 
 add-result : tie.Need-add-result
-add-result c = omega (arith, c .before .before .pre .small (c .before .before .args .p) (omega arith))
+add-result c = omega (arith, keys-small _ _ (c .before .before .pre) (c .before .before .args .p) (omega arith))
 
 returns : tie.Need-returns
 returns c = rw (lt-ltb _ _ (c .before .if1 .taken))
