@@ -12,7 +12,8 @@ use Rattle.folds.specs.Below.{some, some-ext, some-fails, and-left, and-right, 
 use Rattle.view.specs.View.{maxPoints}
 use Rattle.cells.specs.Points.{Point, biased, keyOf}
 use Rattle.cells.specs.Cell.{signed, within, InRange, biased-range}
-use Rattle.sheet_file.specs.Bytes.{Bytes, le32-small}
+use Rattle.sheet_file.specs.Bytes.{Bytes}
+use Rattle.sheet_file.proofs.Words.{le32-small}
 use Rattle.sort.specs.Packed.{placed}
 use Rattle.points.specs.Records.{recordOf, pointsIn}
 use Rattle.points.specs.Refusals.{offRange, sameCell, samePosition, twoPositions, entryOf, together}

@@ -11,7 +11,8 @@ use borrow.Author.Tests.{ltb-true, ltb-false}
 use Rattle.view.specs.View.{maxPoints}
 use Rattle.sheet_file.specs.Bytes.{Bytes}
 use Rattle.sheet_file.specs.Frame.{framingOf, layoutOf}
-use Rattle.sheet_file.specs.Longest.{longest, too-long}
+use Rattle.sheet_file.specs.Grammar.{longest}
+use Rattle.sheet_file.proofs.Longest.{too-long}
 use Rattle.ruling.specs.Ruling.{refused, rulingOf, applies, is-given}
 
 module _ (s : List ℕ) (room : ℕ) where

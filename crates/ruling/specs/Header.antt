@@ -1,8 +1,8 @@
 -- What is read of a file before its points depends on its length and on the bytes before the points alone. Assumes nothing.
 use mathlib.Core.Path.{_≡_, refl, sym, ap, _∙_}
-use mathlib.Core.Bool.{Bool, true, false, cond, _&&_, _||_, false≢true}
+use mathlib.Core.Bool.{Bool, true, false, cond, _&&_, _||_}
 use mathlib.Core.List.{List, [], _∷_}
-use Prim.Native.Nat.{ℕ, _+_, _-_, _≤_, _<_}
+use Prim.Native.Nat.{ℕ, _+_, _≤_, _<_}
 use native.Mathlib.Omega.{arith}
 use lib.Ieee.{Float}
 use lib.ListN.{length, getD}
@@ -10,7 +10,8 @@ use Rattle.folds.specs.Among.{anyIn}
 use Rattle.folds.specs.Below.{and-under}
 use Rattle.sheet_file.specs.Bytes.{le16, le32}
 use Rattle.sheet_file.specs.Limit.{outside}
-use Rattle.sheet_file.specs.Frame.{fieldAt, pointsFrom, gateFrom, framingOf, gateStart, GateAt, gate-there, gate-absent, Fields, full-settings, short-settings, fields-of, points-in}
+use Rattle.sheet_file.specs.Frame.{fieldAt, pointsFrom, gateFrom, framingOf, gateStart}
+use Rattle.sheet_file.proofs.Fields.{GateAt, gate-there, gate-absent, Fields, full-settings, short-settings, fields-of, points-in, before}
 use Rattle.sheet_file.specs.Refusals.{floatAt, defaultsFor, settingsIn, gateIn, edgeShapeOf, settingsOf, badFlag, settingsFloats, gateFloats, badFloat, headerRefusals}
 use Rattle.refusals.specs.First.{ruled}
 use Rattle.points.specs.Records.{pointsIn}
@@ -25,29 +26,7 @@ pub record Headed (s t : List ℕ) (n : ℕ) : Type 0 where
   pub size : length t ≡ length s
   pub head : (k : ℕ) → k < n → getD t k 0 ≡ getD s k 0
 
--- the data of tags 1 and 2 end before the points
-record Before (f : Layout) : Type 0 where
-  short : 10 ≤ f .points
-  long : f .full ≡ true → 27 ≤ f .points
-  gate : f .gated ≡ true → gateStart (f .full) + 17 ≤ f .points
-
 module _ (s t : List ℕ) (f : Layout) where
-  before-gate : (at : ℕ) (full : Bool) → 7 ≤ at → at + 3 ≡ gateStart full → (full ≡ true → 24 ≤ at) → GateAt s f at full → Before f
-  before-gate at full l g h (gate-there u e) =
-      let p = points-in s f (at + 20) full true e in
-      let r : gateStart (f .full) ≡ gateStart full = ap gateStart (p .full-is) in
-      record { short = omega (arith, p .points-at); long = λ b. omega (arith, p .points-at, h (sym (p .full-is) ∙ b)); gate = λ b. omega (arith, r, g, p .points-at) }
-  before-gate at full l g h (gate-absent u e) =
-      let p = points-in s f at full false e in
-      record { short = omega (arith, p .points-at); long = λ b. omega (arith, p .points-at, h (sym (p .full-is) ∙ b)); gate = λ b. absurd (false≢true (sym (p .gated-is) ∙ b)) }
-
-  before : framingOf s ≡ Framed f → Before f
-  before e = go (fields-of s f e)
-    where
-      go : Fields s f → Before f
-      go (full-settings u g) = before-gate 24 true (omega arith) refl (λ b. omega arith) g
-      go (short-settings v u g) = before-gate 7 false (omega arith) refl (λ b. absurd (false≢true b)) g
-
   module _ (framed : framingOf s ≡ Framed f) (h : Headed s t (f .points)) where
     word-same : (at : ℕ) → at + 4 ≤ f .points → le32 t at ≡ le32 s at
     unfolding le32
@@ -63,7 +42,9 @@ module _ (s t : List ℕ) (f : Layout) where
 
     points-same : (at : ℕ) (full gated : Bool) → pointsFrom s at full gated ≡ Framed f → pointsFrom t at full gated ≡ Framed f
     unfolding pointsFrom
-    points-same at full gated e = let p = points-in s f at full gated e in rw (h .size, field-same at 3 (length s - (at + 3)) (omega (arith, p .points-at))) e
+    points-same at full gated e =
+        let p = points-in s f at full gated e in
+        rw (h .size, half-same (at + 1) (omega (arith, p .points-at)), field-same at 3 (le16 s (at + 1)) (omega (arith, p .points-at))) e
 
     gate-same : (at : ℕ) (full : Bool) → at + 3 ≤ f .points → GateAt s f at full → gateFrom t at full ≡ Framed f
     unfolding gateFrom
@@ -79,7 +60,7 @@ module _ (s t : List ℕ) (f : Layout) where
     frame-same = go (fields-of s f framed)
       where
         three : 3 ≤ f .points
-        three = omega (arith, before framed .short)
+        three = omega (arith, before s f framed .short)
 
         go : Fields s f → cond (fieldAt t 0 1 21) (gateFrom t 24 true) (cond (fieldAt t 0 1 4) (gateFrom t 7 false) Misframed) ≡ Framed f
         go (full-settings u g) = rw (field-same 0 1 21 three, u) (gate-same 24 true (reached 24 true g) g)
@@ -87,10 +68,10 @@ module _ (s t : List ℕ) (f : Layout) where
 
     pub flags-same : badFlag t f ≡ badFlag s f
     unfolding badFlag
-    flags-same = and-under (f .full) (λ e. let l = before framed .long e in rw (h .head 17 (omega arith), h .head 22 (omega arith), h .head 23 (omega arith)))
+    flags-same = and-under (f .full) (λ e. let l = before s f framed .long e in rw (h .head 17 (omega arith), h .head 22 (omega arith), h .head 23 (omega arith)))
 
     settings-floats : settingsFloats t (f .full) ≡ settingsFloats s (f .full)
-    settings-floats = rw (word-same 3 (omega (arith, before framed .short))) (go (f .full) (before framed .long))
+    settings-floats = rw (word-same 3 (omega (arith, before s f framed .short))) (go (f .full) (before s f framed .long))
       where
         go : (b : Bool) → (b ≡ true → 27 ≤ f .points) → floatAt s 3 ∷ cond b (floatAt t 7 ∷ floatAt t 13 ∷ floatAt t 18 ∷ []) [] ≡ floatAt s 3 ∷ cond b (floatAt s 7 ∷ floatAt s 13 ∷ floatAt s 18 ∷ []) []
         go true l = let m = l refl in rw (word-same 7 (omega arith), word-same 13 (omega arith), word-same 18 (omega arith))
@@ -104,7 +85,7 @@ module _ (s t : List ℕ) (f : Layout) where
     floats-same =
         ap (λ (l : List Float). anyIn outside l || (f .gated && anyIn outside (gateFloats t (gateStart (f .full))))) settings-floats
         ∙ ap (λ (b : Bool). anyIn outside (settingsFloats s (f .full)) || b)
-        (and-under (f .gated) (λ e. ap (anyIn outside) (gate-floats (gateStart (f .full)) (before framed .gate e))))
+        (and-under (f .gated) (λ e. ap (anyIn outside) (gate-floats (gateStart (f .full)) (before s f framed .gate e))))
 
     gate-in-same : (at : ℕ) → at + 17 ≤ f .points → gateIn t at ≡ gateIn s at
     unfolding gateIn
@@ -112,7 +93,7 @@ module _ (s t : List ℕ) (f : Layout) where
 
     edge-same : edgeShapeOf t f ≡ edgeShapeOf s f
     unfolding edgeShapeOf
-    edge-same = go (f .gated) (before framed .gate)
+    edge-same = go (f .gated) (before s f framed .gate)
       where
         go : (b : Bool) → (b ≡ true → gateStart (f .full) + 17 ≤ f .points) → cond b (On (gateIn t (gateStart (f .full)))) Off ≡ cond b (On (gateIn s (gateStart (f .full)))) Off
         go true l = rw (gate-in-same (gateStart (f .full)) (l refl))
@@ -125,11 +106,11 @@ module _ (s t : List ℕ) (f : Layout) where
 
     pub settings-same : settingsOf t f ≡ settingsOf s f
     unfolding settingsOf
-    settings-same = rw edge-same (go (f .full) (before framed .long) (edgeShapeOf s f))
+    settings-same = rw edge-same (go (f .full) (before s f framed .long) (edgeShapeOf s f))
       where
         go : (b : Bool) → (b ≡ true → 27 ≤ f .points) → (g : EdgeGate) → cond b (settingsIn t g) (defaultsFor (floatAt t 3) g) ≡ cond b (settingsIn s g) (defaultsFor (floatAt s 3) g)
         go true l g = settings-in-same g (l refl)
-        go false l g = rw (word-same 3 (omega (arith, before framed .short)))
+        go false l g = rw (word-same 3 (omega (arith, before s f framed .short)))
 
     pub refusals-same : (room : ℕ) → headerRefusals t room (Framed f) ≡ headerRefusals s room (Framed f)
     unfolding headerRefusals

@@ -9,8 +9,9 @@ use borrow.Author.Tests.{ltb-false}
 use Rattle.refusals.specs.First.{none-applies-in, is-passed, through, by-number}
 use Rattle.view.specs.View.{maxPoints}
 use Rattle.cells.specs.Points.{Point}
-use Rattle.sheet_file.specs.Frame.{framingOf, layoutOf, framed-held}
-use Rattle.sheet_file.specs.Refusals.{is-framed, headerRefusals, headerOf, readingIn, readingOf}
+use Rattle.sheet_file.specs.Frame.{framingOf, layoutOf}
+use Rattle.sheet_file.proofs.Fields.{is-framed, framed-held}
+use Rattle.sheet_file.specs.Refusals.{headerRefusals, headerOf, readingIn, readingOf}
 use Rattle.sheet_file.specs.declared.Header.{Header}
 use Rattle.sheet_file.specs.declared.Reading.{Reading}
 use Rattle.sheet_file.specs.declared.Reading.the-variants.{Refused, Accepted}
@@ -42,4 +43,4 @@ header-room s room h e =
     let r : headerOf s f ≡ h = cc (w .1) in
     let p : f .points ≡ h .points = ap (λ (x : Header). x .points) r in
     let n : f .count ≡ h .count = ap (λ (x : Header). x .count) r in
-    record { few = omega (arith, n, ltb-false maxPoints (f .count) (no 2)); fit = omega (arith, p, n, framed-held s f (is-framed s (no 1)) .whole) }
+    record { few = omega (arith, n, ltb-false maxPoints (f .count) (no 2)); fit = omega (arith, p, n, framed-held s f (is-framed s (no 1)) .fit) }

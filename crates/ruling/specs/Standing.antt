@@ -18,9 +18,11 @@ use Rattle.cells.specs.Points.{Point, nowhere, keyOf}
 use Rattle.cells.specs.Cell.{cellOf, before, key-order}
 use Rattle.sort.specs.Sorted.{sort, At, all-at, at-all, Rises, sort-perm, sort-length, sort-all, sort-rises, Ordered, by-key, order-free}
 use Rattle.grid.specs.InOrder.{CellOrder}
-use Rattle.sheet_file.specs.Bytes.{Bytes, le32-small}
+use Rattle.sheet_file.specs.Bytes.{Bytes}
+use Rattle.sheet_file.proofs.Words.{le32-small}
 use Rattle.sheet_file.specs.Frame.{framingOf, layoutOf}
-use Rattle.sheet_file.specs.Refusals.{settingsOf, is-framed}
+use Rattle.sheet_file.specs.Refusals.{settingsOf}
+use Rattle.sheet_file.proofs.Fields.{is-framed}
 use Rattle.sheet_file.specs.declared.Framing.the-variants.{Framed}
 use Rattle.sheet_file.specs.declared.Layout.{Layout}
 use Rattle.sheet_file.specs.declared.Settings.{Settings}

@@ -4,14 +4,15 @@ use mathlib.Core.Path.{_≡_, refl, sym, _∙_}
 use mathlib.Core.Bool.{Bool, true, false, cond, _||_, true≢false}
 use mathlib.Core.List.{List}
 use mathlib.Core.Logic.{_⊎_, inl, inr}
-use Prim.Native.Nat.{ℕ, _+_, _-_, _*_, _≤_, _<_}
+use Prim.Native.Nat.{ℕ, _+_, _*_, _≤_, _<_}
 use native.Mathlib.Omega.{arith}
 use lib.Dec.{eqb}
 use lib.ListN.{length, getD}
 use Rattle.folds.specs.Lists.{list-ext}
 use Rattle.cells.specs.Points.{Point, nowhere}
 use Rattle.sheet_file.specs.Bytes.{Bytes, byteAt, le16, le32}
-use Rattle.sheet_file.specs.Frame.{fieldAt, pointsFrom, gateFrom, framingOf, layoutOf, GateAt, gate-there, gate-absent, Fields, full-settings, short-settings, fields-of, points-in}
+use Rattle.sheet_file.specs.Frame.{fieldAt, pointsFrom, gateFrom, framingOf, layoutOf}
+use Rattle.sheet_file.proofs.Fields.{GateAt, gate-there, gate-absent, Fields, full-settings, short-settings, fields-of, points-in}
 use Rattle.sheet_file.specs.Refusals.{settingsIn, gateIn, edgeShapeOf, settingsOf, noFlag, badFlag, badFloat, headerRefusals}
 use Rattle.sheet_file.specs.declared.Layout.{Layout}
 use Rattle.sheet_file.specs.declared.Settings.{Settings}
@@ -65,6 +66,10 @@ module _ (s t : List ℕ) (f : Layout) (h : Switched s t) where
   unfolding le16
   low-half at l = rw (low at (omega arith), low (at + 1) (omega arith))
 
+  high-half : (at : ℕ) → 24 ≤ at → le16 t at ≡ le16 s at
+  unfolding le16
+  high-half at l = rw (high at l, high (at + 1) (omega arith))
+
   low-field : (at tag n : ℕ) → at + 3 ≤ 22 → fieldAt t at tag n ≡ fieldAt s at tag n
   unfolding fieldAt le16
   low-field at tag n l = rw (h .size, low at (omega arith), low (at + 1) (omega arith), low (at + 1 + 1) (omega arith))
@@ -75,7 +80,7 @@ module _ (s t : List ℕ) (f : Layout) (h : Switched s t) where
 
   points-same : (at : ℕ) (full gated : Bool) → 24 ≤ at → pointsFrom t at full gated ≡ pointsFrom s at full gated
   unfolding pointsFrom
-  points-same at full gated l = rw (h .size, high-field at 3 (length s - (at + 3)) l)
+  points-same at full gated l = rw (h .size, high-half (at + 1) (omega arith), high-field at 3 (le16 s (at + 1)) l)
 
   gate-same : gateFrom t 24 true ≡ gateFrom s 24 true
   unfolding gateFrom
