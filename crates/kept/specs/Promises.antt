@@ -27,11 +27,14 @@ use Rattle.points.specs.Refusals.{offRange}
 use Rattle.components.specs.Kept.{WholePatch, Smallest, Kept, Counted}
 use Rattle.ruling.specs.Ruling.{Ruling, accepted, rulingOf, applies}
 use Rattle.listing.specs.Listing.{countsOf}
-use Rattle.ruling.specs.Header.{frame-same}
-use Rattle.ruling.specs.Standing.{taken, accepted-order}
-use Rattle.ruling.specs.Order.{Relisted, order}
-use Rattle.ruling.specs.Switches.{Switched, switched, switches}
-use Rattle.ruling.specs.Offset.{Offset, MovedAlong, offset}
+use Rattle.ruling.proofs.Header.{frame-same}
+use Rattle.ruling.proofs.Standing.{accepted-file, accepted-order}
+use Rattle.ruling.specs.Order.{Relisted}
+use Rattle.ruling.proofs.Order.{same-ruling}
+use Rattle.ruling.specs.Switches.{Switched, switched}
+use Rattle.ruling.proofs.Switches.{switches}
+use Rattle.ruling.specs.Offset.{Offset, MovedAlong}
+use Rattle.ruling.proofs.Offset.{offset}
 use Rattle.kept.specs.Marks.{countIn}
 use Rattle.kept.specs.Answer.{answerBy, rowsBy, answerOf, rowsAfter}
 use Rattle.kept.specs.declared.Answer.the-variants.{Accepted}
@@ -117,9 +120,9 @@ pub record SameResult (file other : List ℕ) : Type 0 where
 pub another-order : (file other : List ℕ) (f : Layout) → Bytes file → framingOf file ≡ Framed f → Relisted file other f → SameResult file other
 unfolding answerOf rowsAfter
 another-order file other f b e r = record {
-  answer = λ room. ap answerBy (sym (order file other f b e r room));
-  rows = λ buffer. ap (rowsBy buffer) (sym (order file other f b e r (length buffer)));
-  tally = λ n buffer. ap (λ (q : Ruling). countsOf n (rowsBy buffer q)) (sym (order file other f b e r (length buffer)));
+  answer = λ room. ap answerBy (sym (same-ruling file other f b e r room));
+  rows = λ buffer. ap (rowsBy buffer) (sym (same-ruling file other f b e r (length buffer)));
+  tally = λ n buffer. ap (λ (q : Ruling). countsOf n (rowsBy buffer q)) (sym (same-ruling file other f b e r (length buffer)));
 }
 
 -- ---- (c) an offset
@@ -127,7 +130,7 @@ another-order file other f b e r = record {
 -- The moved file is accepted, its points are the old ones at their moved cells and no others, and each has the same orientation and
 -- wrong-label marks; if each has the same validate mark too, "the kept patch has moved along".
 pub record MovedMarks (file : List ℕ) (room : ℕ) (a b : ℤ) (s : Settings) (ps : List Point) : Type 0 where
-  pub along : MovedAlong file room a b s ps
+  pub along : MovedAlong (rulingOf file room) a b s ps
   pub orientation : (k : ℕ) → hasOrientation s (along .points) k ≡ hasOrientation s ps k
   pub wrong : (k : ℕ) → hasWrong s (along .points) k ≡ hasWrong s ps k
   pub kept : ((k : ℕ) → k < length ps → hasValidate s (along .points) k ≡ hasValidate s ps k) → (k : ℕ) → keptRank s (along .points) k ≡ keptRank s ps k
@@ -137,7 +140,7 @@ pub moved-sheet : (file other : List ℕ) (a b : ℤ) → Bytes file → Bytes o
     → (room : ℕ) → applies other room 6 ≡ false → (s : Settings) (ps : List Point) → rulingOf file room ≡ accepted s ps → MovedMarks other room a b s ps
 unfolding applies
 moved-sheet file other a b bf bo o room in-range s ps e =
-    let framed = taken file room s ps e .framed in
+    let framed = accepted-file file room s ps e .framed in
     let same : layoutOf file ≡ layoutOf other = sym (ap layoutIn (frame-same file other (layoutOf file) framed (o .head))) in
     let m = offset file other a b bf bo o (ap (λ (f : Layout). anyIn offRange (pointsIn other (f .points) (f .count))) same ∙ in-range) room s ps e in
     let v = view-moved a b ps (m .points) (m .size) (m .along) in
@@ -178,7 +181,7 @@ pub record SameBits (other : List ℕ) (room : ℕ) (s : Settings) (ps : List Po
 
 pub switched-sheet : (file other : List ℕ) → Bytes file → Switched file other → layoutOf file .full ≡ true → (room : ℕ) (s : Settings) (ps : List Point) → rulingOf file room ≡ accepted s ps → SameBits other room s ps
 switched-sheet file other b w full room s ps e =
-    record { settings = switched s (byteAt other 22) (byteAt other 23); ruling = switches file other b w full room s ps e; bits = bits-stay s (byteAt other 22) (byteAt other 23) ps }
+    record { settings = switched s (byteAt other 22) (byteAt other 23); ruling = switches file other w full room s ps e; bits = bits-stay s (byteAt other 22) (byteAt other 23) ps }
 
 -- the same, of the rows in one buffer
 pub switched-rows : (file other buffer : List ℕ) → Bytes file → Switched file other → layoutOf file .full ≡ true → (s : Settings) (ps : List Point) → rulingOf file (length buffer) ≡ accepted s ps

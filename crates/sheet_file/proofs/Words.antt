@@ -1,7 +1,7 @@
 -- Numbers in a list of bytes are below 2 ^ 16 and 2 ^ 32, and depend on their own bytes alone. Assumes nothing.
 use mathlib.Core.Path.{_≡_}
 use mathlib.Core.List.{List}
-use Prim.Native.Nat.{ℕ, _+_, _^_, _<_}
+use Prim.Native.Nat.{ℕ, _+_, _^_, _≤_, _<_}
 use native.Mathlib.Omega.{arith}
 use lib.ListN.{getD}
 use Rattle.sheet_file.specs.Bytes.{Bytes, le16, le32}
@@ -29,3 +29,10 @@ module _ (file : List ℕ) (at : ℕ) (other : List ℕ) (to : ℕ) where
   pub le32-same : SameBytes 4 file at other to → le32 other to ≡ le32 file at
   unfolding le32
   le32-same h = rw (byte-same (λ k l. h k (omega arith)), h 1 (omega arith), h 2 (omega arith), h 3 (omega arith))
+
+-- some of them
+pub same-within : (n : ℕ) (file : List ℕ) (at : ℕ) (other : List ℕ) (to : ℕ) → SameBytes n file at other to → (j m : ℕ) → j + m ≤ n → SameBytes m file (at + j) other (to + j)
+same-within n file at other to h j m l k b =
+    let x : at + j + k ≡ at + (j + k) = omega arith in
+    let y : to + j + k ≡ to + (j + k) = omega arith in
+    rw (x, y) (h (j + k) (omega arith))
