@@ -22,8 +22,9 @@ use Rattle.grid.specs.InOrder.{keys-ready}
 use Rattle.sheet_file.specs.Limit.{outside}
 use Rattle.sheet_file.specs.Frame.{layoutOf}
 use Rattle.sheet_file.specs.declared.Settings.{Settings}
-use Rattle.ruling.specs.Ruling.{accepted, rulingOf, applies, none-applies}
-use Rattle.ruling.specs.Standing.{Sound, taken}
+use Rattle.ruling.specs.Ruling.{accepted, rulingOf, applies}
+use Rattle.ruling.proofs.Given.{none-applies}
+use Rattle.ruling.proofs.Standing.{Sound, accepted-file}
 
 -- the view that the arrays of n points give
 abbrev pub sheetView : ℕ → List ℕ → List ℕ → List Float → List Float → View
@@ -86,4 +87,4 @@ module _ (ps : List Point) (o : Sound ps) where
 -- the buffer has room for the rows
 pub rows-fit : (s : List ℕ) (room : ℕ) (w : Settings) (ps : List Point) → rulingOf s room ≡ accepted w ps → 28 * length ps ≤ room
 unfolding applies
-rows-fit s room w ps e = omega (arith, taken s room w ps e .size, ltb-false room (28 * layoutOf s .count) (none-applies s room e 3))
+rows-fit s room w ps e = omega (arith, accepted-file s room w ps e .size, ltb-false room (28 * layoutOf s .count) (none-applies s room e 3))

@@ -13,9 +13,10 @@ use Rattle.sheet_file.specs.Bytes.{Bytes}
 use Rattle.sheet_file.specs.declared.Settings.{Settings}
 use Rattle.points.specs.declared.Table.{Table}
 use Rattle.points.specs.Table.{Tabled}
-use Rattle.ruling.specs.Ruling.{Ruling, refused, accepted, rulingOf, is-given}
+use Rattle.ruling.specs.Ruling.{Ruling, refused, accepted, rulingOf}
+use Rattle.ruling.proofs.Given.{is-given}
 use Rattle.ruling.specs.Sheet.{Ruled}
-use Rattle.ruling.specs.Standing.{sound}
+use Rattle.ruling.proofs.Standing.{sound}
 use Rattle.ruling.specs.declared.Sheet.{Sheet}
 use Rattle.rows.specs.Rows.{rowByte}
 use Rattle.kept.specs.Marks.{countIn}

@@ -26,11 +26,14 @@ use Rattle.points.specs.Records.{pointsIn}
 use Rattle.points.specs.Refusals.{offRange}
 use Rattle.components.specs.Kept.{WholePatch, Smallest, Kept, Counted}
 use Rattle.ruling.specs.Ruling.{accepted, rulingOf, applies}
-use Rattle.ruling.specs.Header.{frame-same}
-use Rattle.ruling.specs.Standing.{taken, accepted-order}
-use Rattle.ruling.specs.Order.{Relisted, order}
-use Rattle.ruling.specs.Switches.{Switched, switched, switches}
-use Rattle.ruling.specs.Offset.{Offset, MovedAlong, offset}
+use Rattle.ruling.proofs.Header.{frame-same}
+use Rattle.ruling.proofs.Standing.{accepted-file, accepted-order}
+use Rattle.ruling.specs.Order.{Relisted}
+use Rattle.ruling.proofs.Order.{same-ruling}
+use Rattle.ruling.specs.Switches.{Switched, switched}
+use Rattle.ruling.proofs.Switches.{switches}
+use Rattle.ruling.specs.Offset.{Offset, MovedAlong}
+use Rattle.ruling.proofs.Offset.{offset}
 use Rattle.marks.specs.Filters.{validate, orientation, wrong}
 use Rattle.marks.specs.Byte.{hasMark}
 use Rattle.judging.specs.Judging.{judgedFor}
@@ -117,9 +120,9 @@ pub record SameResult (file other : List ℕ) : Type 0 where
 pub another-order : (file other : List ℕ) (f : Layout) → Bytes file → framingOf file ≡ Framed f → Relisted file other f → SameResult file other
 unfolding answerOf rowsAfter tallyOf
 another-order file other f b e r = record {
-  answer = λ room. ap answerBy (sym (order file other f b e r room));
-  rows = λ buffer. ap (rowsBy buffer) (sym (order file other f b e r (length buffer)));
-  tally = λ room. ap tallyBy (sym (order file other f b e r room));
+  answer = λ room. ap answerBy (sym (same-ruling file other f b e r room));
+  rows = λ buffer. ap (rowsBy buffer) (sym (same-ruling file other f b e r (length buffer)));
+  tally = λ room. ap tallyBy (sym (same-ruling file other f b e r room));
 }
 
 -- ---- (c) an offset
@@ -127,7 +130,7 @@ another-order file other f b e r = record {
 -- The moved file is accepted, its points are the old ones at their moved cells and no others, and each has the same orientation and
 -- wrong-label marks; if each has the same validate mark too, each has the same marks, and "the kept patch has moved along".
 pub record MovedMarks (file : List ℕ) (room : ℕ) (a b : ℤ) (s : Settings) (ps : List Point) : Type 0 where
-  pub along : MovedAlong file room a b s ps
+  pub along : MovedAlong (rulingOf file room) a b s ps
   pub orientation : (k : ℕ) → k < length ps → hasMark orientation (marksIn s (along .points) k) ≡ hasMark orientation (marksIn s ps k)
   pub wrong : (k : ℕ) → k < length ps → hasMark wrong (marksIn s (along .points) k) ≡ hasMark wrong (marksIn s ps k)
   pub same : ((k : ℕ) → k < length ps → hasMark validate (marksIn s (along .points) k) ≡ hasMark validate (marksIn s ps k)) → (k : ℕ) → marksIn s (along .points) k ≡ marksIn s ps k
@@ -138,7 +141,7 @@ pub moved-sheet : (file other : List ℕ) (a b : ℤ) → Bytes file → Bytes o
     → (room : ℕ) → applies other room 6 ≡ false → (s : Settings) (ps : List Point) → rulingOf file room ≡ accepted s ps → MovedMarks other room a b s ps
 unfolding applies
 moved-sheet file other a b bf bo o room in-range s ps e =
-    let framed = taken file room s ps e .framed in
+    let framed = accepted-file file room s ps e .framed in
     let same : layoutOf file ≡ layoutOf other = sym (ap layoutIn (frame-same file other (layoutOf file) framed (o .head))) in
     let m = offset file other a b bf bo o (ap (λ (f : Layout). anyIn offRange (pointsIn other (f .points) (f .count))) same ∙ in-range) room s ps e in
     let v = view-moved a b ps (m .points) (m .size) (m .along) in
@@ -183,7 +186,7 @@ switched-sheet file other b w full room s ps e =
     let t = switched s (byteAt other 22) (byteAt other 23) in
     record {
       settings = t;
-      ruling = switches file other b w full room s ps e;
+      ruling = switches file other w full room s ps e;
       validate = λ k h. validate-in t ps k h ∙ validate-stays s (byteAt other 22) (byteAt other 23) (viewOf ps) (cellsOf ps) k ∙ sym (validate-in s ps k h);
       orientation = λ k h. orientation-in t ps k h ∙ sym (orientation-in s ps k h);
     }

@@ -7,16 +7,16 @@ use native.Mathlib.Omega.{arith}
 use native.Mathlib.Nat.{mul-le-mul-right, le-of-mul-le-mul-right, mul-right-comm, le-trans, le-of-lt, lt-of-lt-of-le, not-le-of-lt}
 use native.Mathlib.Decide.{decLt}
 use Prim.{Dec, yes, no}
-use lib.Dec.{T, leb, eqb, leb→le}
+use lib.Dec.{T, leb, ltb, eqb, leb→le}
 use lib.Arith.{le→nltb}
-use borrow.Author.Tests.{eqb-true, ltb-false, le-ltb, leb-true, leb-false}
+use borrow.Author.Tests.{eqb-true, ltb-false, lt-ltb, le-ltb}
 use lib.Pow.{pow-pos, pow-mono, shl-lt, pow-add}
 use lib.Ieee.{Float, nan, inf, fin, binary32, up, down, odd, ofFields, ofBits, nanBits}
 use lib.Ieee.Bits.{nanBits-above}
 use lib.Ieee.Digits.{Equals, odd-val}
 use lib.Ieee.Fits.{down-pos}
 use Rattle.folds.specs.Arith.{f32}
-use Rattle.sheet_file.specs.Limit.{outside, bounded}
+use Rattle.sheet_file.specs.Limit.{outside}
 
 -- finite, and at most 16,384 in magnitude
 abbrev Within : Float → Type 0
@@ -85,13 +85,14 @@ fields-out s (suc x) t h l w = go (eqb (suc x) 255) (eqb t 0) w
 
 -- ---- the theorem
 
-bounded-within : (b : ℕ) → bounded b ≡ true → Within (f32 b)
+-- the sign is the highest bit of the pattern; without it the pattern is at most that of 16,384, or above it
+at-most : (b : ℕ) → b % 2147483648 ≤ 0x46800000 → Within (f32 b)
 unfolding ofBits
-bounded-within b t = fields-in (leb 2147483648 b) (b % 2147483648 / 8388608) (b % 8388608) (omega arith) (omega (arith, leb-true (b % 2147483648) 0x46800000 t))
+at-most b l = fields-in (leb 2147483648 b) (b % 2147483648 / 8388608) (b % 8388608) (omega arith) (omega arith)
 
-unbounded-not-within : (b : ℕ) → bounded b ≡ false → Within (f32 b) → ⊥
+above : (b : ℕ) → 0x46800000 < b % 2147483648 → Within (f32 b) → ⊥
 unfolding ofBits
-unbounded-not-within b t w = fields-out (leb 2147483648 b) (b % 2147483648 / 8388608) (b % 8388608) (omega arith) (omega (arith, leb-false (b % 2147483648) 0x46800000 t)) w
+above b l w = fields-out (leb 2147483648 b) (b % 2147483648 / 8388608) (b % 8388608) (omega arith) (omega arith) w
 
 within-inside : (x : Float) → Within x → outside x ≡ false
 within-inside nan w = absurd w
@@ -103,19 +104,15 @@ inside-within nan h = true≢false h
 inside-within (inf s) h = true≢false h
 inside-within (fin s m e) h = ltb-false (16384 * down e) (m * up e) h
 
-pub outside-pattern : (b : ℕ) → outside (f32 b) ≡ not (bounded b)
-outside-pattern b = go (bounded b) refl (outside (f32 b)) refl
+pub outside-pattern : (b : ℕ) → outside (f32 b) ≡ ltb 0x46800000 (b % 0x80000000)
+outside-pattern b = go (decLt 0x46800000 (b % 2147483648)) (outside (f32 b)) refl
   where
-    go : (t : Bool) → bounded b ≡ t → (o : Bool) → outside (f32 b) ≡ o → o ≡ not t
-    go true e true f = absurd (true≢false (sym f ∙ within-inside (f32 b) (bounded-within b e)))
-    go true e false f = refl
-    go false e true f = refl
-    go false e false f = absurd (unbounded-not-within b e (inside-within (f32 b) f))
+    go : Dec (0x46800000 < b % 2147483648) → (o : Bool) → outside (f32 b) ≡ o → o ≡ ltb 0x46800000 (b % 0x80000000)
+    go (yes l) true f = sym (lt-ltb 0x46800000 (b % 2147483648) l)
+    go (yes l) false f = absurd (above b l (inside-within (f32 b) f))
+    go (no l) true f = absurd (true≢false (sym f ∙ within-inside (f32 b) (at-most b (omega arith))))
+    go (no l) false f = sym (le-ltb 0x46800000 (b % 2147483648) (omega arith))
 
 -- a float that is inside has no NaN's pattern
 pub inside-no-nan : (b : ℕ) → outside (f32 b) ≡ false → T (not (nanBits binary32 b))
-inside-no-nan b h = go (bounded b) refl
-  where
-    go : (t : Bool) → bounded b ≡ t → T (not (nanBits binary32 b))
-    go true e = rw nanBits-above (le→nltb 2139095040 (b % 2147483648) (omega (arith, leb-true (b % 2147483648) 0x46800000 e)))
-    go false e = absurd (true≢false (rw e at (sym (outside-pattern b) ∙ h)))
+inside-no-nan b h = rw nanBits-above (le→nltb 2139095040 (b % 2147483648) (omega (arith, ltb-false 0x46800000 (b % 2147483648) (sym (outside-pattern b) ∙ h))))

@@ -1,4 +1,4 @@
--- The conditions of numbers 8 and 9 on the rows in the order of the cells, and of the indices. Assumes nothing.
+-- The conditions of numbers 8 and 9, on the entries in the order of the cells, and of the indices. Assumes nothing.
 use mathlib.Core.Path.{_≡_, refl, sym, _∙_}
 use mathlib.Core.Bool.{Bool, true, false, not, _&&_, _||_, true≢false}
 use mathlib.Core.List.{List}
@@ -12,14 +12,16 @@ use Rattle.folds.specs.Below.{some, some-ext, some-fails, and-left, and-right, 
 use Rattle.view.specs.View.{maxPoints}
 use Rattle.cells.specs.Points.{Point, biased, keyOf}
 use Rattle.cells.specs.Cell.{signed, within, InRange, biased-range}
-use Rattle.sheet_file.specs.Bytes.{Bytes, le32-small}
+use Rattle.sheet_file.specs.Bytes.{Bytes}
+use Rattle.sheet_file.proofs.Words.{le32-small}
 use Rattle.sort.specs.Packed.{placed}
-use Rattle.points.specs.Records.{recordOf, pointsIn}
-use Rattle.points.specs.Refusals.{offRange, sameCell, samePosition, twoPositions, entryOf, together}
-use Rattle.points.specs.Rows.{entriesOf, rowsOf, rowsClash, row-at, row-key}
-use Rattle.points.specs.Neighbours.{clash, eqb-swap, sorted-neighbours}
+use Rattle.points.specs.Records.{ithPoint, pointsIn}
+use Rattle.points.specs.Refusals.{offRange, sameCell, samePosition, twoPositions}
+use Rattle.points.specs.Entries.{keyBy, together, ithKey, entriesOf, entriesClash, neighboursClash}
+use Rattle.points.proofs.Ordering.{entry-at, entry-key}
+use Rattle.points.proofs.Neighbours.{clash, eqb-swap, sorted-neighbours}
 
--- ---- rows and pairs
+-- ---- entries and pairs
 
 same-through : (p q r : Point) → samePosition p q ≡ true → samePosition q r ≡ true → samePosition p r ≡ true
 same-through p q r a b =
@@ -34,17 +36,16 @@ through false p q r a c = a
 back : (b : Bool) (p q : Point) → together b p q ≡ together b q p
 back b p q = rw (eqb-swap (p .x) (q .x), eqb-swap (p .y) (q .y))
 
-module _ (s : List ℕ) (at n : ℕ) (few : n ≤ maxPoints) where
-  -- two neighbouring rows clash just where two points do
-  pub rows-and-pairs : (b : Bool)
-      → some (λ (i : ℕ). rowsClash s at b (getD (rowsOf s at n b) i 0) (getD (rowsOf s at n b) (i + 1) 0)) (n - 1)
-      ≡ pairIn (clash (entryOf b) (together b)) (pointsIn s at n)
-  unfolding pointsIn rowsClash
-  rows-and-pairs b =
-      some-ext (λ (i : ℕ). rowsClash s at b (getD (rowsOf s at n b) i 0) (getD (rowsOf s at n b) (i + 1) 0))
-      (λ (r : ℕ). clash (entryOf b) (together b) (recordOf s at (placed (entriesOf s at b) n r)) (recordOf s at (placed (entriesOf s at b) n (r + 1)))) (n - 1)
-      (λ i h. rw (row-key s at n b few i (omega arith), row-key s at n b few (i + 1) (omega arith), row-at s at n b few i (omega arith), row-at s at n b few (i + 1) (omega arith)))
-      ∙ sym (sorted-neighbours (entryOf b) (together b) (through b) (back b) (recordOf s at) n (omega arith))
+module _ (file : List ℕ) (at n : ℕ) (few : n ≤ maxPoints) where
+  -- two neighbouring entries clash just where two points do
+  pub entries-and-pairs : (b : Bool)
+      → neighboursClash file at n b (entriesOf file at n b) ≡ pairIn (clash (keyBy b) (together b)) (pointsIn file at n)
+  unfolding pointsIn entriesClash
+  entries-and-pairs b =
+      some-ext (λ (i : ℕ). entriesClash file at b (getD (entriesOf file at n b) i 0) (getD (entriesOf file at n b) (i + 1) 0))
+      (λ (r : ℕ). clash (keyBy b) (together b) (ithPoint file at (placed (ithKey file at b) n r)) (ithPoint file at (placed (ithKey file at b) n (r + 1)))) (n - 1)
+      (λ i h. rw (entry-key file at n b few i (omega arith), entry-key file at n b few (i + 1) (omega arith), entry-at file at n b few i (omega arith), entry-at file at n b few (i + 1) (omega arith)))
+      ∙ sym (sorted-neighbours (keyBy b) (together b) (through b) (back b) (ithPoint file at) n (omega arith))
 
 -- ---- cells in range
 
@@ -63,7 +64,7 @@ ranged p hu hv e = go (within (signed (p .u))) (within (signed (p .v))) refl ref
     go false b f g h = absurd (true≢false h)
 
 -- one key, one cell
-pub cells-by-key : (p q : Point) → Ranged p → Ranged q → sameCell p q ≡ clash (entryOf false) (together false) p q
+pub cells-by-key : (p q : Point) → Ranged p → Ranged q → sameCell p q ≡ clash (keyBy false) (together false) p q
 cells-by-key p q r t = both-ways (sameCell p q) (eqb (keyOf p) (keyOf q) && true) to from ∙ refl
   where
     to : sameCell p q ≡ true → eqb (keyOf p) (keyOf q) && true ≡ true
@@ -79,30 +80,30 @@ cells-by-key p q r t = both-ways (sameCell p q) (eqb (keyOf p) (keyOf q) && true
         let v : p .v ≡ q .v = omega (arith, k, r .cell .fits-v, t .cell .fits-v, r .u, t .u, r .v, t .v) in
         and-both (eqb (p .u) (q .u)) (eqb (p .v) (q .v)) (eq-eqb (p .u) (q .u) u) (eq-eqb (p .v) (q .v) v)
 
-module _ (s : List ℕ) (at n : ℕ) where
+module _ (file : List ℕ) (at n : ℕ) where
   -- no point has a fault
-  pub none-off : (t : Point → Bool) → anyIn t (pointsIn s at n) ≡ false → (i : ℕ) → i < n → t (recordOf s at i) ≡ false
+  pub none-off : (t : Point → Bool) → anyIn t (pointsIn file at n) ≡ false → (i : ℕ) → i < n → t (ithPoint file at i) ≡ false
   unfolding pointsIn
-  none-off t e i h = some-fails (λ (k : ℕ). t (recordOf s at k)) n (sym (any-list (recordOf s at) n t) ∙ e) i h
+  none-off t e i h = some-fails (λ (k : ℕ). t (ithPoint file at k)) n (sym (any-list (ithPoint file at) n t) ∙ e) i h
 
-  pub all-ranged : Bytes s → anyIn offRange (pointsIn s at n) ≡ false → (i : ℕ) → i < n → Ranged (recordOf s at i)
-  all-ranged b e i h = ranged (recordOf s at i) (le32-small s b (at + 20 * i)) (le32-small s b (at + 20 * i + 4)) (none-off offRange e i h)
+  pub all-ranged : Bytes file → anyIn offRange (pointsIn file at n) ≡ false → (i : ℕ) → i < n → Ranged (ithPoint file at i)
+  all-ranged b e i h = ranged (ithPoint file at i) (le32-small file b (at + 20 * i)) (le32-small file b (at + 20 * i + 4)) (none-off offRange e i h)
 
-  pub same-cells : Bytes s → anyIn offRange (pointsIn s at n) ≡ false → pairIn sameCell (pointsIn s at n) ≡ pairIn (clash (entryOf false) (together false)) (pointsIn s at n)
+  pub same-cells : Bytes file → anyIn offRange (pointsIn file at n) ≡ false → pairIn sameCell (pointsIn file at n) ≡ pairIn (clash (keyBy false) (together false)) (pointsIn file at n)
   unfolding pointsIn
   same-cells b e =
-      pair-ext (recordOf s at) n sameCell (clash (entryOf false) (together false))
-      (λ i j ij jn. cells-by-key (recordOf s at i) (recordOf s at j) (all-ranged b e i (omega arith)) (all-ranged b e j jn))
+      pair-ext (ithPoint file at) n sameCell (clash (keyBy false) (together false))
+      (λ i j ij jn. cells-by-key (ithPoint file at i) (ithPoint file at j) (all-ranged b e i (omega arith)) (all-ranged b e j jn))
 
--- ---- what the search for clashing rows finds
+-- ---- what the search for clashing entries finds
 
-module _ (s : List ℕ) (at n : ℕ) (few : n ≤ maxPoints) (rows : List ℕ) where
-  clashes : (b : Bool) → rows ≡ rowsOf s at n b → {r : Bool} → r ≡ some (λ (i : ℕ). rowsClash s at b (getD rows i 0) (getD rows (i + 1) 0)) (n - 1) → pairIn (clash (entryOf b) (together b)) (pointsIn s at n) ≡ r
-  clashes b e h = sym (h ∙ rw e (rows-and-pairs s at n few b))
+module _ (file : List ℕ) (at n : ℕ) (few : n ≤ maxPoints) (entries : List ℕ) where
+  clashes : (b : Bool) → entries ≡ entriesOf file at n b → {r : Bool} → r ≡ neighboursClash file at n b entries → pairIn (clash (keyBy b) (together b)) (pointsIn file at n) ≡ r
+  clashes b e h = sym (h ∙ rw e (entries-and-pairs file at n few b))
 
-  pub cells-found : Bytes s → anyIn offRange (pointsIn s at n) ≡ false → rows ≡ rowsOf s at n false
-      → {r : Bool} → r ≡ some (λ (i : ℕ). rowsClash s at false (getD rows i 0) (getD rows (i + 1) 0)) (n - 1) → pairIn sameCell (pointsIn s at n) ≡ r
-  cells-found b f e h = same-cells s at n b f ∙ clashes false e h
+  pub cells-found : Bytes file → anyIn offRange (pointsIn file at n) ≡ false → entries ≡ entriesOf file at n false
+      → {r : Bool} → r ≡ neighboursClash file at n false entries → pairIn sameCell (pointsIn file at n) ≡ r
+  cells-found b f e h = same-cells file at n b f ∙ clashes false e h
 
-  pub positions-found : rows ≡ rowsOf s at n true → {r : Bool} → r ≡ some (λ (i : ℕ). rowsClash s at true (getD rows i 0) (getD rows (i + 1) 0)) (n - 1) → pairIn twoPositions (pointsIn s at n) ≡ r
+  pub positions-found : entries ≡ entriesOf file at n true → {r : Bool} → r ≡ neighboursClash file at n true entries → pairIn twoPositions (pointsIn file at n) ≡ r
   positions-found e h = clashes true e h

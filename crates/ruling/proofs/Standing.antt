@@ -13,23 +13,27 @@ use Rattle.folds.specs.Among.{anyIn, pairIn, none-in, any-order, pair-order}
 use Rattle.folds.specs.Below.{or-none}
 use Rattle.folds.specs.Lists.{All, listOf, length-list, list-at, is-list}
 use Rattle.view.specs.View.{maxPoints}
-use Rattle.refusals.specs.First.{holds, none-applies-in}
+use Rattle.refusals.proofs.Laws.{holds, none-applies-in}
 use Rattle.cells.specs.Points.{Point, nowhere, keyOf}
 use Rattle.cells.specs.Cell.{cellOf, before, key-order}
 use Rattle.sort.specs.Sorted.{sort, At, all-at, at-all, Rises, sort-perm, sort-length, sort-all, sort-rises, Ordered, by-key, order-free}
 use Rattle.grid.specs.InOrder.{CellOrder}
-use Rattle.sheet_file.specs.Bytes.{Bytes, le32-small}
+use Rattle.sheet_file.specs.Bytes.{Bytes}
 use Rattle.sheet_file.specs.Frame.{framingOf, layoutOf}
-use Rattle.sheet_file.specs.Refusals.{settingsOf, is-framed}
+use Rattle.sheet_file.specs.Refusals.{settingsOf}
 use Rattle.sheet_file.specs.declared.Framing.the-variants.{Framed}
 use Rattle.sheet_file.specs.declared.Layout.{Layout}
 use Rattle.sheet_file.specs.declared.Settings.{Settings}
-use Rattle.points.specs.Records.{recordOf, pointsIn}
-use Rattle.points.specs.Refusals.{pointRefusals, offRange, offLimit, sameCell, cellOrder, ahead}
-use Rattle.points.specs.Neighbours.{eqb-swap}
-use Rattle.points.specs.Pairs.{Ranged, ranged, cells-by-key}
-use Rattle.ruling.specs.Numbered.{sorted-by-number}
-use Rattle.ruling.specs.Ruling.{accepted, rulingFor, for-accepted, rulingOf, pointsOf, applies, none-applies, is-accepted, in-file}
+use Rattle.sheet_file.proofs.Words.{le32-small}
+use Rattle.sheet_file.proofs.Fields.{is-framed}
+use Rattle.points.specs.Records.{ithPoint, pointsIn}
+use Rattle.points.specs.Refusals.{pointRefusals, offRange, offLimit, sameCell, cellOrder, comesBefore}
+use Rattle.points.proofs.Neighbours.{eqb-swap}
+use Rattle.points.proofs.Clashes.{Ranged, ranged, cells-by-key}
+use Rattle.points.proofs.Located.{length-points}
+use Rattle.ruling.specs.Ruling.{accepted, rulingFor, rulingOf, pointsOf, applies}
+use Rattle.ruling.proofs.Given.{for-accepted, none-applies, is-accepted, in-file}
+use Rattle.ruling.proofs.Numbered.{sorted-by-number}
 
 -- ---- lists by place
 
@@ -104,22 +108,22 @@ module _ (ps : List Point) (h : Apart ps) where
   all-listed : All (At nowhere ps) ps
   all-listed = at-all (At nowhere ps) nowhere ps (λ i l. record { place = i; below = l; is = refl })
 
-  ordered : Ordered ahead (At nowhere ps)
+  ordered : Ordered comesBefore (At nowhere ps)
   ordered = by-key keyOf (At nowhere ps) one-point
 
   -- "Another order is any rearrangement of the points": they have one cell order
   pub one-order : (qs : List Point) → List·Permᴰ ps qs → cellOrder ps ≡ cellOrder qs
-  one-order qs p = order-free ahead (At nowhere ps) ordered p all-listed
+  one-order qs p = order-free comesBefore (At nowhere ps) ordered p all-listed
 
   pub sorted-apart : Apart (cellOrder ps)
   sorted-apart = record {
-    words = sort-all ahead Words ps (h .words);
-    in-range = sym (any-order offRange (sort-perm ahead ps)) ∙ h .in-range;
-    apart = sym (pair-order sameCell cell-either-way (sort-perm ahead ps)) ∙ h .apart;
+    words = sort-all comesBefore Words ps (h .words);
+    in-range = sym (any-order offRange (sort-perm comesBefore ps)) ∙ h .in-range;
+    apart = sym (pair-order sameCell cell-either-way (sort-perm comesBefore ps)) ∙ h .apart;
   }
 
-  sorted-rises : Rises ahead (cellOrder ps)
-  sorted-rises = sort-rises ahead (At nowhere ps) ordered ps all-listed
+  sorted-rises : Rises comesBefore (cellOrder ps)
+  sorted-rises = sort-rises comesBefore (At nowhere ps) ordered ps all-listed
 
   -- "in cell order, by u, then v"
   pub by-u-then-v : cellOrder ps ≡ sort (λ (p q : Point). before (cellOf p) (cellOf q)) ps
@@ -128,8 +132,8 @@ module _ (ps : List Point) (h : Apart ps) where
       let n = length ps in
       let own : ps ≡ listOf n g = is-list nowhere n g ps refl (λ k l. refl) in
       let second : Point → Point → Bool = λ p q. before (cellOf p) (cellOf q) in
-      ap cellOrder own ∙ sorted-by-number g n (λ (i j : ℕ). ahead (g i) (g j)) ahead (λ i j a b. refl)
-      ∙ sym (sorted-by-number g n (λ (i j : ℕ). ahead (g i) (g j)) second (λ i j a b. key-order (g j) (g i) (ranged-at j b .cell) (ranged-at i a .cell)))
+      ap cellOrder own ∙ sorted-by-number g n (λ (i j : ℕ). comesBefore (g i) (g j)) comesBefore (λ i j a b. refl)
+      ∙ sym (sorted-by-number g n (λ (i j : ℕ). comesBefore (g i) (g j)) second (λ i j a b. key-order (g j) (g i) (ranged-at j b .cell) (ranged-at i a .cell)))
       ∙ ap (sort second) (sym own)
 
 -- the points, sorted, are ready for the tables of the grid
@@ -137,10 +141,10 @@ pub in-cell-order : (ps : List Point) → Apart ps → length ps ≤ maxPoints �
 in-cell-order ps h few =
     let o = sorted-apart ps h in
     record {
-      few = omega (arith, sort-length ahead ps);
+      few = omega (arith, sort-length comesBefore ps);
       inside = λ k b. ranged-at (cellOrder ps) o k b .cell;
       rising = λ i j ij jn.
-          omega (arith, ltb-false (keyOf (getD (cellOrder ps) j nowhere)) (keyOf (getD (cellOrder ps) i nowhere)) (rises-at ahead nowhere (cellOrder ps) (sorted-rises ps h) i j ij jn), different (cellOrder ps) o i j ij jn);
+          omega (arith, ltb-false (keyOf (getD (cellOrder ps) j nowhere)) (keyOf (getD (cellOrder ps) i nowhere)) (rises-at comesBefore nowhere (cellOrder ps) (sorted-rises ps h) i j ij jn), different (cellOrder ps) o i j ij jn);
     }
 
 -- where no number applies, they are so
@@ -158,59 +162,55 @@ pub record Sound (ps : List Point) : Type 0 where
   pub limits : (k : ℕ) → k < length ps → offLimit (getD ps k nowhere) ≡ false
   pub words : (k : ℕ) → k < length ps → Words (getD ps k nowhere)
 
-pub sound-for : (w v : Settings) (ps qs : List Point) → All Words ps → length ps ≤ maxPoints → rulingFor w ps ≡ accepted v qs → Sound qs
-sound-for w v ps qs h few e =
-    let k = for-accepted w v ps qs e in
+pub sound-for : (s t : Settings) (ps qs : List Point) → All Words ps → length ps ≤ maxPoints → rulingFor s ps ≡ accepted t qs → Sound qs
+sound-for s t ps qs h few e =
+    let k = for-accepted s t ps qs e in
     let q : qs ≡ cellOrder ps = cc (k .1) in
     rw q
     (record {
       order = in-cell-order ps (none-apart ps h (k .0)) few;
-      limits = all-at (λ (p : Point). offLimit p ≡ false) nowhere (cellOrder ps) (none-in offLimit (cellOrder ps) (sym (any-order offLimit (sort-perm ahead ps)) ∙ in-limit ps (k .0)));
-      words = all-at Words nowhere (cellOrder ps) (sort-all ahead Words ps h);
+      limits = all-at (λ (p : Point). offLimit p ≡ false) nowhere (cellOrder ps) (none-in offLimit (cellOrder ps) (sym (any-order offLimit (sort-perm comesBefore ps)) ∙ in-limit ps (k .0)));
+      words = all-at Words nowhere (cellOrder ps) (sort-all comesBefore Words ps h);
     })
 
 -- ---- of a file
 
-pub words-in : (s : List ℕ) (at n : ℕ) → Bytes s → All Words (pointsIn s at n)
+pub words-in : (file : List ℕ) (at n : ℕ) → Bytes file → All Words (pointsIn file at n)
 unfolding pointsIn
-words-in s at n b =
-    at-all Words nowhere (listOf n (recordOf s at))
-    (λ k l. rw (list-at n (recordOf s at) k nowhere (omega (arith, length-list n (recordOf s at)))) (record { u = le32-small s b _; v = le32-small s b _; index = le32-small s b _; x = le32-small s b _; y = le32-small s b _ }))
-
-pub length-points : (s : List ℕ) (at n : ℕ) → length (pointsIn s at n) ≡ n
-unfolding pointsIn
-length-points s at n = length-list n (recordOf s at)
+words-in file at n b =
+    at-all Words nowhere (listOf n (ithPoint file at))
+    (λ k l. rw (list-at n (ithPoint file at) k nowhere (omega (arith, length-list n (ithPoint file at)))) (record { u = le32-small file b _; v = le32-small file b _; index = le32-small file b _; x = le32-small file b _; y = le32-small file b _ }))
 
 -- what an accepted ruling says
-pub record Taken (s : List ℕ) (f : Layout) (w : Settings) (ps : List Point) : Type 0 where
-  pub framed : framingOf s ≡ Framed f
+pub record AcceptedFile (file : List ℕ) (f : Layout) (s : Settings) (ps : List Point) : Type 0 where
+  pub framed : framingOf file ≡ Framed f
   pub few : f .count ≤ maxPoints
-  pub settings-are : w ≡ settingsOf s f
-  pub points-are : ps ≡ cellOrder (pointsIn s (f .points) (f .count))
-  pub ruled-so : rulingFor (settingsOf s f) (pointsIn s (f .points) (f .count)) ≡ accepted w ps
+  pub settings-are : s ≡ settingsOf file f
+  pub points-are : ps ≡ cellOrder (pointsIn file (f .points) (f .count))
+  pub ruled-so : rulingFor (settingsOf file f) (pointsIn file (f .points) (f .count)) ≡ accepted s ps
   pub size : length ps ≡ f .count
 
-pub taken : (s : List ℕ) (room : ℕ) (w : Settings) (ps : List Point) → rulingOf s room ≡ accepted w ps → Taken s (layoutOf s) w ps
+pub accepted-file : (file : List ℕ) (room : ℕ) (s : Settings) (ps : List Point) → rulingOf file room ≡ accepted s ps → AcceptedFile file (layoutOf file) s ps
 unfolding applies
-taken s room w ps e =
-    let no = none-applies s room e in
-    let q = is-accepted s room e .1 in
-    let p : ps ≡ cellOrder (pointsOf s) = cc q in
+accepted-file file room s ps e =
+    let no = none-applies file room e in
+    let q = is-accepted file room e .1 in
+    let p : ps ≡ cellOrder (pointsOf file) = cc q in
     record {
-      framed = is-framed s (no 1);
-      few = ltb-false maxPoints (layoutOf s .count) (no 2);
+      framed = is-framed file (no 1);
+      few = ltb-false maxPoints (layoutOf file .count) (no 2);
       settings-are = cc q;
       points-are = p;
-      ruled-so = in-file s room e .1;
-      size = ap length p ∙ sort-length ahead (pointsOf s) ∙ length-points s (layoutOf s .points) (layoutOf s .count);
+      ruled-so = in-file file room e .1;
+      size = ap length p ∙ sort-length comesBefore (pointsOf file) ∙ length-points file (layoutOf file .points) (layoutOf file .count);
     }
 
-pub sound : (s : List ℕ) (room : ℕ) (w : Settings) (ps : List Point) → Bytes s → rulingOf s room ≡ accepted w ps → Sound ps
-sound s room w ps b e =
-    let f = layoutOf s in
-    let k = taken s room w ps e in
-    sound-for (settingsOf s f) w (pointsOf s) ps (words-in s (f .points) (f .count) b) (omega (arith, k .few, length-points s (f .points) (f .count))) (k .ruled-so)
+pub sound : (file : List ℕ) (room : ℕ) (s : Settings) (ps : List Point) → Bytes file → rulingOf file room ≡ accepted s ps → Sound ps
+sound file room s ps b e =
+    let f = layoutOf file in
+    let k = accepted-file file room s ps e in
+    sound-for (settingsOf file f) s (pointsOf file) ps (words-in file (f .points) (f .count) b) (omega (arith, k .few, length-points file (f .points) (f .count))) (k .ruled-so)
 
 -- "in cell order": the points of an accepted file are ready for the tables of the grid
-pub accepted-order : (s : List ℕ) (room : ℕ) (w : Settings) (ps : List Point) → Bytes s → rulingOf s room ≡ accepted w ps → CellOrder ps
-accepted-order s room w ps b e = sound s room w ps b e .order
+pub accepted-order : (file : List ℕ) (room : ℕ) (s : Settings) (ps : List Point) → Bytes file → rulingOf file room ≡ accepted s ps → CellOrder ps
+accepted-order file room s ps b e = sound file room s ps b e .order
