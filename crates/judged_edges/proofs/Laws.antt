@@ -16,7 +16,8 @@ use Rattle.folds.specs.Below.{tally, tally-more, sumOf, sum-more, sum-ext, some
 use Rattle.folds.specs.Lists.{listed, listed-length, listed-ext}
 use Rattle.folds.specs.Column.{column-at}
 use Rattle.float.specs.Constants.{overlongRatio, globalOverlongRatio}
-use Rattle.median.specs.Median.{medianOf, over-median-of}
+use Rattle.median.specs.Median.{medianOf}
+use Rattle.median.proofs.Median.{over-median-of}
 use Rattle.median.specs.Packed.{positives}
 use Rattle.view.specs.View.{View, maxPoints, viewAt, own, rankAt, present}
 use Rattle.marks.specs.Arrays.{nearView}

@@ -12,7 +12,8 @@ use Rattle.folds.specs.Lists.{listOf, length-list, is-list}
 use Rattle.view.specs.View.{maxPoints}
 use Rattle.cells.specs.Points.{Point}
 use Rattle.sort.specs.Numbers.{sorted}
-use Rattle.sort.specs.Packed.{packed, inOrder, inOrder-length, placed-below, placed-key}
+use Rattle.sort.specs.Packed.{packed, inOrder}
+use Rattle.sort.proofs.Packed.{inOrder-length, placed-below, placed-key}
 use Rattle.points.specs.Records.{recordOf}
 use Rattle.points.specs.Refusals.{entryOf, together}
 

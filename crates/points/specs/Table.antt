@@ -18,7 +18,8 @@ use Rattle.cells.specs.Points.{Point, nowhere, keyOf, keysOf, indicesOf, xsOf, 
 use Rattle.sheet_file.specs.Bytes.{Bytes}
 use Rattle.sheet_file.specs.Limit.{outside}
 use Rattle.sheet_file.specs.Refusals.{floatAt}
-use Rattle.sort.specs.Packed.{placed, things-in-order}
+use Rattle.sort.specs.Packed.{placed}
+use Rattle.sort.proofs.Packed.{things-in-order}
 use Rattle.points.specs.Records.{recordOf, pointsIn, Room}
 use Rattle.points.specs.Refusals.{offRange, offLimit, pointRefusals, numberFor, cellOrder, acceptedOf}
 use Rattle.points.specs.Rows.{entriesOf, rowsOf, pointOf, rows-placed, row-at, row-key}
