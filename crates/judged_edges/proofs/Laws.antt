@@ -17,7 +17,8 @@ use Rattle.folds.specs.Lists.{listed, listed-length, listed-ext}
 use Rattle.folds.specs.Column.{column, column-at}
 use Rattle.folds.specs.Marked.{Marked, marked-as}
 use Rattle.float.specs.Constants.{overlongRatio, globalOverlongRatio}
-use Rattle.median.specs.Median.{medianOf, over-median-of}
+use Rattle.median.specs.Median.{medianOf}
+use Rattle.median.proofs.Median.{over-median-of}
 use Rattle.median.specs.Packed.{positives}
 use Rattle.view.specs.View.{View, maxPoints, viewAt, own, rankAt, present}
 use Rattle.edges.specs.Edges.{Edge, edgeAt, side, edgesOf, edgePlace}

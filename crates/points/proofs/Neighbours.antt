@@ -12,8 +12,9 @@ use borrow.Author.Tests.{eq-eqb, ne-eqb}
 use Rattle.folds.specs.Among.{pairIn, pair-yes, pair-no, pair-order}
 use Rattle.folds.specs.Below.{some, some-at, some-fails, not-false}
 use Rattle.folds.specs.Lists.{listOf}
-use Rattle.sort.specs.Sorted.{sort-perm}
-use Rattle.sort.specs.Packed.{placed, placed-key, placed-rises, things-in-order}
+use Rattle.sort.proofs.Sorted.{sort-perm}
+use Rattle.sort.specs.Packed.{placed}
+use Rattle.sort.proofs.Packed.{placed-key, placed-rises, things-in-order}
 
 pub eqb-swap : (a b : ℕ) → eqb a b ≡ eqb b a
 eqb-swap a b = go (ℕ-discrete a b)

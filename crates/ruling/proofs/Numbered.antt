@@ -8,7 +8,8 @@ use lib.ListN.{length-map, List·getD-map}
 use Rattle.folds.specs.Among.{anyIn, pairIn, any-list, pair-ext}
 use Rattle.folds.specs.Below.{some-ext}
 use Rattle.folds.specs.Lists.{All, listOf, length-list, list-at, is-list}
-use Rattle.sort.specs.Sorted.{sort, at-all, Agree, sort-map}
+use Rattle.sort.specs.Sorted.{sort}
+use Rattle.sort.proofs.Sorted.{at-all, Agree, sort-map}
 
 module _ {A B : Type 0} (g : A → B) where
   any-map : (t : B → Bool) (l : List A) → anyIn t (map g l) ≡ anyIn (λ (i : A). t (g i)) l

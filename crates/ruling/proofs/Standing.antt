@@ -16,7 +16,8 @@ use Rattle.view.specs.View.{maxPoints}
 use Rattle.refusals.proofs.Laws.{holds, none-applies-in}
 use Rattle.cells.specs.Points.{Point, nowhere, keyOf}
 use Rattle.cells.specs.Cell.{cellOf, before, key-order}
-use Rattle.sort.specs.Sorted.{sort, At, all-at, at-all, Rises, sort-perm, sort-length, sort-all, sort-rises, Ordered, by-key, order-free}
+use Rattle.sort.specs.Sorted.{sort, Rises}
+use Rattle.sort.proofs.Sorted.{At, all-at, at-all, sort-perm, sort-length, sort-all, sort-rises, Ordered, by-key, order-free}
 use Rattle.grid.specs.InOrder.{CellOrder}
 use Rattle.sheet_file.specs.Bytes.{Bytes}
 use Rattle.sheet_file.specs.Frame.{framingOf, layoutOf}
