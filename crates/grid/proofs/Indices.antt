@@ -17,7 +17,8 @@ use Rattle.folds.specs.Lists.{listOf, length-list}
 use Rattle.folds.specs.Column.{column}
 use Rattle.view.specs.View.{maxPoints, ranksSize, indicesAt}
 use Rattle.sort.specs.Numbers.{sorted}
-use Rattle.sort.specs.Packed.{packed, inOrder, inOrder-length, placed, placed-below, placed-is, place-of, placed-rises}
+use Rattle.sort.specs.Packed.{packed, inOrder, placed}
+use Rattle.sort.proofs.Packed.{inOrder-length, placed-below, placed-is, place-of, placed-rises}
 use Rattle.grid.specs.Tables.{entryIn, lastWithIndex, spliced}
 use Rattle.grid.specs.Sweep.{rankRoom}
 use Rattle.grid.proofs.Splicing.{is-spliced}

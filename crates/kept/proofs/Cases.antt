@@ -21,7 +21,7 @@ use Rattle.ruling.specs.declared.Sheet.{Sheet}
 use Rattle.rows.specs.Rows.{rowByte}
 use Rattle.kept.specs.Marks.{countIn}
 use Rattle.kept.specs.Answer.{shownOf, answerOf, rowsAfter}
-use Rattle.kept.specs.Arrays.{sheetView, arrays-ready, rows-fit}
+use Rattle.kept.proofs.Arrays.{sheetView, arrays-ready, rows-fit}
 use Rattle.kept.specs.Ready.{Taken, Written, shownBy}
 use Rattle.kept.specs.declared.Answer.{Answer}
 use Rattle.kept.specs.declared.Answer.the-variants.{Refused, Accepted}

@@ -8,7 +8,8 @@ use lib.Ieee.{binary32, ofBits}
 use lib.ListN.{getD, replicate}
 use Rattle.folds.specs.Below.{fold, tally, first, firstIn}
 use Rattle.folds.specs.Lists.{listOf, upFrom}
-use Rattle.cells.specs.Cell.{Cell, cellAt}
+use Rattle.cells.specs.Cell.{Cell}
+use Rattle.cells.proofs.Edges.{cellAt}
 use Rattle.judged.specs.Shown.{shownAt}
 use Rattle.judged.specs.declared.Judged.{Judged}
 use Rattle.marks.specs.Byte.{firstMark}

@@ -139,7 +139,7 @@ module _ (n k : ℕ) (inside : k < n) where
     next-other : (f : ℕ) → f < filterCount → eqb (g .filter) f ≡ false → hasMark f (getD next k 0) ≡ hasMark f (getD marks k 0)
     next-other f h e = rw (after-one (g .filter) (g .marks marks) marks) (turned-other (getD marks k 0) (g .filter) small listed (g .marks marks k) f h e)
 
-    next-zero : eqb (getD next k 0) 0 ≡ not (g .marks marks k) && eqb (getD marks k 0) 0
+    pub next-zero : eqb (getD next k 0) 0 ≡ not (g .marks marks k) && eqb (getD marks k 0) 0
     next-zero = rw (after-one (g .filter) (g .marks marks) marks) (turned-zero (getD marks k 0) (g .filter) small listed (g .marks marks k))
 
   -- a byte stays one

@@ -9,7 +9,8 @@ use Rattle.folds.specs.Below.{some}
 use Rattle.folds.specs.Lists.{upFrom, listOf}
 use Rattle.folds.specs.Column.{column}
 use Rattle.view.specs.View.{View}
-use Rattle.cells.specs.Cell.{Cell, cellAt}
+use Rattle.cells.specs.Cell.{Cell}
+use Rattle.cells.proofs.Edges.{cellAt}
 use Rattle.patches.specs.Boxes.{boundaryAmong}
 
 sheet : List ℕ → View

@@ -14,7 +14,8 @@ use Rattle.view.specs.View.{maxPoints}
 use Rattle.cells.specs.Points.{Point, nowhere, keyOf, keysOf, indicesOf, xsOf, ysOf}
 use Rattle.sheet_file.specs.Limit.{outside}
 use Rattle.sheet_file.specs.Refusals.{floatAt}
-use Rattle.sort.specs.Packed.{placed, things-in-order}
+use Rattle.sort.specs.Packed.{placed}
+use Rattle.sort.proofs.Packed.{things-in-order}
 use Rattle.points.specs.Records.{ithPoint, pointsIn}
 use Rattle.points.specs.Refusals.{offLimit, cellOrder}
 use Rattle.points.specs.Entries.{ithKey, entriesOf, entryPoint}

@@ -10,7 +10,8 @@ use Rattle.folds.specs.Column.{column, column-at}
 use Rattle.folds.specs.Lists.{listOf, length-list, is-list}
 use Rattle.view.specs.View.{maxPoints}
 use Rattle.sort.specs.Numbers.{sorted}
-use Rattle.sort.specs.Packed.{packed, inOrder, inOrder-length, placed-below, placed-key}
+use Rattle.sort.specs.Packed.{packed, inOrder}
+use Rattle.sort.proofs.Packed.{inOrder-length, placed-below, placed-key}
 use Rattle.points.specs.Entries.{keyBy, ithKey, packedOf, entriesOf, entryPoint, Placed}
 
 module _ (file : List ℕ) (at n : ℕ) (b : Bool) (few : n ≤ maxPoints) where

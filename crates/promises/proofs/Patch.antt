@@ -24,7 +24,8 @@ use Rattle.patches.specs.Search.{Fit}
 use Rattle.patches.proofs.Surviving.{survives-lt}
 use Rattle.patches.proofs.Closure.{reach-to}
 use Rattle.patches.proofs.Labelling.{joins}
-use Rattle.patches.proofs.Agreeing.{square-paired, square-fit}
+use Rattle.patches.proofs.Lattices.{square-paired}
+use Rattle.patches.proofs.Agreeing.{square-fit}
 use Rattle.components.specs.Components.{winnerOf, inPatch, isOther, countOf, filterOf}
 use Rattle.components.specs.Kept.{Kept, Counted}
 use Rattle.components.proofs.Whole.{kept, counted}

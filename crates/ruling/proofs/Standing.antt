@@ -15,7 +15,8 @@ use Rattle.folds.specs.Lists.{All, listOf, length-list, list-at, is-list}
 use Rattle.view.specs.View.{maxPoints}
 use Rattle.refusals.proofs.Laws.{holds, none-applies-in}
 use Rattle.cells.specs.Points.{Point, nowhere, keyOf}
-use Rattle.cells.specs.Cell.{cellOf, before, key-order}
+use Rattle.cells.specs.Cell.{cellOf, before}
+use Rattle.cells.proofs.Keys.{key-order}
 use Rattle.sort.specs.Sorted.{sort, Rises}
 use Rattle.sort.proofs.Sorted.{At, all-at, at-all, sort-perm, sort-length, sort-all, sort-rises, Ordered, by-key, order-free}
 use Rattle.grid.specs.InOrder.{CellOrder}
