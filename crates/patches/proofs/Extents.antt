@@ -6,11 +6,11 @@ use Prim.Native.Nat.{ℕ, suc, _-_, _/_, _%_, _≤_, _<_}
 use native.Mathlib.Omega.{arith}
 use borrow.Author.Tests.{lt-ltb, le-ltb, ltb-true, ltb-false}
 use lib.Dec.{eqb, ltb}
-use lib.IntN.{ℤ, pos, negsuc, _-ℤ_}
+use lib.IntN.{pos, negsuc, _-ℤ_}
 use lib.Signed.{ltZ}
 use lib.ListN.{getD}
 use Rattle.folds.specs.Below.{fold, turn, some, some-ext, and-under, both-ways}
-use Rattle.folds.specs.Column.{column, column-at}
+use Rattle.folds.specs.Column.{column-at}
 use Rattle.folds.specs.Marked.{bit}
 use Rattle.folds.specs.Scattered.{larger, fold-above}
 use Rattle.view.specs.View.{maxPoints}

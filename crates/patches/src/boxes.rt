@@ -2,7 +2,7 @@
 ghost use mathlib.Core.Path.{_≡_};
 ghost use mathlib.Core.Bool.{cond, _&&_, _||_};
 ghost use mathlib.Core.List.{List, []};
-ghost use Prim.Native.Nat.{ℕ, _≤_, _<_, _^_};
+ghost use Prim.Native.Nat.{_≤_, _<_, _^_};
 ghost use lib.Dec.{ltb};
 ghost use lib.Ieee.{Float};
 ghost use Rattle.folds.specs.Marked.{bit};
