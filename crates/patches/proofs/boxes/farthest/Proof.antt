@@ -5,7 +5,7 @@ use native.Mathlib.Omega.{arith}
 use borrow.Author.Needs.{needs}
 use lib.ListN.{getD}
 use Rattle.folds.specs.Scattered.{larger}
-use Rattle.patches.specs.Boxes.{extent}
+use Rattle.patches.specs.Extents.{extent}
 use Rattle.patches.proofs.Gathering.{AtLabels, labels-none, labels-put, labels-skip, labels-column}
 use Rattle.patches.proofs.boxes.farthest.Statement.{statement}
 use Rattle.patches.proofs.boxes.farthest.Tie as tie
