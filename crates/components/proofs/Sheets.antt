@@ -13,7 +13,7 @@ use Rattle.view.specs.View.{View, squareSides}
 use Rattle.marks.specs.Marks.{indexMarks}
 use Rattle.patches.specs.Patches.{testTable, via, labelsBy, labelsOf, patchLabels}
 use Rattle.patches.proofs.Lattices.{hexSides}
-use Rattle.components.specs.Components.{patchCount, sizesOf, largestAt, winnerOf, outsideBy, outsideOf, componentCount, componentMark}
+use Rattle.components.specs.Components.{patchCount, sizesOf, largestAt, winnerOf, othersBy, othersOf, componentCount, componentMark}
 
 -- the view of cells in order, u and v from 2 on, with the place of each cell's index: entry 25 * k + d is the place of the cell at offset d
 unfoldable sheet : List ℕ → List ℕ → List ℕ → View
@@ -31,13 +31,13 @@ sheet us vs places = record {
 -- index 7 at cells (0, 0) and (5, 5): two patches, and both points marked
 empty-kept : (componentCount (sheet (2 ∷ 7 ∷ []) (2 ∷ 7 ∷ []) (1 ∷ 1 ∷ [])) squareSides [] ≡ 2)
     × (take 2 (componentMark (sheet (2 ∷ 7 ∷ []) (2 ∷ 7 ∷ []) (1 ∷ 1 ∷ [])) squareSides []) ≡ 1 ∷ 1 ∷ [])
-unfolding sheet first firstIn listOf upFrom some tally column testTable via labelsBy labelsOf patchCount sizesOf largestAt winnerOf outsideBy outsideOf indexMarks
+unfolding sheet first firstIn listOf upFrom some tally column testTable via labelsBy labelsOf patchCount sizesOf largestAt winnerOf othersBy othersOf indexMarks
 empty-kept = (refl, refl)
 
 -- indices 1, 2, 3 at cells (0, 0), (1, 0), (2, 0), and 2 again at (9, 9): 1 and 3 are left
 pieces-kept : (take 4 (patchLabels (sheet (2 ∷ 3 ∷ 4 ∷ 11 ∷ []) (2 ∷ 2 ∷ 2 ∷ 11 ∷ []) (0 ∷ 3 ∷ 2 ∷ 3 ∷ [])) squareSides []) ≡ 0 ∷ 0 ∷ 0 ∷ 3 ∷ [])
     × (take 4 (componentMark (sheet (2 ∷ 3 ∷ 4 ∷ 11 ∷ []) (2 ∷ 2 ∷ 2 ∷ 11 ∷ []) (0 ∷ 3 ∷ 2 ∷ 3 ∷ [])) squareSides []) ≡ 0 ∷ 1 ∷ 0 ∷ 1 ∷ [])
-unfolding sheet first firstIn listOf upFrom some tally column testTable via labelsBy labelsOf patchCount sizesOf largestAt winnerOf outsideBy outsideOf indexMarks
+unfolding sheet first firstIn listOf upFrom some tally column testTable via labelsBy labelsOf patchCount sizesOf largestAt winnerOf othersBy othersOf indexMarks
 pieces-kept = (refl, refl)
 
 -- "points 5 components 2": (0, 0), (0, 1), (1, 0), (1, 1) and (5, 5); with (0, 0) dropped, three are kept; with (0, 1) and (1, 0) dropped the
@@ -46,7 +46,7 @@ five-kept : (componentCount (sheet (2 ∷ 2 ∷ 3 ∷ 3 ∷ 7 ∷ []) (2 ∷ 3 �
     × (take 5 (componentMark (sheet (2 ∷ 2 ∷ 3 ∷ 3 ∷ 7 ∷ []) (2 ∷ 3 ∷ 2 ∷ 3 ∷ 7 ∷ []) (0 ∷ 1 ∷ 2 ∷ 3 ∷ 4 ∷ [])) squareSides []) ≡ 0 ∷ 0 ∷ 0 ∷ 0 ∷ 1 ∷ [])
     × (take 5 (componentMark (sheet (2 ∷ 2 ∷ 3 ∷ 3 ∷ 7 ∷ []) (2 ∷ 3 ∷ 2 ∷ 3 ∷ 7 ∷ []) (0 ∷ 1 ∷ 2 ∷ 3 ∷ 4 ∷ [])) squareSides (1 ∷ [])) ≡ 0 ∷ 0 ∷ 0 ∷ 0 ∷ 1 ∷ [])
     × (take 5 (componentMark (sheet (2 ∷ 2 ∷ 3 ∷ 3 ∷ 7 ∷ []) (2 ∷ 3 ∷ 2 ∷ 3 ∷ 7 ∷ []) (0 ∷ 1 ∷ 2 ∷ 3 ∷ 4 ∷ [])) squareSides (0 ∷ 1 ∷ 1 ∷ [])) ≡ 0 ∷ 0 ∷ 0 ∷ 1 ∷ 1 ∷ [])
-unfolding sheet first firstIn listOf upFrom some tally column testTable via labelsBy labelsOf patchCount sizesOf largestAt winnerOf outsideBy outsideOf indexMarks
+unfolding sheet first firstIn listOf upFrom some tally column testTable via labelsBy labelsOf patchCount sizesOf largestAt winnerOf othersBy othersOf indexMarks
 five-kept = (refl, refl, refl, refl)
 
 -- cells (0, 1) and (1, 0) share an edge on the honeycomb, not on the square lattice

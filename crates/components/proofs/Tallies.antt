@@ -6,12 +6,12 @@ use Prim.Native.Nat.{ℕ, zero, suc, _+_, _≤_}
 use native.Mathlib.Numerals.{add-one}
 use native.Mathlib.Omega.{arith}
 use lib.Dec.{eqb, ltb}
-use lib.ListN.{getD, replicate}
+use lib.ListN.{getD}
 use Rattle.folds.specs.Below.{fold, turn, tally}
 use Rattle.folds.specs.Column.{column-ext}
-use Rattle.folds.specs.Scattered.{Scattered, oneMore, fold-tally}
+use Rattle.folds.specs.Scattered.{oneMore, fold-tally}
 use Rattle.view.specs.View.{maxPoints}
-use Rattle.patches.proofs.Gathering.{labelled, labels-column}
+use Rattle.patches.proofs.Gathering.{AtLabels, labels-column}
 use Rattle.components.specs.Components.{sizesOf, largestAt}
 
 pub largest-none : (l : List ℕ) → largestAt l 0 ≡ 0
@@ -31,9 +31,9 @@ largest-le l (suc i) = go (ltb (getD l (largestAt l i) 0) (getD l i 0)) (largest
     go true h = omega arith
     go false h = omega arith
 
-pub sizes-are : (labels : List ℕ) (n : ℕ) (a : List ℕ) → n ≤ maxPoints → Scattered 0 (λ (i : ℕ). getD labels i 0) (labelled n labels) oneMore (replicate maxPoints 0) n a → a ≡ sizesOf n labels
+pub sizes-are : (labels : List ℕ) (n : ℕ) (a : List ℕ) → n ≤ maxPoints → AtLabels labels n oneMore n a → a ≡ sizesOf n labels
 unfolding sizesOf
 sizes-are labels n a few t =
-    labels-column labels oneMore n a few t
+    labels-column labels n oneMore a few t
     ∙ column-ext maxPoints 0 n (λ (s : ℕ). fold (turn (λ (k : ℕ). eqb (getD labels k 0) s) oneMore) 0 n) (λ (s : ℕ). tally (λ (k : ℕ). eqb (getD labels k 0) s) n)
     (λ s h. omega (arith, fold-tally (λ (k : ℕ). eqb (getD labels k 0) s) 0 n))

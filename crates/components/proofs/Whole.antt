@@ -6,7 +6,7 @@ use mathlib.Core.Bool.{Bool, true, false, cond, false≢true, true≢false}
 use mathlib.Core.Logic.{_⊎_, inl, inr, ⊎-elim}
 use mathlib.Core.List.{List}
 use Prim.{yes, no}
-use Prim.Native.Nat.{ℕ, zero, suc, _+_, _-_, _≤_, _<_}
+use Prim.Native.Nat.{ℕ, zero, suc, _+_, _≤_, _<_}
 use native.Mathlib.Decide.{decLt}
 use native.Mathlib.Nat.{eq-or-lt-of-le}
 use native.Mathlib.Omega.{arith}
@@ -105,7 +105,11 @@ module _ (n : ℕ) (near : ℕ → ℕ) (sides dropped : List ℕ) where
 
     -- a survivor's patch is what has its label
     patch-in : (a k : ℕ) → alive a ≡ true → inPatch n labels (label a) k ≡ true → Reach alive link a k
-    patch-in a k e t = let w = patch-of (label a) k t in same-label n near sides dropped offsets pairs mirror a k e (label-lives n near sides dropped k (w .0) (omega (arith, w .1, label-le n near sides dropped a e, survives-lt n dropped a e))) .0 (sym (w .1))
+    patch-in a k e t =
+        let w = patch-of (label a) k t in
+        let low = label-le n near sides dropped a e in
+        let b = label-lives n near sides dropped k (w .0) (omega (arith, w .1, low, survives-lt n dropped a e)) in
+        same-label n near sides dropped offsets pairs mirror a k e b .0 (sym (w .1))
 
     patch-out : (a k : ℕ) → alive a ≡ true → Reach alive link a k → inPatch n labels (label a) k ≡ true
     patch-out a k e r = let b = reach-to n alive link (joins n near sides dropped) r in patch-is (label a) k b (sym (same-label n near sides dropped offsets pairs mirror a k e b .1 r))

@@ -33,32 +33,32 @@ unfoldable pub winnerOf : ℕ → List ℕ → ℕ
 unfolding sizesOf largestAt
 winnerOf n labels = largestAt (sizesOf n labels) n
 
--- rank k is in the patch labelled w
+-- rank k is in the patch labelled s
 abbrev pub inPatch : ℕ → List ℕ → ℕ → ℕ → Bool
-inPatch n labels w k = ltb k n && eqb (getD labels k 0) w
+inPatch n labels s k = ltb k n && eqb (getD labels k 0) s
 
--- rank k survives and is in another patch than the winner w
-abbrev pub isOutside : ℕ → List ℕ → ℕ → ℕ → Bool
-isOutside n labels w k = ltb (getD labels k 0) n && not (eqb (getD labels k 0) w)
+-- rank k survives and is in another patch than the winner
+abbrev pub inOtherPatch : ℕ → List ℕ → ℕ → ℕ → Bool
+inOtherPatch n labels win k = ltb (getD labels k 0) n && not (eqb (getD labels k 0) win)
 
-unfoldable pub outsideBy : ℕ → List ℕ → ℕ → List ℕ
+unfoldable pub othersBy : ℕ → List ℕ → ℕ → List ℕ
 unfolding column
-outsideBy n labels w = column maxPoints 0 n (λ (k : ℕ). bit (isOutside n labels w k))
+othersBy n labels win = column maxPoints 0 n (λ (k : ℕ). bit (inOtherPatch n labels win k))
 
-unfoldable pub outsideOf : ℕ → List ℕ → List ℕ
-unfolding outsideBy winnerOf
-outsideOf n labels = outsideBy n labels (winnerOf n labels)
+unfoldable pub othersOf : ℕ → List ℕ → List ℕ
+unfolding othersBy winnerOf
+othersOf n labels = othersBy n labels (winnerOf n labels)
 
 -- ---- the component mark
 
 -- "dropping component cells by cell where the Rust drops indices" is the error that this rules out
 abbrev pub componentMark : View → List ℕ → List ℕ → List ℕ
-componentMark w sides dropped = indexMarks w (outsideOf (w .count) (patchLabels w sides dropped))
+componentMark w sides dropped = indexMarks w (othersOf (w .count) (patchLabels w sides dropped))
 
 abbrev pub componentCount : View → List ℕ → List ℕ → ℕ
 componentCount w sides dropped = patchCount (w .count) (patchLabels w sides dropped)
 
 -- what the filter hands back
 unfoldable pub filterOf : View → List ℕ → List ℕ → ComponentFilter
-unfolding labelsOf patchCount outsideOf indexMarks
+unfolding labelsOf patchCount othersOf indexMarks
 filterOf w sides dropped = record { marks = componentMark w sides dropped; «components_seen» = componentCount w sides dropped }

@@ -8,7 +8,7 @@ ghost use lib.Ieee.{Float};
 ghost use Rattle.folds.specs.Marked.{bit};
 ghost use Rattle.view.specs.View.{maxPoints, viewAt, Ranked};
 ghost use Rattle.patches.specs.Search.{Offsets};
-ghost use Rattle.components.specs.Components.{patchCount, sizesOf, largestAt, winnerOf, outsideBy, filterOf};
+ghost use Rattle.components.specs.Components.{patchCount, sizesOf, largestAt, winnerOf, othersBy, filterOf};
 use view::MAX_POINTS;
 use view::RANKS_SIZE;
 
@@ -78,28 +78,28 @@ fn winner(label: &[u16; MAX_POINTS], n: usize) -> usize
     largest(&size, n)
 }
 
-// 1 for a label below n that is not w.
-fn outside(v: usize, n: usize, w: usize) -> u8
-    ensures { λ r. ⌜ r ≡ bit (ltb v n && not (eqb v w)) ⌝ }
+// 1 for a label below n that is not the winner.
+fn other(v: usize, n: usize, win: usize) -> u8
+    ensures { λ r. ⌜ r ≡ bit (ltb v n && not (eqb v win)) ⌝ }
 {
     if n <= v {
         return 0;
     }
-    if v == w {
+    if v == win {
         return 0;
     }
     1
 }
 
-// 1 for each rank that survives and is in another patch than w.
-fn outsiders(label: &[u16; MAX_POINTS], n: usize, w: usize) -> [u8; MAX_POINTS]
+// 1 for each rank that survives and is in another patch than the winner.
+fn others(label: &[u16; MAX_POINTS], n: usize, win: usize) -> [u8; MAX_POINTS]
     requires { ⌜ n ≤ maxPoints ⌝ }
-    ensures { λ r. ⌜ r ≡ outsideBy n (now (label .entry)) w ⌝ }
+    ensures { λ r. ⌜ r ≡ othersBy n (now (label .entry)) win ⌝ }
 {
     let mut out = [0u8; MAX_POINTS];
     let mut i: usize = 0;
     while i < n {
-        out[i] = outside(view::wide(label[i]), n, w);
+        out[i] = other(view::wide(label[i]), n, win);
         i += 1;
     }
     out
@@ -124,8 +124,8 @@ pub fn largest_component_filter(
     ensures { λ r. ⌜ ((xs ys : List Float) → r ≡ filterOf (viewAt n (now (ranks .entry)) xs ys) (now (sides .entry)) (now (dropped .entry))) ⌝ }
 {
     let label = patches::labels(ranks, dropped, sides, n);
-    let w = winner(&label, n);
-    let out = outsiders(&label, n, w);
+    let win = winner(&label, n);
+    let out = others(&label, n, win);
     ComponentFilter {
         marks: marks::by_index(ranks, &out, n),
         components_seen: count(&label, n),

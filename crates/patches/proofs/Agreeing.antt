@@ -8,7 +8,7 @@ use native.Mathlib.Nat.{le-antisymm}
 use borrow.Author.Tests.{eqb-true}
 use lib.Dec.{eqb}
 use lib.ListN.{length, getD}
-use Rattle.folds.specs.Below.{some, some-at, every, every-at, and-under, both-ways}
+use Rattle.folds.specs.Below.{some, some-at, every-at, and-under, both-ways}
 use Rattle.patches.specs.Patches.{survives, touches, linked, via, labelsBy, labelsOf}
 use Rattle.patches.specs.Reach.{Reach, here, step, Mirrored, paired}
 use Rattle.patches.specs.Search.{Offsets}
@@ -41,7 +41,7 @@ module _ (n : ℕ) (near : ℕ → ℕ) (sides dropped : List ℕ) where
         link-by n near sides dropped b a q p (j .0) (j .1)
         (ap (λ (d : ℕ). near (25 * b + d)) f ∙ mirror .back a b (getD sides (w .0) 0) (survives-lt n dropped a p) (survives-lt n dropped b q) (offsets (w .0) (w .1)) (w .2))
 
-    pub reach-back : {a b : ℕ} → Reach alive link a b → Reach alive link b a
+    reach-back : {a b : ℕ} → Reach alive link a b → Reach alive link b a
     reach-back (here e) = here e
     reach-back {b = c} (step {b} r e) = reach-trans (step (here (link-to n near sides dropped b c e)) (link-back b c e)) (reach-back r)
 

@@ -5,5 +5,5 @@ pub mod Labelling
 pub mod Agreeing
 pub mod Lattices
 pub mod Gathering
-pub mod Extents
-pub mod BoxSheets
+pub mod Outermost
+pub mod Sheets

@@ -23,7 +23,7 @@ use Rattle.patches.proofs.Surviving.{survives-lt, start-open, start-ali
 
 -- ---- the arrays
 
-pub marks-le : (m : List ℕ) → marksSet m ≤ length m
+marks-le : (m : List ℕ) → marksSet m ≤ length m
 unfolding marksSet
 marks-le [] = zero-le
 marks-le (zero ∷ l) = le-step (marks-le l)
@@ -57,7 +57,7 @@ at-entry P q t j p b h o y =
 
 module _ {s j : ℕ} {m l q : List ℕ} {t : ℕ} where
   -- no mark is lost
-  pub visit-kept : (k : ℕ) {m′ l′ q′ : List ℕ} {t′ : ℕ} → Visit s j m l q t m′ l′ q′ t′ → Visited m k → Visited m′ k
+  visit-kept : (k : ℕ) {m′ l′ q′ : List ℕ} {t′ : ℕ} → Visit s j m l q t m′ l′ q′ t′ → Visited m k → Visited m′ k
   visit-kept k (stays h) d y = d y
   visit-kept k (pushed b z) d y = elim (ℕ-discrete k j) [
     | yes f ↦ d (ap (λ (i : ℕ). getD m i 0) f ∙ z)
@@ -66,7 +66,7 @@ module _ {s j : ℕ} {m l q : List ℕ} {t : ℕ} where
 
   module _ (w : Worklist m l q t) where
     -- a rank is marked by a visit
-    pub visit-marks : {m′ l′ q′ : List ℕ} {t′ : ℕ} → Visit s j m l q t m′ l′ q′ t′ → j < maxPoints → Visited m′ j
+    visit-marks : {m′ l′ q′ : List ℕ} {t′ : ℕ} → Visit s j m l q t m′ l′ q′ t′ → j < maxPoints → Visited m′ j
     visit-marks (stays h) b y = h b y
     visit-marks (pushed b z) g y = omega (arith, getD-set-same m j 1 0 (omega (arith, b, w .marks)), y)
 

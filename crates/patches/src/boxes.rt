@@ -2,20 +2,21 @@
 ghost use mathlib.Core.Path.{_≡_};
 ghost use mathlib.Core.Bool.{cond, _&&_, _||_};
 ghost use mathlib.Core.List.{List, []};
-ghost use Prim.Native.Nat.{ℕ, _≤_, _<_, _^_};
+ghost use Prim.Native.Nat.{_≤_, _<_, _^_};
 ghost use lib.Dec.{ltb};
 ghost use lib.Ieee.{Float};
 ghost use Rattle.folds.specs.Marked.{bit};
 ghost use Rattle.view.specs.View.{maxPoints, viewAt, Ranked};
 ghost use Rattle.cells.specs.Cell.{cellsAt};
 ghost use Rattle.patches.specs.Search.{Offsets};
-ghost use Rattle.patches.specs.Boxes.{CellKeys, extent, farthestOf, atEnd, boundaryAmong, boundaryOf};
+ghost use Rattle.patches.specs.Boxes.{CellKeys, boundaryAmong, boundaryOf};
+ghost use Rattle.patches.specs.Extents.{extent, farthestOf, atEnd};
 use crate::labels;
 use view::MAX_POINTS;
 use view::RANKS_SIZE;
 
 // The greatest that a part of a cell's key can be.
-const FAR_END: u16 = 16383;
+const FAR_END: u16 = (cells::STRIDE - 1) as u16;
 
 // How far a cell lies to one of the four ways.
 fn extent_of(key: u32, way: usize) -> u16

@@ -9,13 +9,17 @@ ghost use Rattle.view.specs.View.{maxPoints, squareSides, viewAt};
 ghost use Rattle.patches.specs.Patches.{patchLabels};
 ghost use Rattle.patches.specs.Search.{Offsets, startMarks, unlabelled, Worklist, Visit, Advanced};
 use view::MAX_POINTS;
+use view::NEXT_U;
+use view::NEXT_V;
+use view::PREV_U;
+use view::PREV_V;
 use view::RANKS_SIZE;
 
 // The offsets of the square lattice: to u - 1, u + 1, v - 1 and v + 1.
 pub fn square_sides() -> [u8; 4]
     ensures { λ r. ⌜ r ≡ squareSides ⌝ }
 {
-    [7, 17, 11, 13]
+    [PREV_U as u8, NEXT_U as u8, PREV_V as u8, NEXT_V as u8]
 }
 
 fn offset(d: u8) -> usize

@@ -5,7 +5,7 @@ use mathlib.Core.List.{List, []}
 use Prim.Native.Nat.{ℕ}
 use borrow.Author.Needs.{needs}
 use lib.Dec.{eqb, ltb}
-use lib.ListN.{getD, replicate}
+use lib.ListN.{replicate}
 use Rattle.folds.specs.Lists.{past-end}
 use Rattle.folds.specs.Column.{replicate-at}
 use Rattle.view.specs.View.{maxPoints, viewAt}

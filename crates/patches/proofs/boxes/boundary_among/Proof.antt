@@ -9,7 +9,7 @@ use Rattle.cells.specs.Cell.{cellsAt}
 use Rattle.folds.specs.Column.{Filling, fill-start, fill-more, filled}
 use Rattle.folds.specs.Marked.{bit}
 use Rattle.patches.specs.Boxes.{onBoundary, boundaryAmong}
-use Rattle.patches.proofs.Extents.{boundary-is}
+use Rattle.patches.proofs.Outermost.{boundary-is}
 use Rattle.patches.proofs.boxes.boundary_among.Statement.{statement}
 use Rattle.patches.proofs.boxes.boundary_among.Tie as tie
 

@@ -3,7 +3,7 @@ use mathlib.Core.Path.{_≡_, refl, ap, _∙_}
 use Prim.Native.Nat.{ℕ, zero, suc, _-_, _%_}
 use borrow.Author.Needs.{needs}
 use Rattle.cells.specs.Points.{stride}
-use Rattle.patches.specs.Boxes.{farEnd, extent}
+use Rattle.patches.specs.Extents.{farEnd, extent}
 use Rattle.patches.proofs.boxes.extent_of.Statement.{statement}
 use Rattle.patches.proofs.boxes.extent_of.Tie as tie
 

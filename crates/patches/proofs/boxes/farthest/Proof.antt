@@ -3,23 +3,21 @@ use mathlib.Core.Path.{_≡_}
 use Prim.Native.Nat.{ℕ, _-_, _≤_, zero-le}
 use native.Mathlib.Omega.{arith}
 use borrow.Author.Needs.{needs}
-use borrow.Author.Tests.{lt-ltb, le-ltb}
-use lib.ListN.{getD, replicate, length-replicate}
-use Rattle.view.specs.View.{maxPoints}
-use Rattle.folds.specs.Scattered.{Scattered, larger, scattered-none, scattered-put, scattered-skip}
-use Rattle.patches.proofs.Gathering.{labelled, labels-column}
-use Rattle.patches.specs.Boxes.{extent}
+use lib.ListN.{getD}
+use Rattle.folds.specs.Scattered.{larger}
+use Rattle.patches.specs.Extents.{extent}
+use Rattle.patches.proofs.Gathering.{AtLabels, labels-none, labels-put, labels-skip, labels-column}
 use Rattle.patches.proofs.boxes.farthest.Statement.{statement}
 use Rattle.patches.proofs.boxes.farthest.Tie as tie
 
 abbrev Inv-loop : tie.InvT-loop
-Inv-loop keys label n way far₀ i₀ far i = (i ≤ n) × Scattered 0 (λ (i : ℕ). getD label i 0) (labelled n label) (larger (λ (k : ℕ). extent way (getD keys k 0))) (replicate maxPoints 0) i far
+Inv-loop keys label n way far₀ i₀ far i = (i ≤ n) × AtLabels label n (larger (λ (k : ℕ). extent way (getD keys k 0))) i far
 
 abbrev μ-loop : tie.MeasureT-loop
 μ-loop keys label n way far₀ i₀ far i = n - i
 
 loop-holds : tie.Need-loop-holds Inv-loop μ-loop
-loop-holds c = (zero-le, scattered-none _ _ _ _ _)
+loop-holds c = (zero-le, labels-none (c .args .label .now) (c .args .n) _)
 
 extent-of-requires : tie.Need-extent-of-requires Inv-loop μ-loop
 extent-of-requires c κs =
@@ -31,8 +29,8 @@ loop-again c =
     let w = c .before .before .before .before in
     let l = w .before .before .before in
     let a = l .before .args in
-    let put = scattered-put 0 (λ (i : ℕ). getD (a .label .now) i 0) (labelled (a .n) (a .label .now)) (larger (λ (k : ℕ). extent (a .way) (getD (a .keys .now) k 0))) (replicate maxPoints 0) (l .loop .i) (w .wide .result) (l .loop .far)
-    (omega (arith, length-replicate {A = ℕ} maxPoints 0)) (w .wide .ensures) (lt-ltb (getD (a .label .now) (l .loop .i) 0) (a .n) (omega (arith, c .before .if1 .taken, w .wide .ensures))) (l .loop .inv .1) in
+    let put = labels-put (a .label .now) (a .n) (larger (λ (k : ℕ). extent (a .way) (getD (a .keys .now) k 0))) (l .loop .i) (w .wide .result)
+    (l .before .pre .0) (w .wide .ensures) (c .before .if1 .taken) (l .loop .inv .1) in
     (omega arith, rw (c .larger-of .ensures, c .before .before .extent-of .ensures) put)
 
 loop-again-2 : tie.Need-loop-again-2 Inv-loop μ-loop
@@ -40,13 +38,13 @@ loop-again-2 c =
     let w = c .before .before .before in
     let l = w .before .before .before in
     let a = l .before .args in
-    (omega arith, scattered-skip _ _ _ _ _ (l .loop .i) _ (le-ltb (getD (a .label .now) (l .loop .i) 0) (a .n) (omega (arith, c .if1 .left, w .wide .ensures))) (l .loop .inv .1))
+    (omega arith, labels-skip (a .label .now) (a .n) _ (l .loop .i) (w .wide .result) (w .wide .ensures) (c .if1 .left) (l .loop .inv .1))
 
 returns : tie.Need-returns Inv-loop μ-loop
 returns c =
     let a = c .before .before .args in
     let e : c .before .loop .i ≡ a .n = omega arith in
-    labels-column (a .label .now) _ (a .n) _ (c .before .before .pre .0) (rw e at (c .before .loop .inv .1))
+    labels-column (a .label .now) (a .n) _ _ (c .before .before .pre .0) (rw e at (c .before .loop .inv .1))
 
 pub farthest-spec : {M : Type 1} → statement M
 farthest-spec =

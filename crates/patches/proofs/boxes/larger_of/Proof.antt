@@ -1,6 +1,5 @@
 -- `patches::boxes::larger_of` meets its contract. Assumes nothing.
 use mathlib.Core.Path.{refl}
-use Prim.Native.Nat.{_-_}
 use borrow.Author.Tests.{lt-ltb, le-ltb}
 use Rattle.patches.proofs.boxes.larger_of.Statement.{statement}
 use Rattle.patches.proofs.boxes.larger_of.Tie as tie

@@ -1,4 +1,4 @@
--- `components::outsiders` meets its contract. Assumes nothing.
+-- `components::others` meets its contract. Assumes nothing.
 use mathlib.Core.Path.{_≡_, ap, _∙_}
 use mathlib.Core.Bool.{not, _&&_}
 use Prim.Native.Nat.{ℕ, _-_, _≤_, zero-le}
@@ -9,15 +9,15 @@ use lib.ListN.{replicate, length-replicate}
 use Rattle.view.specs.View.{maxPoints}
 use Rattle.folds.specs.Column.{Filling, fill-start, fill-more, filled}
 use Rattle.folds.specs.Marked.{bit}
-use Rattle.components.specs.Components.{isOutside, outsideBy}
-use Rattle.components.proofs.outsiders.Statement.{statement}
-use Rattle.components.proofs.outsiders.Tie as tie
+use Rattle.components.specs.Components.{inOtherPatch, othersBy}
+use Rattle.components.proofs.others.Statement.{statement}
+use Rattle.components.proofs.others.Tie as tie
 
 abbrev Inv-loop : tie.InvT-loop
-Inv-loop label n w out₀ i₀ out i = (i ≤ n) × Filling (replicate maxPoints 0) 0 (λ (k : ℕ). bit (isOutside n label w k)) i out
+Inv-loop label n win out₀ i₀ out i = (i ≤ n) × Filling (replicate maxPoints 0) 0 (λ (k : ℕ). bit (inOtherPatch n label win k)) i out
 
 abbrev μ-loop : tie.MeasureT-loop
-μ-loop label n w out₀ i₀ out i = n - i
+μ-loop label n win out₀ i₀ out i = n - i
 
 loop-holds : tie.Need-loop-holds Inv-loop μ-loop
 loop-holds c = (zero-le, fill-start _ _ _)
@@ -26,14 +26,14 @@ loop-again : tie.Need-loop-again Inv-loop μ-loop
 loop-again c =
     let l = c .before .before .before .before in
     let a = l .before .args in
-    (omega arith, fill-more _ _ _ _ (omega (arith, length-replicate {A = ℕ} maxPoints 0)) (c .outside .ensures ∙ ap (λ (v : ℕ). bit (ltb v (a .n) && not (eqb v (a .w)))) (c .before .wide .ensures)) (l .loop .inv .1))
+    (omega arith, fill-more _ _ _ _ (omega (arith, length-replicate {A = ℕ} maxPoints 0)) (c .other .ensures ∙ ap (λ (v : ℕ). bit (ltb v (a .n) && not (eqb v (a .win)))) (c .before .wide .ensures)) (l .loop .inv .1))
 
 returns : tie.Need-returns Inv-loop μ-loop
-unfolding outsideBy
+unfolding othersBy
 returns c = let e : c .before .loop .i ≡ c .before .before .args .n = omega arith in filled _ (omega arith) (rw e at (c .before .loop .inv .1))
 
-pub outsiders-spec : {M : Type 1} → statement M
-outsiders-spec =
+pub others-spec : {M : Type 1} → statement M
+others-spec =
     tie.close
     (tie.spec Inv-loop μ-loop loop-holds (λ c. search needs) (λ c. search needs) (λ c κs. search needs) (λ c κs. search needs)
     (λ c. search needs) (λ c. search needs) (λ c. search needs) loop-again returns)

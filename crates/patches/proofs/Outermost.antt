@@ -6,17 +6,18 @@ use Prim.Native.Nat.{ℕ, suc, _-_, _/_, _%_, _≤_, _<_}
 use native.Mathlib.Omega.{arith}
 use borrow.Author.Tests.{lt-ltb, le-ltb, ltb-true, ltb-false}
 use lib.Dec.{eqb, ltb}
-use lib.IntN.{ℤ, pos, negsuc, _-ℤ_}
+use lib.IntN.{pos, negsuc, _-ℤ_}
 use lib.Signed.{ltZ}
 use lib.ListN.{getD}
 use Rattle.folds.specs.Below.{fold, turn, some, some-ext, and-under, both-ways}
-use Rattle.folds.specs.Column.{column, column-at}
+use Rattle.folds.specs.Column.{column-at}
 use Rattle.folds.specs.Marked.{bit}
 use Rattle.folds.specs.Scattered.{larger, fold-above}
 use Rattle.view.specs.View.{maxPoints}
 use Rattle.cells.specs.Points.{bias, stride}
 use Rattle.cells.specs.Cell.{Cell, cellsAt}
-use Rattle.patches.specs.Boxes.{onBoundary, CellKeys, farEnd, extent, farthestOf, atEnd}
+use Rattle.patches.specs.Boxes.{onBoundary, CellKeys}
+use Rattle.patches.specs.Extents.{farEnd, extent, farthestOf, atEnd}
 
 same-order : (x y a b : ℕ) → (x < y → a < b) → (a < b → x < y) → ltb x y ≡ ltb a b
 same-order x y a b f g = both-ways (ltb x y) (ltb a b) (λ e. lt-ltb a b (f (ltb-true x y e))) (λ e. lt-ltb x y (g (ltb-true a b e)))
