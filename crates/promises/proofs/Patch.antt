@@ -20,15 +20,15 @@ use Rattle.sheet_file.specs.declared.Settings.{Settings}
 use Rattle.marks.specs.Marks.{isSet}
 use Rattle.patches.specs.Patches.{survives, linked, patchLabels}
 use Rattle.patches.specs.Reach.{Reach, here, step, Mirrored}
-use Rattle.patches.specs.Search.{Fit}
+use Rattle.patches.specs.Search.{Offsets}
 use Rattle.patches.proofs.Surviving.{survives-lt}
 use Rattle.patches.proofs.Closure.{reach-to}
 use Rattle.patches.proofs.Labelling.{joins}
 use Rattle.patches.proofs.Lattices.{square-paired}
 use Rattle.patches.proofs.Agreeing.{square-fit}
-use Rattle.components.specs.Components.{winnerOf, inPatch, isOther, countOf, filterOf}
-use Rattle.components.specs.Kept.{Kept, Counted}
-use Rattle.components.proofs.Whole.{kept, counted}
+use Rattle.components.specs.Components.{winnerOf, inPatch, inOtherPatch, patchCount, filterOf}
+use Rattle.components.specs.WholePatches.{KeptPatch, PatchesCounted}
+use Rattle.components.proofs.Whole.{winner-kept, labels-counted}
 use Rattle.components.proofs.Marking.{mark-distinct, other-not}
 use Rattle.drop_set.specs.Filters.{sidesOf, componentMarked, componentsIn, patchedOf, measuredOf, judgedOf}
 use Rattle.judging.specs.Judging.{judgedFor}
@@ -43,10 +43,10 @@ and-assoc : (a b c : Bool) → a && (b && c) ≡ (a && b) && c
 and-assoc true b c = refl
 and-assoc false b c = refl
 
-same-kept : {alive alive′ : ℕ → Bool} {link link′ : ℕ → ℕ → Bool} {K K′ : ℕ → Bool} (n : ℕ) → alive ≡ alive′ → link ≡ link′ → K ≡ K′ → Kept alive′ link′ n K′ → Kept alive link n K
+same-kept : {alive alive′ : ℕ → Bool} {link link′ : ℕ → ℕ → Bool} {K K′ : ℕ → Bool} (n : ℕ) → alive ≡ alive′ → link ≡ link′ → K ≡ K′ → KeptPatch alive′ link′ n K′ → KeptPatch alive link n K
 same-kept n a l k x = rw (a, l, k) x
 
-same-counted : {alive alive′ : ℕ → Bool} {link link′ : ℕ → ℕ → Bool} {roots : ℕ → Bool} {patch : ℕ → ℕ → Bool} (n : ℕ) → alive ≡ alive′ → link ≡ link′ → Counted alive′ link′ n roots patch → Counted alive link n roots patch
+same-counted : {alive alive′ : ℕ → Bool} {link link′ : ℕ → ℕ → Bool} {roots : ℕ → Bool} {patch : ℕ → ℕ → Bool} (n : ℕ) → alive ≡ alive′ → link ≡ link′ → PatchesCounted alive′ link′ n roots patch → PatchesCounted alive link n roots patch
 same-counted n a l x = rw (a, l) x
 
 module _ (s : Settings) (ps : List Point) (o : CellOrder ps) where
@@ -75,8 +75,8 @@ module _ (s : Settings) (ps : List Point) (o : CellOrder ps) where
   unfolding viewOf
   few-points = o .few
 
-  fit : Fit (view .count) sides
-  fit = square-fit (view .count) sides few-points refl
+  offsets : Offsets sides
+  offsets = square-offsets sides refl
 
   within : (k : ℕ) → k < view .count → k < length ps
   unfolding viewOf
@@ -85,11 +85,11 @@ module _ (s : Settings) (ps : List Point) (o : CellOrder ps) where
   both-mirrored : Mirrored (view .count) (view .near)
   both-mirrored = record { back = λ k j d hk hj hd e. mirrored ps o k j d (within k hk) (within j hj) hd e }
 
-  largest : Kept alive link (view .count) (inPatch (view .count) labels win)
-  largest = kept (view .count) (view .near) sides drops fit square-paired both-mirrored
+  largest : KeptPatch alive link (view .count) (inPatch (view .count) labels win)
+  largest = winner-kept (view .count) (view .near) sides drops offsets square-paired both-mirrored
 
-  patches-counted : Counted alive link (view .count) (λ (k : ℕ). eqb (getD labels k 0) k) (inPatch (view .count) labels)
-  patches-counted = counted (view .count) (view .near) sides drops fit square-paired both-mirrored
+  patches-counted : PatchesCounted alive link (view .count) (λ (k : ℕ). eqb (getD labels k 0) k) (inPatch (view .count) labels)
+  patches-counted = labels-counted (view .count) (view .near) sides drops offsets square-paired both-mirrored
 
   survivors : (k : ℕ) → survivor s ps k ≡ alive k
   unfolding viewOf
@@ -100,7 +100,7 @@ module _ (s : Settings) (ps : List Point) (o : CellOrder ps) where
 
   steps : (a b : ℕ) → joined s ps a b ≡ link a b
   steps a b =
-      and-under (survivor s ps a) (λ e. and-under (survivor s ps b) (λ f. sym (touch-joined ps o sides (fit .offsets) a b (lives-below a e) (lives-below b f))))
+      and-under (survivor s ps a) (λ e. and-under (survivor s ps b) (λ f. sym (touch-joined ps o sides offsets a b (lives-below a e) (lives-below b f))))
       ∙ rw (survivors a, survivors b)
 
   -- a point of the winner survives
@@ -115,12 +115,12 @@ module _ (s : Settings) (ps : List Point) (o : CellOrder ps) where
       go false t = absurd (false≢true (sym (largest .none (dead t) k) ∙ e))
 
   module _ (one : DistinctIndices ps) (on : s .«apply_largest_component» ≡ true) where
-    component-is : (k : ℕ) → k < view .count → componentMarked s view drops k ≡ isOther (view .count) labels win k
+    component-is : (k : ℕ) → k < view .count → componentMarked s view drops k ≡ inOtherPatch (view .count) labels win k
     unfolding filterOf
     component-is k h =
         ap (λ (b : Bool). b && isSet (filterOf view sides drops .marks) k) on
         ∙ ap (λ (x : ℕ). eqb x 1) (mark-distinct view sides drops k h (λ j l e. one j k (within j l) (within k h) (one-index ps j k (within j l) (within k h) e)))
-        ∙ bit-is (isOther (view .count) labels win k)
+        ∙ bit-is (inOtherPatch (view .count) labels win k)
 
     -- no mark: a survivor in the winner
     kept-winner : (k : ℕ) → keptRank s ps k ≡ inPatch (view .count) labels win k
@@ -128,14 +128,14 @@ module _ (s : Settings) (ps : List Point) (o : CellOrder ps) where
     kept-winner k =
         kept-is s ps k
         ∙ and-under (ltb k (length ps)) (λ e. and-swap (not (componentMarked s view drops k)) (eqb (getD drops k 0) 0) ∙ ap (λ (b : Bool). eqb (getD drops k 0) 0 && not b) (component-is k (ltb-true k (length ps) e)))
-        ∙ and-assoc (ltb k (length ps)) (eqb (getD drops k 0) 0) (not (isOther (view .count) labels win k))
+        ∙ and-assoc (ltb k (length ps)) (eqb (getD drops k 0) 0) (not (inOtherPatch (view .count) labels win k))
         ∙ go (alive k) refl
       where
-        go : (b : Bool) → alive k ≡ b → b && not (isOther (view .count) labels win k) ≡ inPatch (view .count) labels win k
+        go : (b : Bool) → alive k ≡ b → b && not (inOtherPatch (view .count) labels win k) ≡ inPatch (view .count) labels win k
         go true e = ap not (other-not (view .count) (view .near) sides drops win k e) ∙ not-not (inPatch (view .count) labels win k)
         go false e = sym (not-true (inPatch (view .count) labels win k) (λ t. false≢true (sym e ∙ winner-lives k t)))
 
-    pub largest-kept : Kept (survivor s ps) (joined s ps) (length ps) (keptRank s ps)
+    pub largest-kept : KeptPatch (survivor s ps) (joined s ps) (length ps) (keptRank s ps)
     unfolding viewOf
     largest-kept = same-kept (length ps) (fun-ext survivors) (fun-ext (λ (a : ℕ). fun-ext (steps a))) (fun-ext kept-winner) largest
 
@@ -146,13 +146,13 @@ module _ (s : Settings) (ps : List Point) (o : CellOrder ps) where
   abbrev pub patchOf : ℕ → ℕ → Bool
   patchOf = inPatch (view .count) labels
 
-  pub all-counted : Counted (survivor s ps) (joined s ps) (length ps) roots patchOf
+  pub all-counted : PatchesCounted (survivor s ps) (joined s ps) (length ps) roots patchOf
   unfolding viewOf
   all-counted = same-counted (length ps) (fun-ext survivors) (fun-ext (λ (a : ℕ). fun-ext (steps a))) patches-counted
 
   pub count-on : s .«apply_largest_component» ≡ true → judgedFor s ps .components ≡ tally roots (length ps)
-  unfolding judgedFor judgedOf measuredOf patchedOf componentsIn filterOf countOf viewOf
-  count-on on = ap (λ (b : Bool). cond b (countOf (view .count) labels) 0) on
+  unfolding judgedFor judgedOf measuredOf patchedOf componentsIn filterOf patchCount viewOf
+  count-on on = ap (λ (b : Bool). cond b (patchCount (view .count) labels) 0) on
 
 pub count-off : (s : Settings) (ps : List Point) → s .«apply_largest_component» ≡ false → judgedFor s ps .components ≡ 0
 unfolding judgedFor judgedOf patchedOf componentsIn
@@ -188,7 +188,7 @@ module _ (s : Settings) (ps : List Point) where
           false≢true (ap not (sym (f k (ltb-true k (length ps) l))) ∙ and-right (ltb k (length ps)) (not (hasOther s ps k)) v)
 
   -- where there is a survivor, its patch or another is kept
-  pub all-marked : Kept (survivor s ps) (joined s ps) (length ps) (keptRank s ps) → ((k : ℕ) → keptRank s ps k ≡ false) → (k : ℕ) → k < length ps → hasOther s ps k ≡ true
+  pub all-marked : KeptPatch (survivor s ps) (joined s ps) (length ps) (keptRank s ps) → ((k : ℕ) → keptRank s ps k ≡ false) → (k : ℕ) → k < length ps → hasOther s ps k ≡ true
   all-marked most f k h =
       not-false (hasOther s ps k)
       (not-true (not (hasOther s ps k)) (λ t. let p = most .whole k (and-both (ltb k (length ps)) (not (hasOther s ps k)) (lt-ltb k (length ps) h) t) in false≢true (sym (f (p .seed)) ∙ p .outer (p .seed) (here (p .survives)))))

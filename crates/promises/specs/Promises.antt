@@ -66,7 +66,7 @@ kept-by-rows = kept-rows
 pub record LargestPatch (s : Settings) (ps : List Point) : Type 0 where
   pub empty : ((k : ℕ) → k < length ps → hasOther s ps k ≡ true) → (k : ℕ) → keptRank s ps k ≡ false
   pub empty-only : ((k : ℕ) → keptRank s ps k ≡ false) → (k : ℕ) → k < length ps → hasOther s ps k ≡ true
-  pub largest : Kept (survivor s ps) (joined s ps) (length ps) (keptRank s ps)
+  pub largest : KeptPatch (survivor s ps) (joined s ps) (length ps) (keptRank s ps)
   pub later : (W : ℕ → Bool) → WholePatch (survivor s ps) (joined s ps) W → tally W (length ps) ≡ tally (keptRank s ps) (length ps)
       → ((k : ℕ) → W k ≡ keptRank s ps k) ⊎ ((x y : ℕ) → Smallest W x → Smallest (keptRank s ps) y → before (cellOf (getD ps y nowhere)) (cellOf (getD ps x nowhere)) ≡ true)
 
@@ -88,7 +88,7 @@ pub record PatchCount (file : List ℕ) (room : ℕ) (s : Settings) (ps : List P
   pub first : ℕ → Bool
   pub patch : ℕ → ℕ → Bool
   pub answer : answerOf file room ≡ Accepted (record { points = length ps; components = tally first (length ps) })
-  pub each : Counted (survivor s ps) (joined s ps) (length ps) first patch
+  pub each : PatchesCounted (survivor s ps) (joined s ps) (length ps) first patch
 
 answer-is : (file : List ℕ) (room : ℕ) (s : Settings) (ps : List Point) → rulingOf file room ≡ accepted s ps → answerOf file room ≡ Accepted (record { points = length ps; components = judgedFor s ps .components })
 unfolding answerOf
