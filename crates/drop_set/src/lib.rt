@@ -17,6 +17,8 @@ ghost use Rattle.cells.specs.Cell.{cellsAt};
 ghost use Rattle.marks.specs.Filters.{validate as Validate, orientation as Orientation, wrong as Wrong};
 ghost use Rattle.marks.specs.Marks.{isSet};
 ghost use Rattle.marks.specs.Byte.{markedBy};
+ghost use Rattle.wrong_label_filters.specs.EdgesReady.{EdgesReady};
+ghost use Rattle.drop_set.specs.Given.{Celled, Joined};
 ghost use Rattle.drop_set.specs.Filters.{wrongMark, patchedOf, measuredOf, judgedOf};
 
 // The bytes of marks and how many patches the survivors have.
@@ -34,7 +36,7 @@ fn wrong_marks(
     edges: &[f32; EDGES_SIZE],
     n: usize,
 ) -> [u8; MAX_POINTS]
-    requires { ⌜ Edged n (now ranks) (now x) (now y) (now edges) ⌝ }
+    requires { ⌜ EdgesReady n (now ranks) (now x) (now y) (now edges) ⌝ }
     ensures { λ r. ⌜ r ≡ column maxPoints 0 n (λ (k : ℕ). bit (wrongMark s (viewAt n (now (ranks .entry)) (now (x .entry)) (now (y .entry))) k)) ⌝ }
 {
     if s.apply_wrong_label_drops {

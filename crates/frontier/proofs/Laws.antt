@@ -13,10 +13,10 @@ use lib.Seq.{getD-set-same, getD-set-other}
 use lib.Ieee.{Float, nan}
 use Rattle.folds.specs.Arith.{_⊖_}
 use Rattle.folds.specs.Below.{some, some-ext, some-no, some-one, last, last-none, last-more, and-false}
-use Rattle.folds.specs.Column.{column, column-at, replicate-at}
+use Rattle.folds.specs.Column.{replicate-at}
 use Rattle.folds.specs.Marked.{Marked, marked-as, marked-then}
 use Rattle.float.specs.Scalar.{normOf}
-use Rattle.view.specs.View.{View, maxPoints, rowsAt, columnsAt, viewAt, Ranked, rankAt, present, degreeAt, nextU, prevU, nextV, prevV}
+use Rattle.view.specs.View.{View, maxPoints, rowsAt, columnsAt, viewAt, Ranked, rankAt, degreeAt, nextU, prevU, nextV, prevV}
 use Rattle.marks.proofs.Guards.{guard, past}
 use Rattle.frontier.specs.Frontier.{kink, kinkAt, lastOf, endMark, frontierMark}
 use Rattle.frontier.specs.Lasts.{lineAt, lineMark, Lasts}

@@ -194,7 +194,11 @@ fn fails_at(
         let v = window_at(ranks, edges, n, way, k, own);
         if 5 <= v.count {
             return Verdict {
-                fails: fails_in(v, edges::unit_x(edges, way, k), edges::unit_y(edges, way, k)),
+                fails: fails_in(
+                    v,
+                    edges::unit_x(edges, way, k),
+                    edges::unit_y(edges, way, k),
+                ),
                 limit: limit,
             };
         }

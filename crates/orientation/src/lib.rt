@@ -106,7 +106,12 @@ fn mark_voters(
 }
 
 // The members of the side.
-fn members(ranks: &[u16; RANKS_SIZE], vote: &[u8; MAX_POINTS], n: usize, side: u8) -> [u8; MAX_POINTS]
+fn members(
+    ranks: &[u16; RANKS_SIZE],
+    vote: &[u8; MAX_POINTS],
+    n: usize,
+    side: u8,
+) -> [u8; MAX_POINTS]
     requires { ⌜ n ≤ maxPoints ⌝ }
     ensures { λ r. ⌜ r ≡ column maxPoints 0 n (λ (m : ℕ). bit (some (λ (k : ℕ). votersAt (viewAt n (now (ranks .entry)) [] []) (now (vote .entry)) side k m) n)) ⌝ }
 {

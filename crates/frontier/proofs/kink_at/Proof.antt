@@ -29,8 +29,14 @@ returns-4 c =
     let b = e .before .before in
     let a = b .before .before in
     let g = a .before .args in
-    rw (kink-is (g .n) (g .ranks .now) (g .x .now) (g .y .now) (g .inward) (g .k) _ _ _ (a .rank-at .ensures) (b .rank-at2 .ensures) (e .rank-at3 .ensures),
-    lt-ltb _ _ (b .before .if1 .left), lt-ltb _ _ (e .before .if2 .left), lt-ltb _ _ (c .before .before .if3 .left), ← c .before .degree-at .ensures, lt-leb _ _ (c .if4 .taken))
+    rw (
+      kink-is (g .n) (g .ranks .now) (g .x .now) (g .y .now) (g .inward) (g .k) _ _ _ (a .rank-at .ensures) (b .rank-at2 .ensures) (e .rank-at3 .ensures),
+      lt-ltb _ _ (b .before .if1 .left),
+      lt-ltb _ _ (e .before .if2 .left),
+      lt-ltb _ _ (c .before .before .if3 .left),
+      ← c .before .degree-at .ensures,
+      lt-leb _ _ (c .if4 .taken),
+    )
 
 returns-5 : tie.Need-returns-5
 returns-5 c =
@@ -39,9 +45,17 @@ returns-5 c =
     let b = e .before .before in
     let a = b .before .before in
     let g = a .before .args in
-    rw (kink-is (g .n) (g .ranks .now) (g .x .now) (g .y .now) (g .inward) (g .k) _ _ _ (a .rank-at .ensures) (b .rank-at2 .ensures) (e .rank-at3 .ensures),
-    lt-ltb _ _ (b .before .if1 .left), lt-ltb _ _ (e .before .if2 .left), lt-ltb _ _ (d .before .if3 .left), ← d .degree-at .ensures, le-leb _ _ (c .before .before .before .before .if4 .left),
-    ← c .before .before .before .distance .ensures, ← c .before .before .distance2 .ensures, ← c .before .distance3 .ensures) (c .has-kink .ensures)
+    rw (
+      kink-is (g .n) (g .ranks .now) (g .x .now) (g .y .now) (g .inward) (g .k) _ _ _ (a .rank-at .ensures) (b .rank-at2 .ensures) (e .rank-at3 .ensures),
+      lt-ltb _ _ (b .before .if1 .left),
+      lt-ltb _ _ (e .before .if2 .left),
+      lt-ltb _ _ (d .before .if3 .left),
+      ← d .degree-at .ensures,
+      le-leb _ _ (c .before .before .before .before .if4 .left),
+      ← c .before .before .before .distance .ensures,
+      ← c .before .before .distance2 .ensures,
+      ← c .before .distance3 .ensures,
+    ) (c .has-kink .ensures)
 
 pub kink-at-spec : {M : Type 1} → statement M
 kink-at-spec =

@@ -1,9 +1,7 @@
 use Prim.Native.Nat.{_<_}
-use mathlib.Core.Path.{_≡_, sym, _∙_}
-use mathlib.Core.List.{[]}
+use mathlib.Core.Path.{_≡_, _∙_}
 use native.Mathlib.Omega.{arith}
 use borrow.Author.Needs.{needs}
-use lib.ListN.{getD}
 use Rattle.view.specs.View.{viewAt}
 use Rattle.frontier.specs.Frontier.{lastOf}
 use Rattle.frontier.specs.Lasts.{lineAt, lineMark}
@@ -35,7 +33,7 @@ returns-2 c =
     let a = i .args in
     let w = viewAt (a .n) (a .ranks .now) (a .x .now) (a .y .now) in
     let e : c .before .before .wide .result ≡ lastOf w (lineAt w (a .way)) (a .k) =
-        c .before .before .wide .ensures ∙ last-is w (lineAt w (a .way)) (a .lasts .now) (a .k) (f .line-of .result) (i .pre .1) (f .line-of .ensures) (inside f) in
+    c .before .before .wide .ensures ∙ last-is w (lineAt w (a .way)) (a .lasts .now) (a .k) (f .line-of .result) (i .pre .1) (f .line-of .ensures) (inside f) in
     rw (← e, ← f .line-of .ensures, ← c .before .before .before .before .before .before .side-of .ensures .0, ← c .before .before .before .before .before .end-at .ensures, c .before .before .before .before .if1 .left, ← c .before .back-of .ensures .0)
     (c .end-at2 .ensures)
 

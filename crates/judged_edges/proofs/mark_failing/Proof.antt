@@ -2,8 +2,7 @@ use Prim.Native.Nat.{ℕ, _-_, _≤_}
 use mathlib.Core.Path.{_≡_, refl}
 use mathlib.Core.Bool.{false≢true}
 use native.Mathlib.Omega.{arith}
-use lib.ListN.{getD}
-use lib.Ieee.{nan, lt}
+use lib.Ieee.{lt}
 use borrow.Author.Needs.{needs}
 use Rattle.folds.specs.Arith.{zeroF}
 use Rattle.folds.specs.Below.{some, tally}
