@@ -11,13 +11,15 @@ use borrow.Author.Tests.{lt-ltb, le-ltb, ltb-true, eq-eqb, ne-eqb, eqb-true}
 use lib.ListN.{getD, take, drop, replicate, List·getD-append}
 use lib.Seq.{take-at}
 use Rattle.folds.specs.Lists.{listOf, length-list}
-use Rattle.sort.specs.Numbers.{sorted, sorted-length}
+use Rattle.sort.specs.Numbers.{sorted}
+use Rattle.sort.proofs.Numbers.{sorted-length}
 use lib.Ieee.{Float, nan, lt}
 use Rattle.folds.specs.Arith.{zeroF}
 use Rattle.folds.specs.Below.{some, some-yes, some-at, some-no, both-ways, and-left, and-right, and-false, or-true}
 use Rattle.folds.specs.Column.{column, column-at}
 use Rattle.view.specs.View.{maxPoints, viewAt, Finite}
-use Rattle.sort.specs.Packed.{packed, inOrder, placed-below, placed-is, place-of, placed-rises}
+use Rattle.sort.specs.Packed.{packed, inOrder}
+use Rattle.sort.proofs.Packed.{placed-below, placed-is, place-of, placed-rises}
 use Rattle.close_pairs.specs.Close.{close, squareOf, closeMark, limitOf}
 use Rattle.close_pairs.specs.Keys.{keyOf, rankIn, Ordered}
 use Rattle.close_pairs.specs.Sweep.{closeIn, squareX, pairHits, sweepHits, Sweepable}
