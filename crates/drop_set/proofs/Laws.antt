@@ -1,0 +1,109 @@
+-- What the arrays of the two steps are together. Assumes nothing.
+use mathlib.Core.Path.{_≡_, refl, sym, ap, _∙_}
+use mathlib.Core.Bool.{Bool, true, false, cond, _&&_}
+use mathlib.Core.List.{List, []}
+use Prim.Native.Nat.{ℕ, _≤_}
+use lib.Dec.{eqb}
+use lib.ListN.{getD, replicate}
+use Rattle.folds.specs.Column.{column, filled, replicate-at}
+use Rattle.folds.specs.Marked.{bit}
+use Rattle.view.specs.View.{View, maxPoints}
+use Rattle.cells.specs.Cell.{Cell}
+use Rattle.sheet_file.specs.declared.Settings.{Settings}
+use Rattle.marks.specs.Filters.{validate, orientation, wrong, component}
+use Rattle.marks.specs.Marks.{isSet}
+use Rattle.marks.specs.Byte.{markedBy, markedByAll}
+use Rattle.marks.proofs.Guards.{set-is}
+use Rattle.marks.proofs.Byte.{by-same}
+use Rattle.validate.specs.Validate.{validateMark, validateMarks, residualsOf, figuresOf, boundaryIn, validatedOf}
+use Rattle.validate.specs.declared.Validated.{Validated}
+use Rattle.orientation.specs.Orientation.{orientationMark, orientationOf}
+use Rattle.wrong_label_filters.specs.WrongLabel.{wrongLabelMark, wrongLabelOf}
+use Rattle.components.specs.Components.{filterOf}
+use Rattle.components.specs.declared.ComponentFilter.{ComponentFilter}
+use Rattle.judged.specs.declared.Judged.{Judged}
+use Rattle.drop_set.specs.declared.DropSet.{DropSet}
+use Rattle.drop_set.specs.Filters.{sidesOf, wrongMark, componentMarked, componentsIn, patchedOf, pointMarks, measuredOf, judgedOf}
+use Rattle.drop_set.specs.Given.{Joined}
+
+-- ---- the first step
+
+module _ (s : Settings) (w : View) where
+  -- the wrong-label marks, with their switch
+  abbrev wrongMarks : List ℕ
+  wrongMarks = column maxPoints 0 (w .count) (λ (k : ℕ). bit (wrongMark s w k))
+
+  pub wrong-on : {l : List ℕ} → s .«apply_wrong_label_drops» ≡ true → l ≡ wrongLabelOf w (s .«cell_size») → l ≡ wrongMarks
+  unfolding wrongLabelOf
+  wrong-on on e = e ∙ sym (ap (λ (b : Bool). column maxPoints 0 (w .count) (λ (k : ℕ). bit (b && wrongLabelMark w (s .«cell_size») k))) on)
+
+  pub wrong-off : s .«apply_wrong_label_drops» ≡ false → w .count ≤ maxPoints → replicate maxPoints 0 ≡ wrongMarks
+  wrong-off off h =
+      filled (w .count) h (record { long = refl; done = λ k l. replicate-at maxPoints 0 k; left = λ k l. refl })
+      ∙ sym (ap (λ (b : Bool). column maxPoints 0 (w .count) (λ (k : ℕ). bit (b && wrongLabelMark w (s .«cell_size») k))) off)
+
+  -- the bytes of the three marks
+  pub points-are : (cell : ℕ → Cell) {v o r m : List ℕ} → v ≡ validateMarks s w cell → o ≡ orientationOf w → r ≡ wrongMarks
+      → m ≡ markedBy (w .count) wrong (isSet r) (markedBy (w .count) orientation (isSet o) (markedBy (w .count) validate (isSet v) [])) → m ≡ pointMarks s w cell
+  unfolding pointMarks markedByAll validateMarks orientationOf
+  points-are cell {v} {o} {r} ev eo er em =
+      let n = w .count in
+      em
+      ∙ ap (λ (m : List ℕ). markedBy n wrong (isSet r) (markedBy n orientation (isSet o) m)) (by-same n validate (isSet v) (validateMark s w cell) [] (set-is maxPoints n (validateMark s w cell) v ev))
+      ∙ ap (markedBy n wrong (isSet r)) (by-same n orientation (isSet o) (orientationMark w) (markedBy n validate (validateMark s w cell) []) (set-is maxPoints n (orientationMark w) o eo))
+      ∙ by-same n wrong (isSet r) (wrongMark s w) (markedBy n orientation (orientationMark w) (markedBy n validate (validateMark s w cell) [])) (set-is maxPoints n (wrongMark s w) r er)
+
+  pub marks-of : (cell : ℕ → Cell) {v : Validated} → v ≡ validatedOf s w cell → v .marks ≡ validateMarks s w cell
+  unfolding validatedOf
+  marks-of cell e = ap (λ (x : Validated). x .marks) e
+
+  -- as one step
+  measuredBy : List ℕ → Validated → Judged
+  measuredBy l x = record { marks = l; components = 0; has = x .has; value = x .value; figures = x .figures; boundary = x .boundary }
+
+  by-parts : (cell : ℕ → Cell) → measuredBy (pointMarks s w cell) (validatedOf s w cell) ≡ measuredOf s w cell
+  unfolding measuredOf validatedOf measuredBy
+  by-parts cell = refl
+
+  pub measured-is : (cell : ℕ → Cell) {v : Validated} {m : List ℕ} → v ≡ validatedOf s w cell → m ≡ pointMarks s w cell
+      → _≡_ {A = Judged} (record { marks = m; components = 0; has = v .has; value = v .value; figures = v .figures; boundary = v .boundary }) (measuredOf s w cell)
+  unfolding measuredBy
+  measured-is cell {v} {m} e f = ap (measuredBy m) e ∙ ap (λ (l : List ℕ). measuredBy l (validatedOf s w cell)) f ∙ by-parts cell
+
+  -- ---- the second step
+
+  module _ (marks : List ℕ) where
+    pub joined-on : {sides : List ℕ} {r : ComponentFilter} → s .«apply_largest_component» ≡ true → sides ≡ sidesOf s → r ≡ filterOf w sides marks → Joined s w marks r
+    unfolding componentsIn
+    joined-on {sides} {r} on es er =
+        let e : r ≡ filterOf w (sidesOf s) marks = er ∙ ap (λ (l : List ℕ). filterOf w l marks) es in
+        record {
+          marked = λ k h. ap (λ (f : ComponentFilter). isSet (f .marks) k) e ∙ sym (ap (λ (b : Bool). b && isSet (filterOf w (sidesOf s) marks .marks) k) on);
+          counted = ap (λ (f : ComponentFilter). f .«components_seen») e ∙ sym (ap (λ (b : Bool). cond b (filterOf w (sidesOf s) marks .«components_seen») 0) on);
+        }
+
+    pub joined-off : s .«apply_largest_component» ≡ false → Joined s w marks (record { marks = replicate maxPoints 0; «components_seen» = 0 })
+    unfolding componentsIn
+    joined-off off = record {
+      marked = λ k h. ap (λ (x : ℕ). eqb x 1) (replicate-at maxPoints 0 k) ∙ sym (ap (λ (b : Bool). b && isSet (filterOf w (sidesOf s) marks .marks) k) off);
+      counted = sym (ap (λ (b : Bool). cond b (filterOf w (sidesOf s) marks .«components_seen») 0) off);
+    }
+
+    pub patched-is : {f : ComponentFilter} {m : List ℕ} → Joined s w marks f → m ≡ markedBy (w .count) component (isSet (f .marks)) marks
+        → _≡_ {A = DropSet} (record { marks = m; components = f .«components_seen» }) (patchedOf s w marks)
+    unfolding patchedOf markedByAll
+    patched-is {f} j e = rw (e ∙ by-same (w .count) component (isSet (f .marks)) (componentMarked s w marks) marks (j .marked), j .counted)
+
+  -- ---- both
+
+  judgedBy : Judged → DropSet → Judged
+  judgedBy m d = record { marks = d .marks; components = d .components; has = m .has; value = m .value; figures = m .figures; boundary = m .boundary }
+
+  both-parts : (cell : ℕ → Cell) → judgedBy (measuredOf s w cell) (patchedOf s w (measuredOf s w cell .marks)) ≡ judgedOf s w cell
+  unfolding judgedOf judgedBy
+  both-parts cell = refl
+
+  pub judged-is : (cell : ℕ → Cell) {m : Judged} {d : DropSet} → m ≡ measuredOf s w cell → d ≡ patchedOf s w (m .marks)
+      → _≡_ {A = Judged} (record { marks = d .marks; components = d .components; has = m .has; value = m .value; figures = m .figures; boundary = m .boundary }) (judgedOf s w cell)
+  unfolding judgedBy
+  judged-is cell {m} e f = ap (judgedBy m) f ∙ ap (λ (x : Judged). judgedBy x (patchedOf s w (x .marks))) e ∙ both-parts cell
