@@ -1,2 +1,6 @@
 pub mod WrongLabel
 pub mod EdgesReady
+pub mod Windows
+pub mod Judged
+pub mod Frontier
+pub mod Lasts
