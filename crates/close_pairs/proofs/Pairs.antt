@@ -27,7 +27,7 @@ use Rattle.close_pairs.proofs.KeyOrder.{rising-order}
 
 -- ---- the loop of a sweep
 
-pub some-cut : (p : ℕ → Bool) (j n : ℕ) → j ≤ n → ((k : ℕ) → j ≤ k → k < n → p k ≡ false) → some p j ≡ some p n
+some-cut : (p : ℕ → Bool) (j n : ℕ) → j ≤ n → ((k : ℕ) → j ≤ k → k < n → p k ≡ false) → some p j ≡ some p n
 some-cut p j n l h =
     both-ways (some p j) (some p n)
     (λ e. let w = some-at p j e in some-yes p n (w .0) (omega (arith, w .1)) (w .2))

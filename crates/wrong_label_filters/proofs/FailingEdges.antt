@@ -26,76 +26,98 @@ use Rattle.wrong_label_filters.specs.Judged.{positiveEdge, inWindow, win
 use Rattle.wrong_label_filters.specs.Windows.{tableEdge, isUnder, windowTo, withEdgeAt, positiveLens, failingEnds}
 use Rattle.wrong_label_filters.specs.declared.judged_edges.Window.{Window}
 
+cond-ext : (b : Bool) {x x' y y' : Bool} → (b ≡ true → x ≡ x') → y ≡ y' → cond b x y ≡ cond b x' y'
+cond-ext true p q = p refl
+cond-ext false p q = q
+
+ratio-positive : T (positive-float overlongRatio)
+unfolding ofBits
+ratio-positive = tt
+
+over-is : (r : Float) (l : List Float) (x : Float) → overlong r l x ≡ lt (r ⊗ medianOf l) x
+unfolding overlong
+over-is r l x = refl
+
 module _ (w : View) (E : ℕ → Edge) where
-  pub window-none : (k : ℕ) (len : Float) → record { count = 0; under = 0; sx = zeroF; sy = zeroF } ≡ windowTo w E k len 0
-  unfolding windowTo tally sumOf
-  window-none k len = refl
-
-  pub window-more : (k : ℕ) (len : Float) (j : ℕ) → windowTo w E k len (j + 1) ≡ withEdgeAt w E k len j (windowTo w E k len j)
-  unfolding windowTo
-  window-more k len j =
-      rw (tally-more (inWindow w E k) j, tally-more (λ i. inWindow w E k i && isUnder w E k len i) j, sum-more (inWindow w E k) (λ i. E (rankAt w k i) .ux) j, sum-more (inWindow w E k) (λ i. E (rankAt w k i) .uy) j)
-
-  ratio-positive : T (positive-float overlongRatio)
-  unfolding ofBits
-  ratio-positive = tt
-
-  in-positive : (k i : ℕ) → inWindow w E k i ≡ true → lt zeroF (E (rankAt w k i) .len) ≡ true
-  unfolding inWindow
-  in-positive k i p = and-right (present w k i) (positiveEdge w E (rankAt w k i)) (and-right (not (eqb i own)) (present w k i && positiveEdge w E (rankAt w k i)) p)
-
-  cond-ext : (b : Bool) {x x' y y' : Bool} → (b ≡ true → x ≡ x') → y ≡ y' → cond b x y ≡ cond b x' y'
-  cond-ext true p q = p refl
-  cond-ext false p q = q
-
-  lens-are : (k : ℕ) → windowLens w E k ≡ listed (inWindow w E k) (λ i. E (rankAt w k i) .len) 25
-  unfolding windowLens
-  lens-are k = refl
-
-  x-is : (k : ℕ) → windowX w E k ≡ sumOf (inWindow w E k) (λ i. E (rankAt w k i) .ux) 25
-  unfolding windowX
-  x-is k = refl
-
-  y-is : (k : ℕ) → windowY w E k ≡ sumOf (inWindow w E k) (λ i. E (rankAt w k i) .uy) 25
-  unfolding windowY
-  y-is k = refl
-
-  sheet-is : sheetLens w E ≡ listed (positiveEdge w E) (λ i. E i .len) (w .count)
+  sheet-is : sheetLens w E ≡ positiveLens E (w .count)
   unfolding sheetLens
   sheet-is = refl
 
-  over-is : (r : Float) (l : List Float) (x : Float) → overlong r l x ≡ lt (r ⊗ medianOf l) x
-  unfolding overlong
-  over-is r l x = refl
+  module _ (k : ℕ) where
+    -- the edge at offset i from rank k
+    abbrev at : ℕ → Edge
+    at i = E (rankAt w k i)
 
-  pub fails-is : (k : ℕ) → fails w E k ≡ positiveEdge w E k && cond (leb 5 (length (windowLens w E k))) (overlong overlongRatio (windowLens w E k) (E k .len) || offAxis (windowX w E k) (windowY w E k) (E k .ux) (E k .uy)) (leb 8 (length (sheetLens w E)) && overlong globalOverlongRatio (sheetLens w E) (E k .len))
-  unfolding fails
-  fails-is k = refl
+    abbrev sumX : ℕ → Float
+    sumX j = sumOf (inWindow w E k) (λ i. at i .ux) j
 
-  -- the parts of a window
-  window-is : (k : ℕ) (len : Float) → windowTo w E k len 25 ≡ record { count = tally (inWindow w E k) 25; under = tally (λ i. inWindow w E k i && lt (overlongRatio ⊗ E (rankAt w k i) .len) len) 25; sx = sumOf (inWindow w E k) (λ i. E (rankAt w k i) .ux) 25; sy = sumOf (inWindow w E k) (λ i. E (rankAt w k i) .uy) 25 }
-  unfolding windowTo
-  window-is k len = refl
+    abbrev sumY : ℕ → Float
+    sumY j = sumOf (inWindow w E k) (λ i. at i .uy) j
 
-  local : (k : ℕ) → leb 5 (tally (inWindow w E k) 25) ≡ true
-      → overlong overlongRatio (windowLens w E k) (E k .len) ≡ ltb (tally (inWindow w E k) 25 / 2) (tally (λ i. inWindow w E k i && lt (overlongRatio ⊗ E (rankAt w k i) .len) (E k .len)) 25)
-  local k h =
-      over-is overlongRatio (windowLens w E k) (E k .len)
-      ∙ ap (λ l. lt (overlongRatio ⊗ medianOf l) (E k .len)) (lens-are k)
-      ∙ over-median-of overlongRatio (E k .len) ratio-positive (inWindow w E k) (λ i. E (rankAt w k i) .len) 25 (λ i l p. in-positive k i p) (omega (arith, leb-true 5 (tally (inWindow w E k) 25) h))
+    lens-are : windowLens w E k ≡ listed (inWindow w E k) (λ i. at i .len) 25
+    unfolding windowLens
+    lens-are = refl
 
-  -- The verdict: v is the window of rank k's edge, which has the length len, and t the number of positive lengths on the sheet.
-  pub fails-by : (k : ℕ) (len : Float) (v : Window) (t : ℕ) → len ≡ E k .len → v ≡ windowTo w E k len 25 → t ≡ tally (positiveEdge w E) (w .count)
-      → fails w E k ≡ lt zeroF len && cond (leb 5 (v .count)) (ltb (v .count / 2) (v .under) || offAxis (v .sx) (v .sy) (E k .ux) (E k .uy)) (leb 8 t && lt (globalOverlongRatio ⊗ medianOf (positiveLens E (w .count))) len)
-  fails-by k len v t o e f =
-      let a : length (windowLens w E k) ≡ tally (inWindow w E k) 25 = ap length (lens-are k) ∙ listed-length (inWindow w E k) (λ i. E (rankAt w k i) .len) 25 in
-      let b : length (sheetLens w E) ≡ tally (positiveEdge w E) (w .count) = ap length sheet-is ∙ listed-length (positiveEdge w E) (λ i. E i .len) (w .count) in
-      fails-is k
-      ∙ rw (e ∙ window-is k len, o, f, a, b, x-is k, y-is k)
-      (ap (λ r. positiveEdge w E k && r)
-      (cond-ext (leb 5 (tally (inWindow w E k) 25))
-      (λ h. ap (λ r. r || offAxis (sumOf (inWindow w E k) (λ i. E (rankAt w k i) .ux) 25) (sumOf (inWindow w E k) (λ i. E (rankAt w k i) .uy) 25) (E k .ux) (E k .uy)) (local k h))
-      (ap (λ r. leb 8 (tally (positiveEdge w E) (w .count)) && r) (over-is globalOverlongRatio (sheetLens w E) (E k .len) ∙ ap (λ l. lt (globalOverlongRatio ⊗ medianOf l) (E k .len)) sheet-is))))
+    x-is : windowX w E k ≡ sumX 25
+    unfolding windowX
+    x-is = refl
+
+    y-is : windowY w E k ≡ sumY 25
+    unfolding windowY
+    y-is = refl
+
+    pub fails-is : fails w E k
+        ≡ positiveEdge w E k && cond (leb 5 (length (windowLens w E k)))
+        (overlong overlongRatio (windowLens w E k) (E k .len) || offAxis (windowX w E k) (windowY w E k) (E k .ux) (E k .uy))
+        (leb 8 (length (sheetLens w E)) && overlong globalOverlongRatio (sheetLens w E) (E k .len))
+    unfolding fails
+    fails-is = refl
+
+    -- ---- a window, edge by edge
+
+    module _ (len : Float) where
+      abbrev unders : ℕ → ℕ
+      unders j = tally (λ i. inWindow w E k i && isUnder w E k len i) j
+
+      window-is : (j : ℕ) → windowTo w E k len j ≡ record { count = tally (inWindow w E k) j; under = unders j; sx = sumX j; sy = sumY j }
+      unfolding windowTo
+      window-is j = refl
+
+      pub window-none : record { count = 0; under = 0; sx = zeroF; sy = zeroF } ≡ windowTo w E k len 0
+      unfolding windowTo tally sumOf
+      window-none = refl
+
+      pub window-more : (j : ℕ) → windowTo w E k len (j + 1) ≡ withEdgeAt w E k len j (windowTo w E k len j)
+      unfolding windowTo
+      window-more j =
+          rw (tally-more (inWindow w E k) j, tally-more (λ i. inWindow w E k i && isUnder w E k len i) j, sum-more (inWindow w E k) (λ i. at i .ux) j, sum-more (inWindow w E k) (λ i. at i .uy) j)
+
+    -- ---- the verdict, from its window
+
+    in-positive : (i : ℕ) → inWindow w E k i ≡ true → lt zeroF (at i .len) ≡ true
+    unfolding inWindow
+    in-positive i p = let there = positiveEdge w E (rankAt w k i) in and-right (present w k i) there (and-right (not (eqb i own)) (present w k i && there) p)
+
+    local : leb 5 (tally (inWindow w E k) 25) ≡ true → overlong overlongRatio (windowLens w E k) (E k .len) ≡ ltb (tally (inWindow w E k) 25 / 2) (unders (E k .len) 25)
+    local h =
+        over-is overlongRatio (windowLens w E k) (E k .len)
+        ∙ ap (λ l. lt (overlongRatio ⊗ medianOf l) (E k .len)) lens-are
+        ∙ over-median-of overlongRatio (E k .len) ratio-positive (inWindow w E k) (λ i. at i .len) 25 (λ i l p. in-positive i p) (omega (arith, leb-true 5 (tally (inWindow w E k) 25) h))
+
+    -- v is the window of rank k's edge, which has the length len, and t the number of positive lengths on the sheet
+    pub fails-by : (len : Float) (v : Window) (t : ℕ) → len ≡ E k .len → v ≡ windowTo w E k len 25 → t ≡ tally (positiveEdge w E) (w .count)
+        → fails w E k
+        ≡ lt zeroF len && cond (leb 5 (v .count)) (ltb (v .count / 2) (v .under) || offAxis (v .sx) (v .sy) (E k .ux) (E k .uy))
+        (leb 8 t && lt (globalOverlongRatio ⊗ medianOf (positiveLens E (w .count))) len)
+    fails-by len v t o e f =
+        let a : length (windowLens w E k) ≡ tally (inWindow w E k) 25 = ap length lens-are ∙ listed-length (inWindow w E k) (λ i. at i .len) 25 in
+        let b : length (sheetLens w E) ≡ tally (positiveEdge w E) (w .count) = ap length sheet-is ∙ listed-length (positiveEdge w E) (λ i. E i .len) (w .count) in
+        fails-is
+        ∙ rw (e ∙ window-is len 25, o, f, a, b, x-is, y-is)
+        (ap (λ r. positiveEdge w E k && r)
+        (cond-ext (leb 5 (tally (inWindow w E k) 25))
+        (λ h. ap (λ r. r || offAxis (sumX 25) (sumY 25) (E k .ux) (E k .uy)) (local h))
+        (ap (λ r. leb 8 (tally (positiveEdge w E) (w .count)) && r) (over-is globalOverlongRatio (sheetLens w E) (E k .len) ∙ ap (λ l. lt (globalOverlongRatio ⊗ medianOf l) (E k .len)) sheet-is))))
 
 -- the positive lengths, read from a column
 pub column-lens : (E : ℕ → Edge) (n : ℕ) (l : List Float) → l ≡ column maxPoints nan n (λ (k : ℕ). E k .len) → positives l n ≡ positiveLens E n
@@ -119,16 +141,24 @@ module _ (w v : View) (E F : ℕ → Edge) (k l : ℕ) (a : Alike w v E F k l) w
 
   within : (j : ℕ) → j < 25 → inWindow v F l j ≡ true → E (rankAt w k j) ≡ F (rankAt v l j)
   unfolding inWindow
-  within j h p = a .edges j h (and-left (present v l j) (positiveEdge v F (rankAt v l j)) (and-right (not (eqb j own)) (present v l j && positiveEdge v F (rankAt v l j)) p))
+  within j h p =
+      let there = positiveEdge v F (rankAt v l j) in
+      a .edges j h (and-left (present v l j) there (and-right (not (eqb j own)) (present v l j && there) p))
 
   same-lens : windowLens w E k ≡ windowLens v F l
-  same-lens = lens-are w E k ∙ listed-ext (inWindow w E k) (inWindow v F l) (λ i. E (rankAt w k i) .len) (λ i. F (rankAt v l i) .len) 25 same-window (λ i g p. ap (λ e. e .len) (within i g p)) ∙ sym (lens-are v F l)
+  same-lens =
+      lens-are w E k
+      ∙ listed-ext (inWindow w E k) (inWindow v F l) (λ i. E (rankAt w k i) .len) (λ i. F (rankAt v l i) .len) 25 same-window (λ i g p. ap (λ e. e .len) (within i g p))
+      ∙ sym (lens-are v F l)
+
+  same-sum : (part : Edge → Float) → sumOf (inWindow w E k) (λ i. part (E (rankAt w k i))) 25 ≡ sumOf (inWindow v F l) (λ i. part (F (rankAt v l i))) 25
+  same-sum part = sum-ext (inWindow w E k) (inWindow v F l) (λ i. part (E (rankAt w k i))) (λ i. part (F (rankAt v l i))) 25 same-window (λ i g p. ap part (within i g p))
 
   same-x : windowX w E k ≡ windowX v F l
-  same-x = x-is w E k ∙ sum-ext (inWindow w E k) (inWindow v F l) (λ i. E (rankAt w k i) .ux) (λ i. F (rankAt v l i) .ux) 25 same-window (λ i g p. ap (λ e. e .ux) (within i g p)) ∙ sym (x-is v F l)
+  same-x = x-is w E k ∙ same-sum (λ e. e .ux) ∙ sym (x-is v F l)
 
   same-y : windowY w E k ≡ windowY v F l
-  same-y = y-is w E k ∙ sum-ext (inWindow w E k) (inWindow v F l) (λ i. E (rankAt w k i) .uy) (λ i. F (rankAt v l i) .uy) 25 same-window (λ i g p. ap (λ e. e .uy) (within i g p)) ∙ sym (y-is v F l)
+  same-y = y-is w E k ∙ same-sum (λ e. e .uy) ∙ sym (y-is v F l)
 
   -- with the same lengths on the whole sheet the verdicts are the same
   pub same-verdict : sheetLens w E ≡ sheetLens v F → fails w E k ≡ fails v F l

@@ -1,4 +1,4 @@
-pub mod Laws
-pub mod Theorems
 pub mod FailingEdges
 pub mod LineEnds
+pub mod Laws
+pub mod Theorems

@@ -1,6 +1,6 @@
-pub mod WrongLabel
-pub mod EdgesReady
-pub mod Windows
 pub mod Judged
+pub mod Windows
 pub mod Frontier
 pub mod Lasts
+pub mod WrongLabel
+pub mod EdgesReady

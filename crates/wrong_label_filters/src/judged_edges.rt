@@ -21,23 +21,23 @@ ghost use Rattle.edges.specs.Edges.{side, edgesOf, edgePlace};
 ghost use Rattle.wrong_label_filters.specs.Judged.{offAxis, fails, edgeMark};
 ghost use Rattle.wrong_label_filters.specs.Windows.{tableEdge, withEdge, withEdgeAt, windowTo, Limits, Asked, failingEnds};
 
-pub struct Window {
-    pub count: usize,
-    pub under: usize,
-    pub sx: f32,
-    pub sy: f32,
+struct Window {
+    count: usize,
+    under: usize,
+    sx: f32,
+    sy: f32,
 }
 
 // 1.6 times the median of the sheet's positive lengths, where it is known: only an edge with few others in its window asks for it.
-pub struct Limit {
-    pub known: bool,
-    pub value: f32,
+struct Limit {
+    known: bool,
+    value: f32,
 }
 
 // Whether an edge fails, and the sheet's limit, if it is known by then.
-pub struct Verdict {
-    pub fails: bool,
-    pub limit: Limit,
+struct Verdict {
+    fails: bool,
+    limit: Limit,
 }
 
 // The window v with one edge more; under says whether 1.5 times its length is under the length of the edge that is judged.

@@ -31,7 +31,11 @@ add-out : tie.Need-add-out Inv-loop μ-loop
 add-out c = omega (arith, c .rising .ensures .small)
 
 loop-again : tie.Need-loop-again Inv-loop μ-loop
-loop-again c = let l = c .before .before .before .loop in (omega arith, fill-more (replicate maxPoints 0) 0 _ _ (omega (arith, length-replicate {A = ℕ} maxPoints 0)) (rw (c .rising .ensures .is)) (l .inv .1), below-more (λ (j : ℕ). Number (getD (c .before .before .before .before .args .x .now) j nan)) (l .k) (l .inv .2) (c .rising .ensures .number))
+loop-again c =
+    let l = c .before .before .before .loop in
+    let xs = c .before .before .before .before .args .x .now in
+    let k = c .rising .ensures in
+    (omega arith, fill-more (replicate maxPoints 0) 0 _ _ (omega (arith, length-replicate {A = ℕ} maxPoints 0)) (rw (k .is)) (l .inv .1), below-more (λ (j : ℕ). Number (getD xs j nan)) (l .k) (l .inv .2) (k .number))
 
 returns : tie.Need-returns Inv-loop μ-loop
 returns c = let h : c .before .loop .k ≡ c .before .before .args .n = omega arith in record { is = filled _ (omega arith) (rw h at (c .before .loop .inv .1)); numbers = rw h at (c .before .loop .inv .2) }
