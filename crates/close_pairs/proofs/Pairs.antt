@@ -21,7 +21,7 @@ use Rattle.view.specs.View.{maxPoints, viewAt, Finite}
 use Rattle.sort.specs.Packed.{packed, inOrder}
 use Rattle.sort.proofs.Packed.{placed-below, placed-is, place-of, placed-rises}
 use Rattle.close_pairs.specs.Close.{close, squareOf, closeMark, limitOf}
-use Rattle.close_pairs.specs.Keys.{keyOf, rankIn, Ordered}
+use Rattle.close_pairs.specs.Keys.{xKey, rankIn, OrderedByX}
 use Rattle.close_pairs.specs.Sweep.{closeIn, squareX, pairHits, sweepHits, Sweepable}
 use Rattle.close_pairs.proofs.Places.{place}
 use Rattle.close_pairs.proofs.Squares.{far, square-turned}
@@ -29,7 +29,7 @@ use Rattle.close_pairs.proofs.KeyOrder.{rising-order}
 
 -- ---- the loop of a sweep
 
-pub some-cut : (p : ℕ → Bool) (j n : ℕ) → j ≤ n → ((k : ℕ) → j ≤ k → k < n → p k ≡ false) → some p j ≡ some p n
+some-cut : (p : ℕ → Bool) (j n : ℕ) → j ≤ n → ((k : ℕ) → j ≤ k → k < n → p k ≡ false) → some p j ≡ some p n
 some-cut p j n l h =
     both-ways (some p j) (some p n)
     (λ e. let w = some-at p j e in some-yes p n (w .0) (omega (arith, w .1)) (w .2))
@@ -57,17 +57,17 @@ module _ (order : List ℕ) (xs ys : List Float) (limit : Float) (n i : ℕ) whe
 
 -- ---- the order of x is one along which a sweep may stop
 
-module _ (order : List ℕ) (xs ys : List Float) (n : ℕ) (few : n ≤ maxPoints) (o : Ordered xs n order) (fy : Finite n ys) where
+module _ (order : List ℕ) (xs ys : List Float) (n : ℕ) (few : n ≤ maxPoints) (o : OrderedByX xs n order) (fy : Finite n ys) where
   rank : (i : ℕ) → i < n → getD order i 0 ≡ rankIn xs n i
   rank i h = rw (o .is) (column-at maxPoints 0 n (rankIn xs n) i h)
 
   inside : (i : ℕ) → i < n → rankIn xs n i < n
-  inside i h = placed-below (keyOf xs) n (omega arith) i h
+  inside i h = placed-below (xKey xs) n (omega arith) i h
 
   places : (i j : ℕ) → i < j → j < n → place (getD xs (rankIn xs n i) nan) ≤ place (getD xs (rankIn xs n j) nan)
   places i j h l =
       rising-order (getD xs (rankIn xs n i) nan) (getD xs (rankIn xs n j) nan) (o .numbers (rankIn xs n i) (inside i (omega arith))) (o .numbers (rankIn xs n j) (inside j l))
-      (omega (arith, placed-rises (keyOf xs) n (omega arith) i j h l, placed-is (keyOf xs) n (omega arith) i (omega arith), placed-is (keyOf xs) n (omega arith) j l, inside i (omega arith), inside j l))
+      (omega (arith, placed-rises (xKey xs) n (omega arith) i j h l, placed-is (xKey xs) n (omega arith) i (omega arith), placed-is (xKey xs) n (omega arith) j l, inside i (omega arith), inside j l))
 
   places-le : (j k : ℕ) → j ≤ k → k < n → place (getD xs (rankIn xs n j) nan) ≤ place (getD xs (rankIn xs n k) nan)
   places-le j k h l = elim (ℕ-discrete j k) [ yes e ↦ rw e (omega arith) | no f ↦ places j k (omega (arith, f)) l ]
@@ -95,8 +95,8 @@ module _ (order : List ℕ) (xs ys : List Float) (n : ℕ) (few : n ≤ maxPoint
 
   apart : (i j : ℕ) → i < j → j < n → rankIn xs n i ≡ rankIn xs n j → ⊥
   apart i j h l e =
-      let q = ap (packed (keyOf xs)) e in
-      omega (arith, placed-rises (keyOf xs) n (omega arith) i j h l, placed-is (keyOf xs) n (omega arith) i (omega arith), placed-is (keyOf xs) n (omega arith) j l, q)
+      let q = ap (packed (xKey xs)) e in
+      omega (arith, placed-rises (xKey xs) n (omega arith) i j h l, placed-is (xKey xs) n (omega arith) i (omega arith), placed-is (xKey xs) n (omega arith) j l, q)
 
   abbrev others : Float → ℕ → ℕ → Bool
   others limit m j = not (eqb j m) && closeIn xs ys limit j m
@@ -157,8 +157,8 @@ module _ (order : List ℕ) (xs ys : List Float) (n : ℕ) (few : n ≤ maxPoint
       back : some (others limit m) n ≡ true → some (λ i. sweepHits order xs ys limit n i m) n ≡ true
       back e =
           let a = some-at (others limit m) n e in
-          let p = place-of (keyOf xs) n (omega arith) m h in
-          let q = place-of (keyOf xs) n (omega arith) (a .0) (a .1) in
+          let p = place-of (xKey xs) n (omega arith) m h in
+          let q = place-of (xKey xs) n (omega arith) (a .0) (a .1) in
           met limit m (a .0) (p .0) (q .0) (p .1) (q .1) (p .2) (q .2) (differs (a .0) m (and-left (not (eqb (a .0) m)) (closeIn xs ys limit (a .0) m) (a .2))) (and-right (not (eqb (a .0) m)) (closeIn xs ys limit (a .0) m) (a .2))
 
   -- nothing past n

@@ -100,9 +100,6 @@ module _ (s : Bool) (e : ℤ) where
 -- ---- two numbers over one denominator: A / Q and B / Q are a / P and b / P
 
 module _ (A B a b P Q : ℕ) (pp : 0 < P) (qp : 0 < Q) (f : A * P ≡ a * Q) (g : B * P ≡ b * Q) where
-  scaled-le : a ≤ b → A ≤ B
-  scaled-le h = le-of-mul-le-mul-right (subst (λ (x : ℕ). x ≤ B * P) (sym f) (subst (λ (x : ℕ). a * Q ≤ x) (sym g) (mul-le-mul-right Q h))) pp
-
   scaled-lt : a < b → A < B
   scaled-lt h = lt-of-mul-lt-mul-right P (subst (λ (x : ℕ). x < B * P) (sym f) (subst (λ (x : ℕ). a * Q < x) (sym g) (mul-lt-mul-of-pos-right h qp)))
 
@@ -139,7 +136,13 @@ module _ (s t : Bool) (m n : ℕ) (e d : ℤ) (f : T (fits binary32 (fin s m e))
   sizes-back = same-order (n * up d * down e) (m * up e * down d) (steps (fin t n d)) (steps (fin s m e)) (2 ^ 149) (down e * down d) (pow-pos 149) common over-b over-a
 
   abbrev sizes-sum : ltb 0 ((m * up e * down d) + (n * up d * down e)) ≡ ltb 0 (steps (fin s m e) + steps (fin t n d))
-  sizes-sum = same-order 0 ((m * up e * down d) + (n * up d * down e)) 0 (steps (fin s m e) + steps (fin t n d)) (2 ^ 149) (down e * down d) (pow-pos 149) common (zero-mul (2 ^ 149) ∙ sym (zero-mul (down e * down d))) (sum-scaled (m * up e * down d) (n * up d * down e) (steps (fin s m e)) (steps (fin t n d)) (2 ^ 149) (down e * down d) (pow-pos 149) common over-a over-b)
+  sizes-sum =
+      let A = m * up e * down d in
+      let B = n * up d * down e in
+      let a = steps (fin s m e) in
+      let b = steps (fin t n d) in
+      let C = down e * down d in
+      same-order 0 (A + B) 0 (a + b) (2 ^ 149) C (pow-pos 149) common (zero-mul (2 ^ 149) ∙ sym (zero-mul C)) (sum-scaled A B a b (2 ^ 149) C (pow-pos 149) common over-a over-b)
 
 ltb-as : (p q r s : ℕ) → (p < q → r < s) → (q ≤ p → s ≤ r) → ltb p q ≡ ltb r s
 ltb-as p q r s f g = elim (decLe q p) [ yes h ↦ le-ltb p q h ∙ sym (le-ltb r s (g h)) | no h ↦ (let l : p < q = omega (arith, h) in lt-ltb p q l ∙ sym (lt-ltb r s (f l))) ]

@@ -170,7 +170,7 @@ nothing-over (inf t) h = false≢true h
 nothing-over (fin t k g) h = false≢true h
 
 -- what is under z with y added is under z
-pub under-sum : (x y z : Float) → T (plain x) → T (plain y) → T (fits binary32 x) → lt (x ⊕ y) z ≡ true → lt x z ≡ true
+under-sum : (x y z : Float) → T (plain x) → T (plain y) → T (fits binary32 x) → lt (x ⊕ y) z ≡ true → lt x z ≡ true
 unfolding add sum
 under-sum nan y z p q f h = absurd p
 under-sum (inf true) y z p q f h = absurd p

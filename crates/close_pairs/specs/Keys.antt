@@ -21,23 +21,23 @@ pub record Number (x : Float) : Type 0 where
 unfoldable pub risingOf : Float → ℕ
 risingOf x = cond (lt zeroF x) (2147483649 + toBits binary32 x) (cond (lt x zeroF) (2147483647 - toBits binary32 (neg x)) 2147483648)
 
-pub record Rising (x : Float) (r : ℕ) : Type 0 where
+pub record RisingKey (x : Float) (r : ℕ) : Type 0 where
   pub is : r ≡ risingOf x
   pub small : r < 4294967296
   pub number : Number x
 
-abbrev pub keyOf : List Float → ℕ → ℕ
-keyOf xs k = risingOf (getD xs k nan)
+abbrev pub xKey : List Float → ℕ → ℕ
+xKey xs k = risingOf (getD xs k nan)
 
 -- the rank at place i of the order of x
 abbrev pub rankIn : List Float → ℕ → ℕ → ℕ
-rankIn xs n i = placed (keyOf xs) n i
+rankIn xs n i = placed (xKey xs) n i
 
 -- the numbers below n of an array, which are f32, and its keys
 pub record Keyed (xs : List Float) (n : ℕ) (r : List ℕ) : Type 0 where
-  pub is : r ≡ column maxPoints 0 n (packed (keyOf xs))
+  pub is : r ≡ column maxPoints 0 n (packed (xKey xs))
   pub numbers : (k : ℕ) → k < n → Number (getD xs k nan)
 
-pub record Ordered (xs : List Float) (n : ℕ) (r : List ℕ) : Type 0 where
+pub record OrderedByX (xs : List Float) (n : ℕ) (r : List ℕ) : Type 0 where
   pub is : r ≡ column maxPoints 0 n (rankIn xs n)
   pub numbers : (k : ℕ) → k < n → Number (getD xs k nan)

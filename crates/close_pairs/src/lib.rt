@@ -11,13 +11,13 @@ ghost use Rattle.folds.specs.Below.{some};
 ghost use Rattle.folds.specs.Marked.{Marked};
 ghost use Rattle.view.specs.View.{maxPoints, viewAt, Finite};
 ghost use Rattle.close_pairs.specs.Close.{closeMark};
-ghost use Rattle.close_pairs.specs.Keys.{Rising, Keyed, Ordered};
+ghost use Rattle.close_pairs.specs.Keys.{RisingKey, Keyed, OrderedByX};
 ghost use Rattle.close_pairs.specs.Sweep.{sweepHits, Sweepable};
 
 // A number that rises with x, which is finite.
 fn rising(x: f32) -> u64
     requires { ⌜ T (finite x) ⌝ }
-    ensures { λ r. ⌜ Rising x r ⌝ }
+    ensures { λ r. ⌜ RisingKey x r ⌝ }
 {
     if 0.0 < x {
         return 0x8000_0001 + f32::to_bits(x) as u64;
@@ -29,7 +29,7 @@ fn rising(x: f32) -> u64
 }
 
 // The key and the rank of each point, packed into one number.
-fn keys(x: &[f32; MAX_POINTS], n: usize) -> [u64; MAX_POINTS]
+fn x_keys(x: &[f32; MAX_POINTS], n: usize) -> [u64; MAX_POINTS]
     requires { ⌜ (n ≤ maxPoints) × Finite n (now x) ⌝ }
     ensures { λ r. ⌜ Keyed (now (x .entry)) n r ⌝ }
 {
@@ -51,9 +51,9 @@ fn rank_of(w: u64) -> u16
 // The ranks in the order of x.
 fn order_of(x: &[f32; MAX_POINTS], n: usize) -> [u16; MAX_POINTS]
     requires { ⌜ (n ≤ maxPoints) × Finite n (now x) ⌝ }
-    ensures { λ r. ⌜ Ordered (now (x .entry)) n r ⌝ }
+    ensures { λ r. ⌜ OrderedByX (now (x .entry)) n r ⌝ }
 {
-    let mut a = keys(x, n);
+    let mut a = x_keys(x, n);
     sort::sort(&mut a, n);
     let mut out = [0u16; MAX_POINTS];
     let mut i = 0;

@@ -16,7 +16,7 @@ use Rattle.folds.specs.Arith.{_⊖_, zeroF}
 use Rattle.float.specs.Scalar.{normOf}
 use Rattle.folds.specs.Column.{column-at, column-over, length-column, replicate-at}
 use Rattle.view.specs.View.{maxPoints, View, rankAt, nextU, nextV}
-use Rattle.edges.specs.Edges.{Edge, edgeBy, edgeAt, side, joined, edgeColumn, edgeColumns, edgesOf, edgesSize, edgePlace, FilledTo}
+use Rattle.edges.specs.Edges.{Edge, edgeBy, edgeAt, side, chained, edgeColumn, edgeColumns, edgesOf, edgesSize, edgePlace, FilledTo}
 
 -- ---- lists of one length, one after the other
 
@@ -24,20 +24,20 @@ data Sized (size : ℕ) : List (List Float) → Type 0 where
   none : Sized size []
   one : {l : List Float} {ls : List (List Float)} → length l ≡ size → Sized size ls → Sized size (l ∷ ls)
 
-joined-length : {size : ℕ} {ls : List (List Float)} → Sized size ls → length (joined ls) ≡ size * length ls
-unfolding joined
-joined-length none = omega arith
-joined-length {size} (one {l} {ls} e s) = simp (length-append, mul-suc) (omega (arith, joined-length s))
+chained-length : {size : ℕ} {ls : List (List Float)} → Sized size ls → length (chained ls) ≡ size * length ls
+unfolding chained
+chained-length none = omega arith
+chained-length {size} (one {l} {ls} e s) = simp (length-append, mul-suc) (omega (arith, chained-length s))
 
-joined-at : {size : ℕ} {ls : List (List Float)} → Sized size ls → (c k : ℕ) → c < length ls → k < size → getD (joined ls) (size * c + k) nan ≡ getD (getD ls c []) k nan
-unfolding joined
-joined-at none c k h m = absurd (omega arith)
-joined-at {size} (one {l} {ls} e s) zero k h m =
+chained-at : {size : ℕ} {ls : List (List Float)} → Sized size ls → (c k : ℕ) → c < length ls → k < size → getD (chained ls) (size * c + k) nan ≡ getD (getD ls c []) k nan
+unfolding chained
+chained-at none c k h m = absurd (omega arith)
+chained-at {size} (one {l} {ls} e s) zero k h m =
     let q : size * 0 + k ≡ k = simp mul-zero (omega arith) in
-    rw q (List·getD-append l (joined ls) nan k (omega arith))
-joined-at {size} (one {l} {ls} e s) (suc c) k h m =
+    rw q (List·getD-append l (chained ls) nan k (omega arith))
+chained-at {size} (one {l} {ls} e s) (suc c) k h m =
     let q : size * suc c + k ≡ length l + (size * c + k) = simp mul-suc (omega arith) in
-    rw q (getD-append-add l (joined ls) (size * c + k) nan ∙ joined-at s c k (omega arith) m)
+    rw q (getD-append-add l (chained ls) (size * c + k) nan ∙ chained-at s c k (omega arith) m)
 
 -- a part of an edge: its length, then the parts of its unit vector
 abbrev pub partOf : ℕ → Edge → Float
@@ -59,11 +59,11 @@ module _ (w : View) (few : w .count ≤ maxPoints) where
 
   edges-length : length (edgesOf w) ≡ edgesSize
   unfolding edgesOf
-  edges-length = joined-length sized
+  edges-length = chained-length sized
 
   column-of : (c k : ℕ) → c < 6 → k < maxPoints → getD (edgesOf w) (maxPoints * c + k) nan ≡ getD (getD (edgeColumns w) c []) k nan
   unfolding edgesOf
-  column-of c k h m = joined-at sized c k h m
+  column-of c k h m = chained-at sized c k h m
 
   column-is : (c : ℕ) → c < 6 → getD (edgeColumns w) c [] ≡ edgeColumn w (side (c / 3)) (partOf (c % 3))
   column-is zero h = refl

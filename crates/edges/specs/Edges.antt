@@ -40,9 +40,9 @@ abbrev pub side : ℕ → ℕ
 side way = cond (eqb way 0) nextU nextV
 
 -- lists one after the other
-unfoldable pub joined : List (List Float) → List Float
-joined [] = []
-joined (l ∷ ls) = l ++ joined ls
+unfoldable pub chained : List (List Float) → List Float
+chained [] = []
+chained (l ∷ ls) = l ++ chained ls
 
 -- one part of the edges of all ranks
 abbrev pub edgeColumn : View → ℕ → (Edge → Float) → List Float
@@ -55,8 +55,8 @@ edgeColumns w =
     ∷ edgeColumn w nextV (λ e. e .len) ∷ edgeColumn w nextV (λ e. e .ux) ∷ edgeColumn w nextV (λ e. e .uy) ∷ []
 
 unfoldable pub edgesOf : View → List Float
-unfolding joined column edgeAt
-edgesOf w = joined (edgeColumns w)
+unfolding chained column edgeAt
+edgesOf w = chained (edgeColumns w)
 
 abbrev pub edgesSize : ℕ
 edgesSize = 6 * maxPoints

@@ -11,7 +11,7 @@ use Rattle.folds.specs.Marked.{bit, Marked}
 use Rattle.view.specs.View.{View, maxPoints, rankAt, nextU, nextV, indexHas}
 use Rattle.marks.specs.Marks.{isSet, indexMarks}
 use Rattle.marks.proofs.Guards.{guard, past, each-as-column, set-is, index-marks}
-use Rattle.orientation.specs.Orientation.{voteAt, ofVote, votesFor, member, turned, orientationMark, orientationOf}
+use Rattle.orientation.specs.Orientation.{voteAt, ofVote, votesFor, sideMember, turned, orientationMark, orientationOf}
 use Rattle.orientation.specs.Voters.{voters, votersAt}
 
 -- the three points of the votes for the side that a column of votes holds
@@ -36,8 +36,8 @@ module _ (w : View) (vote : List ℕ) (e : vote ≡ column maxPoints 0 (w .count
   unfolding votesFor
   votes-are s = tally-ext (λ (k : ℕ). eqb (getD vote k 0) s) (λ (k : ℕ). eqb (voteAt w k) s) (w .count) (λ k h. rw (vote-is k h))
 
-  members-are : (s m : ℕ) → votersOf w vote s m ≡ member w s m
-  unfolding member ofVote
+  members-are : (s m : ℕ) → votersOf w vote s m ≡ sideMember w s m
+  unfolding sideMember ofVote
   members-are s m =
       some-ext (λ (k : ℕ). votersAt w vote s k m) (λ (k : ℕ). ofVote w k m && eqb (voteAt w k) s) (w .count)
       (λ k h. rw (vote-is k h) (and-swap (eqb (voteAt w k) s) ((eqb k m || eqb (rankAt w k nextU) m) || eqb (rankAt w k nextV) m)))
@@ -46,11 +46,11 @@ module _ (w : View) (vote : List ℕ) (e : vote ≡ column maxPoints 0 (w .count
   abbrev Side : ℕ → List ℕ → List ℕ → Type 0
   Side s part index = (part ≡ column maxPoints 0 (w .count) (λ (m : ℕ). bit (votersOf w vote s m))) × (index ≡ indexMarks w part)
 
-  side-is : (s : ℕ) (part index : List ℕ) → Side s part index → (k : ℕ) → k < w .count → isSet index k ≡ indexHas w (member w s) k
+  side-is : (s : ℕ) (part index : List ℕ) → Side s part index → (k : ℕ) → k < w .count → isSet index k ≡ indexHas w (sideMember w s) k
   side-is s part index f k h =
-      set-is maxPoints (w .count) (indexHas w (member w s)) index
-      (f .1 ∙ index-marks w (member w s) part
-      (f .0 ∙ column-ext maxPoints 0 (w .count) (λ (m : ℕ). bit (votersOf w vote s m)) (λ (m : ℕ). bit (member w s m)) (λ m l. ap bit (members-are s m)))) k h
+      set-is maxPoints (w .count) (indexHas w (sideMember w s)) index
+      (f .1 ∙ index-marks w (sideMember w s) part
+      (f .0 ∙ column-ext maxPoints 0 (w .count) (λ (m : ℕ). bit (votersOf w vote s m)) (λ (m : ℕ). bit (sideMember w s m)) (λ m l. ap bit (members-are s m)))) k h
 
   pub marks-are : (p q pi qi r : List ℕ) (np nn : ℕ) → np ≡ tally (λ (k : ℕ). eqb (getD vote k 0) 1) (w .count) → nn ≡ tally (λ (k : ℕ). eqb (getD vote k 0) 2) (w .count)
       → Side 1 p pi → Side 2 q qi → r ≡ column maxPoints 0 (w .count) (λ (k : ℕ). bit (turned np nn (isSet pi k) (isSet qi k))) → r ≡ orientationOf w

@@ -38,9 +38,9 @@ unfolding tally voteAt
 votesFor w s = tally (λ k. eqb (voteAt w k) s) (w .count)
 
 -- rank m is a member of side s
-unfoldable pub member : View → ℕ → ℕ → Bool
+unfoldable pub sideMember : View → ℕ → ℕ → Bool
 unfolding some ofVote voteAt
-member w s m = some (λ k. ofVote w k m && eqb (voteAt w k) s) (w .count)
+sideMember w s m = some (λ k. ofVote w k m && eqb (voteAt w k) s) (w .count)
 
 -- marked, of np positive and nn negative votes: p and q say whether the index has a member of the one side and of the other
 unfoldable pub turned : ℕ → ℕ → Bool → Bool → Bool
@@ -49,8 +49,8 @@ turned np nn p q =
 
 -- the orientation mark of rank k's index
 unfoldable pub orientationMark : View → ℕ → Bool
-unfolding turned votesFor member some
-orientationMark w k = turned (votesFor w 1) (votesFor w 2) (indexHas w (member w 1) k) (indexHas w (member w 2) k)
+unfolding turned votesFor sideMember some
+orientationMark w k = turned (votesFor w 1) (votesFor w 2) (indexHas w (sideMember w 1) k) (indexHas w (sideMember w 2) k)
 
 unfoldable pub orientationOf : View → List ℕ
 unfolding column orientationMark

@@ -106,7 +106,7 @@ fn mark_voters(
 }
 
 // The members of the side.
-fn members(
+fn side_members(
     ranks: &[u16; RANKS_SIZE],
     vote: &[u8; MAX_POINTS],
     n: usize,
@@ -176,7 +176,7 @@ pub fn lattice_orientation_drops(
     let vote = votes(ranks, x, y, n);
     let np = votes_for(&vote, n, 1);
     let nn = votes_for(&vote, n, 2);
-    let positive = marks::by_index(ranks, &members(ranks, &vote, n, 1), n);
-    let negative = marks::by_index(ranks, &members(ranks, &vote, n, 2), n);
+    let positive = marks::by_index(ranks, &side_members(ranks, &vote, n, 1), n);
+    let negative = marks::by_index(ranks, &side_members(ranks, &vote, n, 2), n);
     combined(np, nn, &positive, &negative, n)
 }

@@ -14,8 +14,8 @@ use Rattle.view.specs.View.{View, maxPoints, nextU, nextV}
 use Rattle.marks.specs.Marks.{indexMarks}
 use Rattle.marks.proofs.Guards.{marked-as-column, index-marks}
 use Rattle.close_pairs.specs.Close.{closeMark}
-use Rattle.judged_edges.specs.Judged.{edgeMark}
-use Rattle.frontier.specs.Frontier.{frontierMark}
+use Rattle.wrong_label_filters.specs.Judged.{edgeMark}
+use Rattle.wrong_label_filters.specs.Frontier.{frontierMark}
 use Rattle.wrong_label_filters.specs.WrongLabel.{wrongPoint, wrongLabelMark, wrongLabelOf}
 
 none : {l : Bool} (a b c d : Bool) → l ≡ false → ((l && a || l && b) || l && c) || l && d ≡ false

@@ -1,2 +1,4 @@
+pub mod FailingEdges
+pub mod LineEnds
 pub mod Laws
 pub mod Theorems

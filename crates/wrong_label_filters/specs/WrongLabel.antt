@@ -9,9 +9,9 @@ use Rattle.folds.specs.Column.{column}
 use Rattle.folds.specs.Marked.{bit}
 use Rattle.view.specs.View.{maxPoints, View, indexHas, nextU, nextV}
 use Rattle.edges.specs.Edges.{edgeAt}
-use Rattle.judged_edges.specs.Judged.{endOfFailing, edgeMark}
+use Rattle.wrong_label_filters.specs.Judged.{endOfFailing, edgeMark}
 use Rattle.close_pairs.specs.Close.{closeMark}
-use Rattle.frontier.specs.Frontier.{frontierMark}
+use Rattle.wrong_label_filters.specs.Frontier.{frontierMark}
 
 -- rank k is marked itself
 unfoldable pub wrongPoint : View → Float → ℕ → Bool

@@ -1,4 +1,7 @@
 // The wrong-label filter: the marks of edges that fail, of points on one pixel and of line ends with a kink, by index.
+mod frontier;
+mod judged_edges;
+
 use edges::EDGES_SIZE;
 use view::MAX_POINTS;
 use view::RANKS_SIZE;

@@ -19,7 +19,10 @@ unfolding some
 loop-holds c = (omega arith, marked-none _ _ (λ m. refl))
 
 loop-again : tie.Need-loop-again Inv-loop μ-loop
-loop-again c = let g = c .before .before .before .before .args in let l = c .before .before .before .loop in (omega arith, marked-more (λ (p m : ℕ). sweepHits (g .order .now) (g .x .now) (g .y .now) (g .limit) (g .n) p m) (l .i) (l .inv .1) (c .sweep-from .ensures))
+loop-again c =
+    let l = c .before .before .before .loop in
+    let g = c .before .before .before .before .args in
+    (omega arith, marked-more (λ (p m : ℕ). sweepHits (g .order .now) (g .x .now) (g .y .now) (g .limit) (g .n) p m) (l .i) (l .inv .1) (c .sweep-from .ensures))
 
 returns : tie.Need-returns Inv-loop μ-loop
 returns c = let h : c .before .loop .i ≡ c .before .before .args .n = omega arith in rw h at (c .before .loop .inv .1)

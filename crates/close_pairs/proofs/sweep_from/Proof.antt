@@ -19,7 +19,11 @@ abbrev μ-loop : tie.MeasureT-loop
 
 -- both ranks are places of the arrays
 ins : (c : tie.After-wide2 Inv-loop μ-loop) → (c .wide2 .result < 2048) × (c .before .before .before .before .wide .result < 2048)
-ins c = let s = c .before .before .before .before .before .before in let l = c .before .before .before .loop in (omega (arith, s .pre .0 .few, c .wide2 .ensures, s .pre .0 .ranks (l .j) (c .before .before .loop-test .taken)), omega (arith, s .pre .0 .few, l .inv .3, s .pre .0 .ranks (s .args .i) (s .pre .1)))
+ins c =
+    let l = c .before .before .before .loop in
+    let i = c .before .before .before .before .before .before in
+    let s = i .pre .0 in
+    (omega (arith, s .few, c .wide2 .ensures, s .ranks (l .j) (c .before .before .loop-test .taken)), omega (arith, s .few, l .inv .3, s .ranks (i .args .i) (i .pre .1)))
 
 add-j : tie.Need-add-j Inv-loop μ-loop
 add-j c = omega (arith, c .before .before .pre .0 .few)
@@ -56,10 +60,22 @@ mark-pair-requires c κs = let h = ins (c .before .before .before .before .befor
 
 loop-again : tie.Need-loop-again Inv-loop μ-loop
 unfolding close squareOf
-loop-again c = let g = c .before .before .before .before .before .before .before .before .before .before .before .before .before .args in let l = c .before .before .before .before .before .before .before .before .before .before .loop in (omega arith, omega arith, marked-more (λ (p m : ℕ). pairHits (g .order .now) (g .x .now) (g .y .now) (g .limit) (g .i) p m) (l .j) (l .inv .2) (marked-as _ _ (λ m t. rw (c .before .before .before .before .before .before .before .wide2 .ensures, l .inv .3) (pair-is (g .order .now) (g .x .now) (g .y .now) (g .limit) (g .n) (g .i) (l .j) m (l .inv .0))) (c .mark-pair .ensures)), l .inv .3)
+loop-again c =
+    let w = c .before .before .before .before .before .before .before in
+    let l = w .before .before .before .loop in
+    let g = w .before .before .before .before .before .before .args in
+    (omega arith, omega arith,
+    marked-more (λ (p m : ℕ). pairHits (g .order .now) (g .x .now) (g .y .now) (g .limit) (g .i) p m) (l .j) (l .inv .2)
+    (marked-as _ _ (λ m t. rw (w .wide2 .ensures, l .inv .3) (pair-is (g .order .now) (g .x .now) (g .y .now) (g .limit) (g .n) (g .i) (l .j) m (l .inv .0))) (c .mark-pair .ensures)), l .inv .3)
 
 returns : tie.Need-returns Inv-loop μ-loop
-returns c = let g = c .before .before .before .before .before .before .before .before .before .args in let l = c .before .before .before .before .before .before .loop in marked-as _ _ (λ m t. sweep-stop (g .order .now) (g .x .now) (g .y .now) (g .limit) (g .n) (g .i) (c .before .before .before .before .before .before .before .before .before .pre .0) (l .j) m (l .inv .0) (c .before .before .before .before .before .loop-test .taken) (rw (c .before .before .before .wide2 .ensures, l .inv .3) at (c .if1 .left))) (l .inv .2)
+returns c =
+    let w = c .before .before .before in
+    let l = w .before .before .before .loop in
+    let i = w .before .before .before .before .before .before in
+    let g = i .args in
+    let far = rw (w .wide2 .ensures, l .inv .3) at (c .if1 .left) in
+    marked-as _ _ (λ m t. sweep-stop (g .order .now) (g .x .now) (g .y .now) (g .limit) (g .n) (g .i) (i .pre .0) (l .j) m (l .inv .0) (w .before .before .loop-test .taken) far) (l .inv .2)
 
 returns-2 : tie.Need-returns-2 Inv-loop μ-loop
 returns-2 c = let h : c .before .loop .j ≡ c .before .before .before .before .args .n = omega arith in rw h at (c .before .loop .inv .2)

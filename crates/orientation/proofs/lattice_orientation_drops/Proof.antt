@@ -12,7 +12,7 @@ returns c =
     let vote = count .before .before .before .before in
     let a = vote .before .args in
     marks-are (viewAt (a .n) (a .ranks .now) (a .x .now) (a .y .now)) _ (vote .votes .ensures) _ _ _ _ _ _ _ (count .before .before .votes-for .ensures) (count .votes-for2 .ensures)
-    (first .before .before .members .ensures, first .by-index .ensures (a .x .now) (a .y .now)) (second .before .before .members2 .ensures, second .by-index2 .ensures (a .x .now) (a .y .now))
+    (first .before .before .side-members .ensures, first .by-index .ensures (a .x .now) (a .y .now)) (second .before .before .side-members2 .ensures, second .by-index2 .ensures (a .x .now) (a .y .now))
     (c .combined .ensures)
 
 pub lattice-orientation-drops-spec : {M : Type 1} → statement M
