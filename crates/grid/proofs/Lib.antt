@@ -6,3 +6,4 @@ pub mod Swept
 pub mod Firsts
 pub mod Indices
 pub mod Filled
+pub mod Views
