@@ -1,6 +1,6 @@
 -- The first rank with the v, and with the u, of each rank, by the parts of the keys. Assumes nothing.
 use mathlib.Core.Path.{_≡_, refl, sym, ap, _∙_}
-use mathlib.Core.Bool.{cond}
+use mathlib.Core.Bool.{Bool, true, cond, true≢false}
 use mathlib.Core.Logic.{_⊎_, inl, inr}
 use mathlib.Core.List.{List}
 use Prim.Native.Nat.{ℕ, _+_, _/_, _%_, _≤_, _<_}
@@ -12,12 +12,20 @@ use lib.Dec.{eqb, ltb}
 use lib.ListN.{length, set, length-set, replicate, length-replicate, getD-replicate}
 use lib.Seq.{getD-set-same, getD-set-other}
 use borrow.Author.Tests.{lt-ltb, le-ltb, eq-eqb, ne-eqb}
-use Rattle.folds.specs.Below.{first, first-hit, first-ext}
+use Rattle.folds.specs.Below.{first, first-before, first-hit, first-ext}
 use Rattle.view.specs.View.{maxPoints}
 use Rattle.cells.specs.Points.{stride}
 use Rattle.cells.specs.Cell.{agree, cellsAt}
 use Rattle.cells.proofs.Keys.{same-u, same-v}
 use Rattle.grid.specs.Tables.{entryIn, firstInRow, firstInColumn}
+
+-- where one passes, the first that passes is below n
+pub first-below : (p : ℕ → Bool) (n k : ℕ) → k < n → p k ≡ true → first p 0 n < n
+first-below p n k h e = go (decLt (first p 0 n) n)
+  where
+    go : Dec (first p 0 n < n) → first p 0 n < n
+    go (yes l) = l
+    go (no f) = absurd (true≢false (sym e ∙ first-before p 0 n k (omega arith) (omega (arith, f))))
 
 -- the v parts and the u parts of an array of keys
 abbrev pub vParts : List ℕ → ℕ → ℕ
@@ -48,10 +56,10 @@ module _ (part : ℕ → ℕ) where
     pub size : length seen ≡ stride
     pub each : (v : ℕ) → v < stride → ((entryIn seen v < k) × (part (entryIn seen v) ≡ v) × Unseen v (entryIn seen v)) ⊎ ((maxPoints ≤ entryIn seen v) × Unseen v k)
 
-  pub tabled-start : Tabled (replicate stride 65535) 0
+  pub tabled-start : Tabled (replicate stride maxPoints) 0
   tabled-start = record {
-    size = length-replicate {A = ℕ} stride 65535;
-    each = λ v l. inr (rw (getD-replicate {A = ℕ} stride v 65535 0 l) (omega arith), λ j h. absurd (omega arith));
+    size = length-replicate {A = ℕ} stride maxPoints;
+    each = λ v l. inr (rw (getD-replicate {A = ℕ} stride v maxPoints 0 l) (omega arith), λ j h. absurd (omega arith));
   }
 
   module _ (seen : List ℕ) (k v r : ℕ) (is : v ≡ part k) (fits : part k < stride) (s : Tabled seen k) (few : k < maxPoints) (e : r ≡ cond (ltb (entryIn seen v) k) (entryIn seen v) k) where

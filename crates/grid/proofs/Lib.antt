@@ -7,3 +7,6 @@ pub mod Firsts
 pub mod Indices
 pub mod Filled
 pub mod Views
+pub mod InOrder
+pub mod Alike
+pub mod Moved

@@ -1,17 +1,15 @@
 -- The arrays give the view of points in cell order, and what is read of it. Assumes nothing.
 use mathlib.Core.Path.{_≡_, refl, sym, ap, _∙_, fun-ext}
-use mathlib.Core.Bool.{Bool, true, false, true≢false}
+use mathlib.Core.Bool.{Bool}
 use mathlib.Core.List.{List}
 use Prim.Native.Nat.{ℕ, _+_, _*_, _/_, _%_, _≤_, _<_}
-use Prim.{Dec, yes, no}
 use native.Mathlib.Omega.{arith}
-use native.Mathlib.Decide.{decLt}
 use lib.Dec.{eqb}
 use lib.ListN.{length, getD}
 use lib.Ieee.{Float, nan}
 use borrow.Author.Tests.{eq-eqb}
 use Rattle.folds.specs.Arith.{f32}
-use Rattle.folds.specs.Below.{first, first-before, last-holds, some-yes}
+use Rattle.folds.specs.Below.{last-holds, some-yes}
 use Rattle.folds.specs.Lists.{listOf, list-at}
 use Rattle.folds.specs.Column.{column-list}
 use Rattle.view.specs.View.{View, viewAt, rankAt, maxPoints, ranksSize, rowsAt, columnsAt, indicesAt, Ranked}
@@ -22,19 +20,13 @@ use Rattle.cells.proofs.Keys.{cells-are}
 use Rattle.grid.specs.Tables.{neighbourOf, neighbourEntry, firstInRow, firstInColumn, lastWithIndex, blocks, tableOf, entryIn, ranksOf}
 use Rattle.grid.specs.Views.{viewOf}
 use Rattle.grid.specs.InOrder.{CellOrder}
+use Rattle.grid.proofs.Firsts.{first-below}
 use Rattle.grid.proofs.Filled.{block-near, block-row, block-column, block-index, blocks-list, blocks-of}
 
 -- ---- the table of ranks
 
 -- it holds ranks
 module _ (n : ℕ) (keys indices : List ℕ) (few : n ≤ maxPoints) where
-  first-below : (p : ℕ → Bool) (k : ℕ) → k < n → p k ≡ true → first p 0 n < n
-  first-below p k h e = go (decLt (first p 0 n) n)
-    where
-      go : Dec (first p 0 n < n) → first p 0 n < n
-      go (yes l) = l
-      go (no f) = absurd (true≢false (sym e ∙ first-before p 0 n k (omega arith) (omega (arith, f))))
-
   abbrev cell : ℕ → Cell
   cell = cellsAt keys
 
@@ -47,11 +39,11 @@ module _ (n : ℕ) (keys indices : List ℕ) (few : n ≤ maxPoints) where
 
   rows-below : (k : ℕ) → k < n → firstInRow n cell k < n
   unfolding firstInRow
-  rows-below k h = first-below (λ (j : ℕ). agree (cell j .v) (cell k .v)) k h (agree-same (cell k .v) (cell k .v) refl)
+  rows-below k h = first-below (λ (j : ℕ). agree (cell j .v) (cell k .v)) n k h (agree-same (cell k .v) (cell k .v) refl)
 
   columns-below : (k : ℕ) → k < n → firstInColumn n cell k < n
   unfolding firstInColumn
-  columns-below k h = first-below (λ (j : ℕ). agree (cell j .u) (cell k .u)) k h (agree-same (cell k .u) (cell k .u) refl)
+  columns-below k h = first-below (λ (j : ℕ). agree (cell j .u) (cell k .u)) n k h (agree-same (cell k .u) (cell k .u) refl)
 
   places-below : (k : ℕ) → k < n → lastWithIndex n index k < n
   unfolding lastWithIndex
@@ -85,12 +77,21 @@ module _ (ps : List Point) where
   indices-are = fun-ext (column-list maxPoints 0 n (λ (k : ℕ). getD ps k nowhere .index))
 
   -- the table of ranks, as the view has it
-  table : ℕ → ℕ
-  table = blocks n (entryIn (listOf (25 * n) (neighbourEntry n (cellsOf ps)))) (entryIn (listOf n (firstInRow n (cellsOf ps)))) (entryIn (listOf n (firstInColumn n (cellsOf ps)))) (entryIn (listOf n (lastWithIndex n (entryIn indexList))))
+  abbrev nearOf : ℕ → ℕ
+  nearOf = entryIn (listOf (25 * n) (neighbourEntry n (cellsOf ps)))
+
+  abbrev rowOf : ℕ → ℕ
+  rowOf = entryIn (listOf n (firstInRow n (cellsOf ps)))
+
+  abbrev columnOf : ℕ → ℕ
+  columnOf = entryIn (listOf n (firstInColumn n (cellsOf ps)))
+
+  abbrev indexOf : ℕ → ℕ
+  indexOf = entryIn (listOf n (lastWithIndex n (entryIn indexList)))
 
   module _ (o : CellOrder ps) where
-    ranks-are : (i : ℕ) → entryIn (ranksOf n (keysOf ps) (indicesOf ps)) i ≡ table i
-    unfolding ranksOf table
+    ranks-are : (i : ℕ) → entryIn (ranksOf n (keysOf ps) (indicesOf ps)) i ≡ blocks n nearOf rowOf columnOf indexOf i
+    unfolding ranksOf
     ranks-are i =
         ap (λ (cell : ℕ → Cell). entryIn (listOf ranksSize (tableOf n cell (entryIn (indicesOf ps)))) i) (cells-are ps (o .inside))
         ∙ ap (λ (index : ℕ → ℕ). entryIn (listOf ranksSize (tableOf n (cellsOf ps) index)) i) indices-are
@@ -99,7 +100,28 @@ module _ (ps : List Point) where
 
     -- the arrays give the view
     pub view-is : viewAt n (ranksOf n (keysOf ps) (indicesOf ps)) (xsOf ps) (ysOf ps) ≡ viewOf ps
-    unfolding viewOf table xsOf ysOf
+    unfolding viewOf xsOf ysOf
     view-is =
         same-view n (fun-ext ranks-are) (fun-ext (λ k. ranks-are (rowsAt + k))) (fun-ext (λ k. ranks-are (columnsAt + k))) (fun-ext (λ k. ranks-are (indicesAt + k)))
         (fun-ext (λ k. column-list maxPoints nan n (λ (k : ℕ). f32 (getD ps k nowhere .x)) k)) (fun-ext (λ k. column-list maxPoints nan n (λ (k : ℕ). f32 (getD ps k nowhere .y)) k))
+
+  -- what is read of it at a rank
+  module _ (few : n ≤ maxPoints) where
+    pub near-read : (k d : ℕ) → k < n → d < 25 → rankAt (viewOf ps) k d ≡ neighbourOf n (cellsOf ps) k d
+    unfolding viewOf
+    near-read k d h l =
+        let a : (25 * k + d) / 25 ≡ k = omega arith in
+        let b : (25 * k + d) % 25 ≡ d = omega arith in
+        block-near n nearOf rowOf columnOf indexOf few (25 * k + d) (omega arith) ∙ list-at (25 * n) (neighbourEntry n (cellsOf ps)) (25 * k + d) 0 (omega arith) ∙ rw (a, b)
+
+    pub row-read : (k : ℕ) → k < n → viewOf ps .row k ≡ firstInRow n (cellsOf ps) k
+    unfolding viewOf
+    row-read k h = block-row n nearOf rowOf columnOf indexOf few k h ∙ list-at n (firstInRow n (cellsOf ps)) k 0 h
+
+    pub column-read : (k : ℕ) → k < n → viewOf ps .column k ≡ firstInColumn n (cellsOf ps) k
+    unfolding viewOf
+    column-read k h = block-column n nearOf rowOf columnOf indexOf few k h ∙ list-at n (firstInColumn n (cellsOf ps)) k 0 h
+
+    pub index-read : (k : ℕ) → k < n → viewOf ps .byIdx k ≡ lastWithIndex n (entryIn indexList) k
+    unfolding viewOf
+    index-read k h = block-index n nearOf rowOf columnOf indexOf few k h ∙ list-at n (lastWithIndex n (entryIn indexList)) k 0 h

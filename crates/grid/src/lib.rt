@@ -18,8 +18,8 @@ const CENTRE: u32 = 2 * cells::STRIDE + 2;
 // How many values the v part of a key has.
 const V_PARTS: usize = cells::STRIDE as usize;
 
-// In the table over all v: no rank yet.
-const NO_RANK: u16 = 65535;
+// No rank.
+const NONE: u16 = view::MAX_POINTS as u16;
 
 // An index and a rank in one number: the index times this, plus the rank.
 const RANK_ROOM: u64 = 4096;
@@ -123,7 +123,7 @@ fn fill_rows(keys: &[u32; view::MAX_POINTS], n: usize, ranks: &mut [u16; view::R
     requires { ⌜ (n ≤ maxPoints) × (length (now ranks) ≡ ranksSize) ⌝ }
     ensures { λ r. ⌜ now (ranks .exit) ≡ spliced rowsAt n (firstInRow n (cellsAt (now (keys .entry)))) (now (ranks .entry)) ⌝ }
 {
-    let mut seen = [NO_RANK; V_PARTS];
+    let mut seen = [NONE; V_PARTS];
     let mut k: usize = 0;
     while k < n {
         let v = cells::v_part(keys[k]) as usize;

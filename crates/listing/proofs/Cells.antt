@@ -9,7 +9,8 @@ use lib.Dec.{ltb}
 use lib.IntN.{pos, negsuc, _-ℤ_}
 use mir.Val.{sel}
 use Rattle.cells.specs.Points.{Point, biased, keyOf}
-use Rattle.cells.specs.Cell.{signed, within, cellOf, InRange, biased-range}
+use Rattle.cells.specs.Cell.{signed, within, cellOf, InRange}
+use Rattle.cells.proofs.Keys.{biased-range}
 use Rattle.text.specs.Text.{bytes, decimal, whole}
 use Rattle.listing.specs.Listing.{uOf, vOf}
 

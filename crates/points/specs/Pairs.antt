@@ -11,7 +11,8 @@ use Rattle.folds.specs.Among.{anyIn, pairIn, any-list, pair-ext}
 use Rattle.folds.specs.Below.{some, some-ext, some-fails, and-left, and-right, and-both, both-ways}
 use Rattle.view.specs.View.{maxPoints}
 use Rattle.cells.specs.Points.{Point, biased, keyOf}
-use Rattle.cells.specs.Cell.{signed, within, InRange, biased-range}
+use Rattle.cells.specs.Cell.{signed, within, InRange}
+use Rattle.cells.proofs.Keys.{biased-range}
 use Rattle.sheet_file.specs.Bytes.{Bytes, le32-small}
 use Rattle.sort.specs.Packed.{placed}
 use Rattle.points.specs.Records.{recordOf, pointsIn}

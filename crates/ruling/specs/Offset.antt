@@ -16,10 +16,11 @@ use Rattle.folds.specs.Among.{anyIn, pairIn}
 use Rattle.folds.specs.Lists.{All, listOf, list-at, is-list, getD-any}
 use Rattle.refusals.specs.First.{ruled, passed}
 use Rattle.cells.specs.Points.{Point, nowhere, keyOf}
-use Rattle.cells.specs.Cell.{cellOf, moved, keyUp, keyDown, key-moved}
+use Rattle.cells.specs.Cell.{cellOf, moved}
+use Rattle.cells.proofs.Keys.{keyUp, keyDown, key-moved}
 use Rattle.sort.specs.Sorted.{sort, sort-all, all-at}
-use Rattle.grid.specs.Moved.{Moved}
-use Rattle.grid.specs.Standing.{same-test}
+use Rattle.grid.specs.InOrder.{Moved}
+use Rattle.cells.proofs.Keys.{same-test}
 use Rattle.sheet_file.specs.Bytes.{Bytes, le32}
 use Rattle.sheet_file.specs.Frame.{layoutOf}
 use Rattle.sheet_file.specs.Refusals.{settingsOf, headerRefusals}

@@ -13,7 +13,7 @@ use Rattle.folds.specs.Below.{tally-le}
 use Rattle.folds.specs.Column.{column, column-at, column-over}
 use Rattle.view.specs.View.{maxPoints}
 use Rattle.cells.specs.Points.{Point, nowhere, keyOf, keysOf, indicesOf}
-use Rattle.cells.specs.Cell.{key-small}
+use Rattle.cells.proofs.Keys.{key-small}
 use Rattle.grid.specs.Views.{viewOf}
 use Rattle.sheet_file.specs.Bytes.{Bytes}
 use Rattle.sheet_file.specs.declared.Settings.{Settings}
