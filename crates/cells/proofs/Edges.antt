@@ -1,11 +1,11 @@
 -- Cells that agree are equal; a move of two cells keeps whether they agree; a shared edge is one of four offsets. Assumes nothing.
 use mathlib.Core.Path.{_≡_, refl, sym, ap, _∙_}
-use mathlib.Core.Bool.{Bool, true, false, _&&_, false≢true}
+use mathlib.Core.Bool.{Bool, true, _&&_, false≢true}
 use mathlib.Core.Logic.{_⊎_, inl, inr}
 use Prim.Native.Nat.{ℕ, zero, suc, _-_, _/_, _%_, _<_}
 use native.Mathlib.Omega.{arith}
 use lib.IntN.{ℤ, pos, negsuc, _+ℤ_, _-ℤ_, +ℤ-idr, +ℤ-assoc, +ℤ-comm, +ℤ-negℤ-cancel}
-use lib.ListN.{length, getD}
+use lib.ListN.{getD}
 use borrow.Author.Tests.{eqb-true, eq-eqb}
 use Rattle.folds.specs.Below.{some-at, some-yes, and-left, and-right, and-both, both-ways, or-left, or-right, or-cases}
 use Rattle.view.specs.View.{own, squareSides}
@@ -35,7 +35,7 @@ agree-moved a b c =
 
 -- ---- cells
 
-abbrev pub cellFrom : ℤ → ℤ → Cell
+abbrev cellFrom : ℤ → ℤ → Cell
 cellFrom u v = record { u = u; v = v }
 
 pub same-cell : {u v x y : ℤ} → u ≡ x → v ≡ y → cellFrom u v ≡ cellFrom x y

@@ -82,7 +82,7 @@ pub same-v : (a b : ℕ) → agree (cellOfKey a .v) (cellOfKey b .v) ≡ eqb (a 
 same-v a b = lift-agree (cellOfKey a .v) (cellOfKey b .v) (part-liftable (a % stride)) (part-liftable (b % stride)) ∙ rw (part-lift (a % stride), part-lift (b % stride))
 
 -- the order of keys is the order of cells, by u, then v
-pub keys-order : (a b : ℕ) → ltb a b ≡ before (cellOfKey a) (cellOfKey b)
+keys-order : (a b : ℕ) → ltb a b ≡ before (cellOfKey a) (cellOfKey b)
 keys-order a b =
     let liftable-u : (k : ℕ) → Liftable (cellOfKey k .u) = λ k. part-liftable (k / stride) in
     let liftable-v : (k : ℕ) → Liftable (cellOfKey k .v) = λ k. part-liftable (k % stride) in

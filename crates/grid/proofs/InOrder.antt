@@ -1,20 +1,18 @@
 -- Points in cell order: their keys, and where each stands to the others. Assumes nothing.
-use mathlib.Core.Path.{_≡_, refl, sym, ap, _∙_}
-use mathlib.Core.Bool.{Bool, true, false, true≢false}
+use mathlib.Core.Path.{_≡_, sym, ap, _∙_}
+use mathlib.Core.Bool.{true≢false}
 use mathlib.Core.List.{List}
 use Prim.Native.Nat.{ℕ, _+_, _-_, _*_, _≤_, _<_}
-use Prim.{Dec, yes, no}
 use native.Mathlib.Omega.{arith}
-use native.Mathlib.Decide.{decLt}
-use lib.Dec.{eqb, ltb}
+use lib.Dec.{eqb}
 use lib.ListN.{length, getD}
 use borrow.Author.Tests.{lt-ltb, le-ltb, ltb-true, eq-eqb, eqb-true}
 use Rattle.folds.specs.Below.{some, some-ext, first-holds, first-hit, not-true, both-ways}
 use Rattle.folds.specs.Column.{column-at, length-column}
-use Rattle.view.specs.View.{maxPoints, own, squareSides, rankAt}
+use Rattle.view.specs.View.{maxPoints, own, rankAt}
 use Rattle.cells.specs.Points.{Point, nowhere, keyOf, keysOf}
-use Rattle.cells.specs.Cell.{Cell, cellOf, InRange, CellInRange, before, coincide, offsetBy, joinedBy, shareEdge, cellOfKey, cellsAt, cellsOf}
-use Rattle.cells.proofs.Edges.{coincide-same, coincide-true, offset-own, offset-back, joined-share}
+use Rattle.cells.specs.Cell.{Cell, cellOf, InRange, before, coincide, offsetBy, joinedBy, cellsOf}
+use Rattle.cells.proofs.Edges.{coincide-same, coincide-true, offset-own, offset-back}
 use Rattle.cells.proofs.Keys.{key-cell, key-order, cell-at}
 use Rattle.grid.specs.Tables.{entryIn, neighbourOf, Keys}
 use Rattle.grid.specs.Views.{viewOf}
@@ -35,7 +33,7 @@ module _ (ps : List Point) (o : CellOrder ps) where
   abbrev cell : ℕ → Cell
   cell k = cellOf (getD ps k nowhere)
 
-  pub keys-rise : (i j : ℕ) → i < j → j < length ps → keyOf (getD ps i nowhere) < keyOf (getD ps j nowhere)
+  keys-rise : (i j : ℕ) → i < j → j < length ps → keyOf (getD ps i nowhere) < keyOf (getD ps j nowhere)
   keys-rise i j ij h =
       ltb-true (keyOf (getD ps i nowhere)) (keyOf (getD ps j nowhere)) (key-order (getD ps i nowhere) (getD ps j nowhere) (o .inside i (omega arith)) (o .inside j h) ∙ o .rising i j ij h)
 

@@ -38,5 +38,5 @@ pub record FiveFit (ranks : List ℕ) (target to : ℕ) : Type 0 where
   pub small : target < 2 ^ 29
 
 -- an index and a rank in one number: the index times this, plus the rank (`packed` of the crate `sort`)
-abbrev pub rankRoom : ℕ
-rankRoom = 4096
+abbrev pub packedPlaces : ℕ
+packedPlaces = 4096

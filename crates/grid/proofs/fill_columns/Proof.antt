@@ -11,9 +11,6 @@ use Rattle.grid.proofs.Splicing.{spliced-none, spliced-more}
 use Rattle.grid.proofs.Firsts.{uParts, Started, start-none, started, started-first, column-is}
 use Rattle.grid.proofs.fill_columns.Statement.{statement}
 use Rattle.grid.proofs.fill_columns.Tie as tie
-use Rattle.grid.proofs.fill_columns.Reads as reads
-use Rattle.grid.proofs.fill_columns.Lts as lts
-use Rattle.grid.proofs.start_of.Reads as start-of-reads
 
 abbrev Inv-loop : tie.InvT-loop
 Inv-loop keys n ranks₀ start₀ k₀ ranks start k = (k ≤ n) × Started (uParts keys) start k × (ranks ≡ spliced columnsAt k (firstInColumn n (cellsAt keys)) ranks₀)
@@ -36,21 +33,6 @@ cast-ranks c =
     let f = started-first (uParts (a .keys .now)) _ _ _ rises (l .inv .1) (c .start-of .ensures) in
     omega (arith, f .low, pre .0 .few)
 
-add-ranks : tie.Need-add-ranks Inv-loop μ-loop
-add-ranks c = search needs
-
-mul-ranks : tie.Need-mul-ranks Inv-loop μ-loop
-mul-ranks c = search needs
-
-element-write-ranks : tie.Need-element-write-ranks Inv-loop μ-loop
-element-write-ranks c = search needs
-
-add-k : tie.Need-add-k Inv-loop μ-loop
-add-k c = search needs
-
-loop-less : tie.Need-loop-less Inv-loop μ-loop
-loop-less c = search needs
-
 loop-again : tie.Need-loop-again Inv-loop μ-loop
 loop-again c =
     let a = c .before .before .before .args in
@@ -72,16 +54,5 @@ returns c =
 pub fill-columns-spec : {M : Type 1} → statement M
 fill-columns-spec =
     tie.close
-    (tie.spec
-    Inv-loop
-    μ-loop
-    loop-holds
-    start-of-requires
-    cast-ranks
-    add-ranks
-    mul-ranks
-    element-write-ranks
-    add-k
-    loop-less
-    loop-again
-    returns)
+    (tie.spec Inv-loop μ-loop loop-holds start-of-requires cast-ranks (λ c. search needs) (λ c. search needs) (λ c. search needs)
+    (λ c. search needs) (λ c. search needs) loop-again returns)
