@@ -35,11 +35,11 @@ agree-moved a b c =
 
 -- ---- cells
 
-abbrev cellFrom : ℤ → ℤ → Cell
-cellFrom u v = record { u = u; v = v }
+abbrev pub cellAt : ℤ → ℤ → Cell
+cellAt u v = record { u = u; v = v }
 
-pub same-cell : {u v x y : ℤ} → u ≡ x → v ≡ y → cellFrom u v ≡ cellFrom x y
-same-cell {u} {v} {x} {y} e f = ap (λ (z : ℤ). cellFrom z v) e ∙ ap (cellFrom x) f
+pub same-cell : {u v x y : ℤ} → u ≡ x → v ≡ y → cellAt u v ≡ cellAt x y
+same-cell {u} {v} {x} {y} e f = ap (λ (z : ℤ). cellAt z v) e ∙ ap (cellAt x) f
 
 pub coincide-same : (c d : Cell) → c ≡ d → coincide c d ≡ true
 coincide-same c d e = and-both (agree (c .u) (d .u)) (agree (c .v) (d .v)) (agree-same (c .u) (d .u) (ap (λ (x : Cell). x .u) e)) (agree-same (c .v) (d .v) (ap (λ (x : Cell). x .v) e))
@@ -84,15 +84,15 @@ side i = getD squareSides i 0
 
 module _ (u v x y : ℤ) where
   abbrev Over : ℕ → Type 0
-  Over d = cellFrom x y ≡ offsetBy d (cellFrom u v)
+  Over d = cellAt x y ≡ offsetBy d (cellAt u v)
 
-  by-u : (a : ℤ) → agree x (u +ℤ a) ≡ true → agree v y ≡ true → cellFrom x y ≡ moved a (pos 0) (cellFrom u v)
+  by-u : (a : ℤ) → agree x (u +ℤ a) ≡ true → agree v y ≡ true → cellAt x y ≡ moved a (pos 0) (cellAt u v)
   by-u a e f = same-cell (agree-true x (u +ℤ a) e) (sym (agree-true v y f) ∙ sym (+ℤ-idr v))
 
-  by-v : (b : ℤ) → agree u x ≡ true → agree y (v +ℤ b) ≡ true → cellFrom x y ≡ moved (pos 0) b (cellFrom u v)
+  by-v : (b : ℤ) → agree u x ≡ true → agree y (v +ℤ b) ≡ true → cellAt x y ≡ moved (pos 0) b (cellAt u v)
   by-v b e f = same-cell (sym (agree-true u x e) ∙ sym (+ℤ-idr u)) (agree-true y (v +ℤ b) f)
 
-  side-of : shareEdge (cellFrom u v) (cellFrom x y) ≡ true → (i : ℕ) × (i < 4) × Over (side i)
+  side-of : shareEdge (cellAt u v) (cellAt x y) ≡ true → (i : ℕ) × (i < 4) × Over (side i)
   side-of e = go (or-cases (differByOne u x && agree v y) (agree u x && differByOne v y) e)
     where
       in-u : agree v y ≡ true → (agree x (u -ℤ pos 1) ≡ true) ⊎ (agree x (u +ℤ pos 1) ≡ true) → (i : ℕ) × (i < 4) × Over (side i)
@@ -107,25 +107,25 @@ module _ (u v x y : ℤ) where
       go (inl h) = in-u (and-right (differByOne u x) (agree v y) h) (or-cases (agree x (u -ℤ pos 1)) (agree x (u +ℤ pos 1)) (and-left (differByOne u x) (agree v y) h))
       go (inr h) = in-v (and-left (agree u x) (differByOne v y) h) (or-cases (agree y (v -ℤ pos 1)) (agree y (v +ℤ pos 1)) (and-right (agree u x) (differByOne v y) h))
 
-  over-u : (a : ℤ) → cellFrom x y ≡ moved a (pos 0) (cellFrom u v) → (agree x (u +ℤ a) ≡ true) × (agree v y ≡ true)
+  over-u : (a : ℤ) → cellAt x y ≡ moved a (pos 0) (cellAt u v) → (agree x (u +ℤ a) ≡ true) × (agree v y ≡ true)
   over-u a e =
       let f : x ≡ u +ℤ a = ap (λ (c : Cell). c .u) e in
       let g : y ≡ v +ℤ pos 0 = ap (λ (c : Cell). c .v) e in
       (agree-same x (u +ℤ a) f, agree-same v y (sym (g ∙ +ℤ-idr v)))
 
-  over-v : (b : ℤ) → cellFrom x y ≡ moved (pos 0) b (cellFrom u v) → (agree u x ≡ true) × (agree y (v +ℤ b) ≡ true)
+  over-v : (b : ℤ) → cellAt x y ≡ moved (pos 0) b (cellAt u v) → (agree u x ≡ true) × (agree y (v +ℤ b) ≡ true)
   over-v b e =
       let f : x ≡ u +ℤ pos 0 = ap (λ (c : Cell). c .u) e in
       let g : y ≡ v +ℤ b = ap (λ (c : Cell). c .v) e in
       (agree-same u x (sym (f ∙ +ℤ-idr u)), agree-same y (v +ℤ b) g)
 
-  in-u-is : differByOne u x ≡ true → agree v y ≡ true → shareEdge (cellFrom u v) (cellFrom x y) ≡ true
+  in-u-is : differByOne u x ≡ true → agree v y ≡ true → shareEdge (cellAt u v) (cellAt x y) ≡ true
   in-u-is e f = or-left (differByOne u x && agree v y) (agree u x && differByOne v y) (and-both (differByOne u x) (agree v y) e f)
 
-  in-v-is : agree u x ≡ true → differByOne v y ≡ true → shareEdge (cellFrom u v) (cellFrom x y) ≡ true
+  in-v-is : agree u x ≡ true → differByOne v y ≡ true → shareEdge (cellAt u v) (cellAt x y) ≡ true
   in-v-is e f = or-right (differByOne u x && agree v y) (agree u x && differByOne v y) (and-both (agree u x) (differByOne v y) e f)
 
-  of-side : (i : ℕ) → i < 4 → Over (side i) → shareEdge (cellFrom u v) (cellFrom x y) ≡ true
+  of-side : (i : ℕ) → i < 4 → Over (side i) → shareEdge (cellAt u v) (cellAt x y) ≡ true
   of-side zero h e = let w = over-u (negsuc 0) e in in-u-is (or-left (agree x (u -ℤ pos 1)) (agree x (u +ℤ pos 1)) (w .0)) (w .1)
   of-side (suc zero) h e = let w = over-u (pos 1) e in in-u-is (or-right (agree x (u -ℤ pos 1)) (agree x (u +ℤ pos 1)) (w .0)) (w .1)
   of-side (suc (suc zero)) h e = let w = over-v (negsuc 0) e in in-v-is (w .0) (or-left (agree y (v -ℤ pos 1)) (agree y (v +ℤ pos 1)) (w .1))

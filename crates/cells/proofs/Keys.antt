@@ -54,6 +54,10 @@ key-cell p r =
     (lift-one _ (cellOf p .u) (part-liftable (keyOf p / stride)) (liftable (cellOf p .u) (r .u)) (part-lift (keyOf p / stride) ∙ omega (arith, u, v, m)))
     (lift-one _ (cellOf p .v) (part-liftable (keyOf p % stride)) (liftable (cellOf p .v) (r .v)) (part-lift (keyOf p % stride) ∙ omega (arith, u, v, m)))
 
+-- one key, one cell
+pub one-cell : (p q : Point) → InRange p → InRange q → keyOf p ≡ keyOf q → cellOf p ≡ cellOf q
+one-cell p q r s e = sym (key-cell p r) ∙ ap cellOfKey e ∙ key-cell q s
+
 pub cell-at : (ps : List Point) (k : ℕ) → k < length ps → cellsOf ps k ≡ cellOf (getD ps k nowhere)
 unfolding cellsOf
 cell-at ps k h = list-at (length ps) (λ (k : ℕ). cellOf (getD ps k nowhere)) k (cellOfKey 0) h

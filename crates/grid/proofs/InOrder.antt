@@ -2,16 +2,15 @@
 use mathlib.Core.Path.{_≡_, sym, ap, _∙_}
 use mathlib.Core.Bool.{true≢false}
 use mathlib.Core.List.{List}
-use Prim.Native.Nat.{ℕ, _+_, _-_, _*_, _≤_, _<_}
+use Prim.Native.Nat.{ℕ, _-_, _≤_, _<_}
 use native.Mathlib.Omega.{arith}
-use lib.Dec.{eqb}
 use lib.ListN.{length, getD}
-use borrow.Author.Tests.{lt-ltb, le-ltb, ltb-true, eq-eqb, eqb-true}
-use Rattle.folds.specs.Below.{some, some-ext, first-holds, first-hit, not-true, both-ways}
+use borrow.Author.Tests.{lt-ltb, le-ltb, ltb-true}
+use Rattle.folds.specs.Below.{first-holds, first-hit, not-true}
 use Rattle.folds.specs.Column.{column-at, length-column}
 use Rattle.view.specs.View.{maxPoints, own, rankAt}
 use Rattle.cells.specs.Points.{Point, nowhere, keyOf, keysOf}
-use Rattle.cells.specs.Cell.{Cell, cellOf, InRange, before, coincide, offsetBy, joinedBy, cellsOf}
+use Rattle.cells.specs.Cell.{Cell, cellOf, InRange, before, coincide, offsetBy, cellsOf}
 use Rattle.cells.proofs.Edges.{coincide-same, coincide-true, offset-own, offset-back}
 use Rattle.cells.proofs.Keys.{key-cell, key-order, cell-at}
 use Rattle.grid.specs.Tables.{entryIn, neighbourOf, Keys}
@@ -89,17 +88,3 @@ module _ (ps : List Point) (o : CellOrder ps) where
   -- j stands at offset d from k just where k stands at offset 24 - d from j
   pub mirrored : (k j d : ℕ) → k < length ps → j < length ps → d < 25 → rankAt (viewOf ps) k d ≡ j → rankAt (viewOf ps) j (24 - d) ≡ k
   mirrored k j d hk hj hd e = near-found j (24 - d) k hj (omega arith) hk (sym (offset-back d (cell k) hd) ∙ ap (offsetBy (24 - d)) (sym (near-means k d j hk hd hj e)))
-
-  -- ---- the table of neighbours leads from cell to cell
-
-  -- b is at one of the offsets from a just where one of them leads from a's cell to b's
-  pub touch-joined : (sides : List ℕ) → ((i : ℕ) → i < length sides → getD sides i 0 < 25) → (a b : ℕ) → a < length ps → b < length ps
-      → some (λ (i : ℕ). eqb (viewOf ps .near (25 * a + getD sides i 0)) b) (length sides) ≡ joinedBy sides (cell a) (cell b)
-  touch-joined sides fit a b ha hb =
-      some-ext (λ (i : ℕ). eqb (rankAt (viewOf ps) a (getD sides i 0)) b) (λ (i : ℕ). coincide (cell b) (offsetBy (getD sides i 0) (cell a))) (length sides) (λ i h. at (getD sides i 0) (fit i h))
-    where
-      at : (d : ℕ) → d < 25 → eqb (rankAt (viewOf ps) a d) b ≡ coincide (cell b) (offsetBy d (cell a))
-      at d h =
-          both-ways (eqb (rankAt (viewOf ps) a d) b) (coincide (cell b) (offsetBy d (cell a)))
-          (λ e. coincide-same (cell b) (offsetBy d (cell a)) (near-means a d b ha h hb (eqb-true (rankAt (viewOf ps) a d) b e)))
-          (λ e. eq-eqb (rankAt (viewOf ps) a d) b (near-found a d b ha h hb (coincide-true (cell b) (offsetBy d (cell a)) e)))

@@ -8,5 +8,6 @@ pub mod Indices
 pub mod Filled
 pub mod Views
 pub mod InOrder
+pub mod Joined
 pub mod Alike
 pub mod Moved

@@ -15,7 +15,7 @@ use Rattle.cells.proofs.Edges.{agree-moved, offset-moved}
 use Rattle.cells.proofs.Keys.{cell-at}
 use Rattle.grid.specs.Tables.{neighbourOf, neighbourEntry, firstInRow, firstInColumn}
 use Rattle.grid.specs.Views.{viewOf}
-use Rattle.grid.specs.InOrder.{Moved}
+use Rattle.grid.specs.Moved.{Moved}
 
 module _ (a b : ℤ) (ps qs : List Point) (size : length qs ≡ length ps) (all : (k : ℕ) → k < length ps → Moved a b (getD ps k nowhere) (getD qs k nowhere)) where
   abbrev n : ℕ

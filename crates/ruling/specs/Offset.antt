@@ -19,7 +19,7 @@ use Rattle.cells.specs.Points.{Point, nowhere, keyOf}
 use Rattle.cells.specs.Cell.{cellOf, moved}
 use Rattle.cells.proofs.Keys.{keyUp, keyDown, key-moved}
 use Rattle.sort.specs.Sorted.{sort, sort-all, all-at}
-use Rattle.grid.specs.InOrder.{Moved}
+use Rattle.grid.specs.Moved.{Moved}
 use Rattle.cells.proofs.Keys.{same-test}
 use Rattle.sheet_file.specs.Bytes.{Bytes, le32}
 use Rattle.sheet_file.specs.Frame.{layoutOf}
