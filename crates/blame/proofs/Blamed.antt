@@ -6,18 +6,17 @@ use Prim.Native.Nat.{ℕ, _+_, _≤_, _<_}
 use native.Mathlib.Omega.{arith}
 use borrow.Author.Tests.{eqb-true, lt-ltb, le-ltb, ltb-true, le-leb, lt-leb, eq-eqb, ne-eqb}
 use lib.Dec.{eqb, ltb, leb}
-use lib.ListN.{length, getD, set}
+use lib.ListN.{length, getD}
 use lib.Ieee.{Float}
 use Rattle.folds.specs.Below.{first, first-holds, some, some-ext, and-left, and-false, and-true, or-false}
 use Rattle.folds.specs.Column.{column, column-at, column-ext, length-column}
-use Rattle.folds.specs.Marked.{bit, Marked, marked-none, marked-one, marked-as}
+use Rattle.folds.specs.Marked.{bit, Marked, marked-none, marked-as}
 use Rattle.folds.specs.Scattered.{counts}
-use Rattle.view.specs.View.{View, viewAt, maxPoints}
+use Rattle.view.specs.View.{View, viewAt, maxPoints, Ranked}
 use Rattle.local_h.specs.Base.{memberAt, onLine, isOther, isFourth, baseOf}
 use Rattle.local_h.specs.declared.Base.{Base}
 use Rattle.blame.specs.declared.Worst.{Worst}
-use Rattle.blame.specs.Marks.{Evidence, evidenceBy, rule1, rule2, rule3, rule4, isOutlier, worseOf, noOne, worstOf, blamed, isVisited, isMarked, marked-of}
-use Rattle.blame.specs.Blaming.{viewBy, blames}
+use Rattle.blame.specs.Marks.{Evidence, evidenceBy, rule1, rule2, rule3, rule4, isOutlier, worseOf, noOne, worstOf, blamed, isVisited, blames, isMarked, marksOf}
 
 -- ---- the members of a base
 
@@ -66,12 +65,9 @@ module _ (w : View) (e : Evidence) (k : ℕ) where
   unfolding blames
   blames-is m = refl
 
-  pub blames-one : (m : ℕ) (a : List ℕ) → isVisited w e k ≡ true → m ≡ blamed w (e .flags) k → m < w .count → Marked (blames w e k) a (set a m 1)
-  blames-one m a v d l =
-      marked-as (eqb m) (blames w e k) (λ i g. sym (blames-is i ∙ rw (v, ← d, lt-ltb m (w .count) l))) (marked-one m a)
-
-  pub blames-none : (m : ℕ) (a : List ℕ) → m ≡ blamed w (e .flags) k → w .count ≤ m → Marked (blames w e k) a a
-  blames-none m a d l = marked-none (blames w e k) a (λ i. blames-is i ∙ rw (← d, le-ltb m (w .count) l) (and-false (isVisited w e k)))
+  -- the mark that a visited corner sets
+  pub blames-one : (m : ℕ) {a b : List ℕ} → isVisited w e k ≡ true → m ≡ blamed w (e .flags) k → Marked (λ (i : ℕ). true && (ltb m (w .count) && eqb m i)) a b → Marked (blames w e k) a b
+  blames-one m v d = marked-as _ (blames w e k) (λ i l. sym (blames-is i ∙ rw (v, ← d)))
 
   pub not-visited : (a : List ℕ) → isVisited w e k ≡ false → Marked (blames w e k) a a
   not-visited a v = marked-none (blames w e k) a (λ i. blames-is i ∙ rw v)
@@ -102,18 +98,32 @@ marked-is : (w : View) (e : Evidence) (m : ℕ) → isMarked w e m ≡ rule1 e m
 unfolding isMarked
 marked-is w e m = refl
 
+-- the positions do not count for the marks
+marked-of : (n : ℕ) (ranks : List ℕ) (xs ys : List Float) (e : Evidence) (m : ℕ) → isMarked (viewAt n ranks [] []) e m ≡ isMarked (viewAt n ranks xs ys) e m
+unfolding isMarked
+marked-of n ranks xs ys e m = refl
+
 -- the marks of rule 3 put over those of the others
-module _ (n : ℕ) (near byIdx flags over high deviates : List ℕ) (few : n ≤ maxPoints) where
+module _ (n : ℕ) (ranks flags over high deviates : List ℕ) (ranked : Ranked n ranks) where
   abbrev whole : Evidence
   whole = evidenceBy flags over high deviates
 
-  all-rules : (a b : List ℕ) → a ≡ column maxPoints 0 n (λ (m : ℕ). bit (isOutlier (evidenceBy flags [] high deviates) m))
-      → Marked (λ (m : ℕ). some (λ (k : ℕ). blames (viewBy n near byIdx) (evidenceBy flags over [] []) k m) n) a b
-      → (m : ℕ) → m < n → getD b m 0 ≡ bit (isMarked (viewBy n near byIdx) whole m)
-  all-rules a b s t m l =
-      t .at m (rw s (omega (arith, length-column maxPoints 0 n (λ (m : ℕ). bit (isOutlier (evidenceBy flags [] high deviates) m)) few)))
-      ∙ rw (s, column-at maxPoints 0 n (λ (m : ℕ). bit (isOutlier (evidenceBy flags [] high deviates) m)) m l, some-ext (λ (k : ℕ). blames (viewBy n near byIdx) (evidenceBy flags over [] []) k m) (counts (blamed (viewBy n near byIdx) (whole .flags)) (isVisited (viewBy n near byIdx) whole) m) n (λ k g. blames-at (viewBy n near byIdx) (evidenceBy flags over [] []) k m l))
-      (regroup (rule1 whole m) (rule2 whole m) (rule3 (viewBy n near byIdx) whole m) (rule4 whole m) ∙ ap bit (sym (marked-is (viewBy n near byIdx) whole m)))
+  abbrev seen : View
+  seen = viewAt n ranks [] []
+
+  -- the marks of the rules that look at an index alone
+  abbrev alone : List ℕ
+  alone = column maxPoints 0 n (λ (m : ℕ). bit (isOutlier (evidenceBy flags [] high deviates) m))
+
+  -- whom all corners blame
+  abbrev blamedBySome : ℕ → Bool
+  blamedBySome m = some (λ (k : ℕ). blames seen (evidenceBy flags over [] []) k m) n
+
+  all-rules : (b : List ℕ) → Marked blamedBySome alone b → (m : ℕ) → m < n → getD b m 0 ≡ bit (isMarked seen whole m)
+  all-rules b t m l =
+      t .at m (omega (arith, length-column maxPoints 0 n (λ (m : ℕ). bit (isOutlier (evidenceBy flags [] high deviates) m)) (ranked .few)))
+      ∙ rw (column-at maxPoints 0 n (λ (m : ℕ). bit (isOutlier (evidenceBy flags [] high deviates) m)) m l, some-ext (λ (k : ℕ). blames seen (evidenceBy flags over [] []) k m) (counts (blamed seen (whole .flags)) (isVisited seen whole) m) n (λ k g. blames-at seen (evidenceBy flags over [] []) k m l))
+      (regroup (rule1 whole m) (rule2 whole m) (rule3 seen whole m) (rule4 whole m) ∙ ap bit (sym (marked-is seen whole m)))
     where
       regroup : (p q r s : Bool) → cond r 1 (bit (p || (q || s))) ≡ bit (p || (q || (r || s)))
       regroup true q true s = refl
@@ -124,10 +134,10 @@ module _ (n : ℕ) (near byIdx flags over high deviates : List ℕ) (few : n ≤
       regroup false false false s = refl
 
   -- at each rank what stands at the place of its index
-  pub by-rank : {a b r : List ℕ} → ((k : ℕ) → k < n → getD byIdx k 0 < n) → a ≡ column maxPoints 0 n (λ (m : ℕ). bit (isOutlier (evidenceBy flags [] high deviates) m))
-      → Marked (λ (m : ℕ). some (λ (k : ℕ). blames (viewBy n near byIdx) (evidenceBy flags over [] []) k m) n) a b → r ≡ column maxPoints 0 n (λ (k : ℕ). getD b (getD byIdx k 0) 0)
-      → (row col : List ℕ) (xs ys : List Float) → r ≡ column maxPoints 0 n (λ (k : ℕ). bit (isMarked (viewAt n near row col byIdx xs ys) whole (getD byIdx k 0)))
-  by-rank {a} {b} ranks s t e row col xs ys =
+  pub by-rank : {a b r : List ℕ} → a ≡ alone → Marked blamedBySome a b → r ≡ column maxPoints 0 n (λ (k : ℕ). getD b (seen .byIdx k) 0)
+      → (xs ys : List Float) → r ≡ marksOf (viewAt n ranks xs ys) whole
+  unfolding marksOf
+  by-rank {a} {b} s t e xs ys =
       e
-      ∙ column-ext maxPoints 0 n (λ (k : ℕ). getD b (getD byIdx k 0) 0) (λ (k : ℕ). bit (isMarked (viewAt n near row col byIdx xs ys) whole (getD byIdx k 0)))
-      (λ k l. all-rules a b s t (getD byIdx k 0) (ranks k l) ∙ ap bit (sym (marked-of n near row col byIdx xs ys whole (getD byIdx k 0))))
+      ∙ column-ext maxPoints 0 n (λ (k : ℕ). getD b (seen .byIdx k) 0) (λ (k : ℕ). bit (isMarked (viewAt n ranks xs ys) whole (seen .byIdx k)))
+      (λ k l. all-rules b (rw s at t) (seen .byIdx k) (ranked .indices k l) ∙ ap bit (marked-of n ranks xs ys whole (seen .byIdx k)))

@@ -1,1 +1,2 @@
 pub mod Blamed
+pub mod InOrder

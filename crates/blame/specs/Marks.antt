@@ -1,14 +1,15 @@
 -- Which indices the rules 1 to 4 mark. What is known of an index stands at the last of its ranks, its place. Assumes nothing.
 use mathlib.Core.Bool.{Bool, cond, _&&_, _||_}
-use mathlib.Core.Path.{_≡_, refl}
-use mathlib.Core.List.{List, []}
+use mathlib.Core.List.{List}
 use Prim.Native.Nat.{ℕ}
 use lib.Dec.{eqb, ltb, leb}
 use lib.ListN.{getD}
-use lib.Ieee.{Float}
 use Rattle.folds.specs.Below.{first, firstIn, some}
+use Rattle.folds.specs.Column.{column}
+use Rattle.folds.specs.Marked.{bit}
 use Rattle.folds.specs.Scattered.{counts}
-use Rattle.view.specs.View.{View, viewAt}
+use Rattle.marks.specs.Marks.{isSet}
+use Rattle.view.specs.View.{View, maxPoints}
 use Rattle.local_h.specs.Base.{memberAt, onLine, isOther, isFourth, baseOf}
 use Rattle.local_h.specs.declared.Base.{Base}
 use Rattle.blame.specs.declared.Worst.{Worst}
@@ -20,9 +21,6 @@ pub record Evidence : Type 0 where
   pub over : ℕ → Bool
   pub high : ℕ → Bool
   pub deviates : ℕ → Bool
-
-abbrev pub isSet : List ℕ → ℕ → Bool
-isSet marks m = eqb (getD marks m 0) 1
 
 abbrev pub evidenceBy : List ℕ → List ℕ → List ℕ → List ℕ → Evidence
 evidenceBy flags over high deviates =
@@ -45,7 +43,7 @@ abbrev pub isOutlier : Evidence → ℕ → Bool
 isOutlier e m = rule1 e m || (rule2 e m || rule4 e m)
 
 -- ---- "(3) in index order, residual over tolerance, no line flag, not yet marked: its base member with most flags, at least one, first
--- of equals". That the order and "not yet marked" do not show is a theorem of specs/InOrder.antt.
+-- of equals". That the order and "not yet marked" do not show is a theorem of proofs/InOrder.antt.
 
 module _ (w : View) (flags : ℕ → ℕ) where
   -- w and the base member at place p of the order round k: the one with more flags, the first of equals; a place of 24 or more is none
@@ -71,6 +69,11 @@ module _ (w : View) (flags : ℕ → ℕ) where
 abbrev pub isVisited : View → Evidence → ℕ → Bool
 isVisited w e k = eqb (w .byIdx k) k && (e .over k && eqb (e .flags k) 0)
 
+-- corner k blames the index at place m
+unfoldable pub blames : View → Evidence → ℕ → ℕ → Bool
+unfolding blamed
+blames w e k m = isVisited w e k && (ltb (blamed w (e .flags) k) (w .count) && eqb (blamed w (e .flags) k) m)
+
 abbrev pub rule3 : View → Evidence → ℕ → Bool
 rule3 w e m = some (counts (blamed w (e .flags)) (isVisited w e) m) (w .count)
 
@@ -79,7 +82,7 @@ unfoldable pub isMarked : View → Evidence → ℕ → Bool
 unfolding blamed some
 isMarked w e m = rule1 e m || (rule2 e m || (rule3 w e m || rule4 e m))
 
--- neither the lines nor the positions count for the marks
-pub marked-of : (n : ℕ) (near row column byIdx : List ℕ) (xs ys : List Float) (e : Evidence) (m : ℕ) → isMarked (viewAt n near row column byIdx xs ys) e m ≡ isMarked (viewAt n near [] [] byIdx [] []) e m
-unfolding isMarked
-marked-of n near row column byIdx xs ys e m = refl
+-- at each rank 1 if its index is marked, else 0
+unfoldable pub marksOf : View → Evidence → List ℕ
+unfolding isMarked column
+marksOf w e = column maxPoints 0 (w .count) (λ (k : ℕ). bit (isMarked w e (w .byIdx k)))

@@ -11,8 +11,8 @@ use lib.Ieee.{Float, nan, inf, fin, binary32, up, down, lt, neg, fits, toBits, o
 use lib.Ieee.Fits.{neg-fits}
 use lib.Ieee.Positive.{above, first-pos}
 use Rattle.folds.specs.Arith.{zeroF}
-use Rattle.median.specs.Order.{above-zero}
-use Rattle.median.specs.Bits.{bits-order, bits-top}
+use Rattle.float.proofs.Order.{above-zero}
+use Rattle.float.proofs.Bits.{bits-order, bits-top}
 use Rattle.close_pairs.specs.Keys.{Number, risingOf}
 use Rattle.close_pairs.proofs.Places.{steps, origin, place, place-order}
 

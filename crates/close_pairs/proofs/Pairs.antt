@@ -1,7 +1,7 @@
 -- The pairs that the sweep marks are all the close pairs. Assumes nothing.
 use mathlib.Core.Path.{_≡_, refl, sym, ap, _∙_}
 use mathlib.Core.Bool.{Bool, true, false, not, _&&_, _||_, true≢false}
-use mathlib.Core.List.{List, [], _++_}
+use mathlib.Core.List.{List, _++_}
 use Prim.Native.Nat.{ℕ, _+_, _-_, _≤_, _<_}
 use native.Mathlib.Omega.{arith}
 use native.Mathlib.Decide.{ℕ-discrete, decLt}
@@ -11,13 +11,19 @@ use borrow.Author.Tests.{lt-ltb, le-ltb, ltb-true, eq-eqb, ne-eqb, eqb-true}
 use lib.ListN.{getD, take, drop, replicate, List·getD-append}
 use lib.Seq.{take-at}
 use Rattle.folds.specs.Lists.{listOf, length-list}
-use Rattle.sort.specs.Numbers.{sorted, sorted-length}
+use Rattle.sort.specs.Numbers.{sorted}
+use Rattle.sort.proofs.Numbers.{sorted-length}
 use lib.Ieee.{Float, nan, lt}
+use Rattle.folds.specs.Arith.{zeroF}
 use Rattle.folds.specs.Below.{some, some-yes, some-at, some-no, both-ways, and-left, and-right, and-false, or-true}
 use Rattle.folds.specs.Column.{column, column-at}
-use Rattle.view.specs.View.{maxPoints}
-use Rattle.sort.specs.Packed.{packed, inOrder, placed-below, placed-is, place-of, placed-rises}
+<<<<<<< HEAD
+use Rattle.view.specs.View.{maxPoints, viewAt, Finite}
+use Rattle.sort.specs.Packed.{packed, inOrder}
+use Rattle.sort.proofs.Packed.{placed-below, placed-is, place-of, placed-rises}
 use Rattle.marks.specs.Arrays.{Finite, placedView}
+=======
+>>>>>>> wrong
 use Rattle.close_pairs.specs.Close.{close, squareOf, closeMark, limitOf}
 use Rattle.close_pairs.specs.Keys.{keyOf, rankIn, Ordered}
 use Rattle.close_pairs.specs.Sweep.{closeIn, squareX, pairHits, sweepHits, Sweepable}
@@ -168,9 +174,14 @@ module _ (order : List ℕ) (xs ys : List Float) (n : ℕ) (few : n ≤ maxPoint
       (λ j hj. let a = inside i hi in let b = inside j hj in rw (rank i hi, rank j hj, ne-eqb (rankIn xs n i) m (λ e. omega (arith, a, e)), ne-eqb (rankIn xs n j) m (λ e. omega (arith, b, e)), and-false (closeIn xs ys limit (rankIn xs n j) (rankIn xs n i))) (and-false (ltb i j))))
 
   -- what the sweep marks, with a positive cell size
-  pub swept : (cell : Float) (m : ℕ) → lt Rattle.folds.specs.Arith.zeroF cell ≡ true → some (λ i. sweepHits order xs ys (limitOf cell) n i m) n ≡ ltb m n && closeMark (placedView n [] xs ys) cell m
+  pub swept : (ranks : List ℕ) (cell : Float) (m : ℕ) → lt zeroF cell ≡ true
+      → some (λ i. sweepHits order xs ys (limitOf cell) n i m) n ≡ ltb m n && closeMark (viewAt n ranks xs ys) cell m
   unfolding closeMark
-  swept cell m c = elim (decLt m n) [ yes l ↦ rw (lt-ltb m n l, c) (pairs-are (limitOf cell) m l) | no f ↦ (let g : n ≤ m = omega (arith, f) in rw (le-ltb m n g) (past-pairs (limitOf cell) m g)) ]
+  swept ranks cell m c =
+      elim (decLt m n) [
+        | yes l ↦ rw (lt-ltb m n l, c) (pairs-are (limitOf cell) m l)
+        | no f ↦ (let g : n ≤ m = omega (arith, f) in rw (le-ltb m n g) (past-pairs (limitOf cell) m g))
+      ]
 
 -- ---- the sorted keys
 

@@ -9,7 +9,6 @@ use lib.Ieee.{Float, nan, lt}
 use Rattle.folds.specs.Arith.{_⊖_, _⊗_}
 use Rattle.folds.specs.Below.{some}
 use Rattle.view.specs.View.{maxPoints}
-use Rattle.marks.specs.Arrays.{Ranks}
 use Rattle.close_pairs.specs.Close.{close}
 
 abbrev pub closeIn : List Float → List Float → Float → ℕ → ℕ → Bool
@@ -30,5 +29,5 @@ sweepHits order xs ys limit n i m = some (λ j. pairHits order xs ys limit i j m
 -- The order is one along which a sweep may stop: where the square in x alone reaches the limit, nothing later is close.
 pub record Sweepable (order : List ℕ) (xs ys : List Float) (limit : Float) (n : ℕ) : Type 0 where
   pub few : n ≤ maxPoints
-  pub ranks : Ranks n order
+  pub ranks : (k : ℕ) → k < n → getD order k 0 < n
   pub stop : (i j k : ℕ) → i < j → j ≤ k → k < n → lt (squareX xs (getD order j 0) (getD order i 0)) limit ≡ false → closeIn xs ys limit (getD order k 0) (getD order i 0) ≡ false

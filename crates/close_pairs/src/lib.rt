@@ -3,15 +3,13 @@ use float::constants::DUPLICATE_FRACTION;
 use view::MAX_POINTS;
 ghost use mathlib.Core.Path.{_≡_};
 ghost use mathlib.Core.Bool.{_&&_, _||_};
-ghost use mathlib.Core.List.{[]};
+ghost use mathlib.Core.List.{List};
 ghost use Prim.Native.Nat.{ℕ, _+_, _*_, _%_, _≤_, _<_};
 ghost use lib.Dec.{T, eqb, ltb};
 ghost use lib.Ieee.Scale.{finite};
 ghost use Rattle.folds.specs.Below.{some};
 ghost use Rattle.folds.specs.Marked.{Marked};
-ghost use Rattle.view.specs.View.{maxPoints};
-ghost use Rattle.sort.specs.Packed.{packed};
-ghost use Rattle.marks.specs.Arrays.{Finite, placedView};
+ghost use Rattle.view.specs.View.{maxPoints, viewAt, Finite};
 ghost use Rattle.close_pairs.specs.Close.{closeMark};
 ghost use Rattle.close_pairs.specs.Keys.{Rising, Keyed, Ordered};
 ghost use Rattle.close_pairs.specs.Sweep.{sweepHits, Sweepable};
@@ -135,7 +133,7 @@ pub fn mark_close(
     mark: &mut [u8; MAX_POINTS],
 )
     requires { ⌜ (n ≤ maxPoints) × Finite n (now x) × Finite n (now y) ⌝ }
-    ensures { λ r. ⌜ Marked (λ (m : ℕ). ltb m n && closeMark (placedView n [] (now (x .entry)) (now (y .entry))) cell m) (now (mark .entry)) (now (mark .exit)) ⌝ }
+    ensures { λ r. ⌜ ((ranks : List ℕ) → Marked (λ (m : ℕ). ltb m n && closeMark (viewAt n ranks (now (x .entry)) (now (y .entry))) cell m) (now (mark .entry)) (now (mark .exit))) ⌝ }
 {
     if 0.0 < cell {
         let side = DUPLICATE_FRACTION * cell;

@@ -6,35 +6,34 @@ use Prim.Native.Nat.{ℕ, zero, suc, _+_, _≤_}
 use native.Mathlib.Numerals.{add-one}
 use native.Mathlib.Omega.{arith}
 use lib.Dec.{eqb, ltb}
-use lib.ListN.{replicate}
+use lib.ListN.{getD}
 use Rattle.folds.specs.Below.{fold, turn, tally}
 use Rattle.folds.specs.Column.{column-ext}
-use Rattle.folds.specs.Scattered.{Scattered, oneMore, fold-tally}
+use Rattle.folds.specs.Scattered.{oneMore, fold-tally}
 use Rattle.view.specs.View.{maxPoints}
-use Rattle.patches.proofs.Gathering.{labelled, labels-column}
-use Rattle.patches.specs.Patches.{at}
+use Rattle.patches.proofs.Gathering.{AtLabels, labels-column}
 use Rattle.components.specs.Components.{sizesOf, largestAt}
 
 pub largest-none : (l : List ℕ) → largestAt l 0 ≡ 0
 unfolding largestAt
 largest-none l = refl
 
-pub largest-more : (l : List ℕ) (i : ℕ) → largestAt l (i + 1) ≡ cond (ltb (at l (largestAt l i)) (at l i)) i (largestAt l i)
+pub largest-more : (l : List ℕ) (i : ℕ) → largestAt l (i + 1) ≡ cond (ltb (getD l (largestAt l i) 0) (getD l i 0)) i (largestAt l i)
 unfolding largestAt
 largest-more l i = rw (add-one i)
 
 pub largest-le : (l : List ℕ) (i : ℕ) → largestAt l i ≤ i
 unfolding largestAt
 largest-le l zero = omega arith
-largest-le l (suc i) = go (ltb (at l (largestAt l i)) (at l i)) (largest-le l i)
+largest-le l (suc i) = go (ltb (getD l (largestAt l i) 0) (getD l i 0)) (largest-le l i)
   where
     go : (b : Bool) → largestAt l i ≤ i → cond b i (largestAt l i) ≤ suc i
     go true h = omega arith
     go false h = omega arith
 
-pub sizes-are : (labels : List ℕ) (n : ℕ) (a : List ℕ) → n ≤ maxPoints → Scattered 0 (at labels) (labelled n labels) oneMore (replicate maxPoints 0) n a → a ≡ sizesOf n labels
+pub sizes-are : (labels : List ℕ) (n : ℕ) (a : List ℕ) → n ≤ maxPoints → AtLabels labels n oneMore n a → a ≡ sizesOf n labels
 unfolding sizesOf
 sizes-are labels n a few t =
-    labels-column labels oneMore n a few t
-    ∙ column-ext maxPoints 0 n (λ (s : ℕ). fold (turn (λ (k : ℕ). eqb (at labels k) s) oneMore) 0 n) (λ (s : ℕ). tally (λ (k : ℕ). eqb (at labels k) s) n)
-    (λ s h. omega (arith, fold-tally (λ (k : ℕ). eqb (at labels k) s) 0 n))
+    labels-column labels n oneMore a few t
+    ∙ column-ext maxPoints 0 n (λ (s : ℕ). fold (turn (λ (k : ℕ). eqb (getD labels k 0) s) oneMore) 0 n) (λ (s : ℕ). tally (λ (k : ℕ). eqb (getD labels k 0) s) n)
+    (λ s h. omega (arith, fold-tally (λ (k : ℕ). eqb (getD labels k 0) s) 0 n))

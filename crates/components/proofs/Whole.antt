@@ -2,29 +2,43 @@
 -- the winner is the largest of them, with the smallest least cell of equals. They ask that the table of neighbours is mirrored and that
 -- the list has each offset's opposite. Assumes nothing.
 use mathlib.Core.Path.{_≡_, refl, sym, ap, _∙_}
-use mathlib.Core.Bool.{Bool, true, false, cond, false≢true}
+use mathlib.Core.Bool.{Bool, true, false, cond, false≢true, true≢false}
 use mathlib.Core.Logic.{_⊎_, inl, inr, ⊎-elim}
 use mathlib.Core.List.{List}
 use Prim.{yes, no}
-use Prim.Native.Nat.{ℕ, zero, suc, _+_, _-_, _≤_, _<_}
+use Prim.Native.Nat.{ℕ, zero, suc, _+_, _≤_, _<_}
 use native.Mathlib.Decide.{decLt}
 use native.Mathlib.Nat.{eq-or-lt-of-le}
 use native.Mathlib.Omega.{arith}
 use borrow.Author.Tests.{eq-eqb, eqb-true, lt-ltb, ltb-true, ltb-false}
 use lib.Dec.{eqb, ltb}
-use Rattle.folds.specs.Below.{some-yes, tally, tally-ext, tally-some, and-left, and-right, and-both, both-ways, not-true}
+use lib.ListN.{getD}
+use Rattle.folds.specs.Below.{first, first-holds, first-before, some-yes, tally, tally-ext, tally-some, and-left, and-right, and-both, both-ways, not-true}
 use Rattle.folds.specs.Column.{column-at}
 use Rattle.view.specs.View.{maxPoints}
-use Rattle.patches.specs.Patches.{at, survives, linked, labelsOf}
+use Rattle.patches.specs.Patches.{survives, linked, labelsOf}
 use Rattle.components.specs.Components.{sizesOf, largestAt, winnerOf, inPatch}
-use Rattle.patches.specs.Reach.{Reach, Mirrored, paired}
-use Rattle.components.specs.Kept.{WholePatch, Smallest, Kept, Counted}
-use Rattle.patches.specs.Search.{Fit}
+use Rattle.patches.specs.Reach.{Reach, here, Mirrored, paired}
+use Rattle.components.specs.WholePatches.{WholePatch, Smallest, KeptPatch, PatchesCounted}
+use Rattle.patches.specs.Search.{Offsets}
 use Rattle.patches.proofs.Surviving.{survives-lt}
 use Rattle.patches.proofs.Closure.{reach-from, reach-to}
 use Rattle.patches.proofs.Labelling.{joins, label-none, label-some, label-le, label-lives}
 use Rattle.patches.proofs.Agreeing.{same-label}
 use Rattle.components.proofs.Tallies.{largest-le}
+
+-- a whole patch of ranks below n has a smallest cell
+pub smallest : {alive : ℕ → Bool} {link : ℕ → ℕ → Bool} {W : ℕ → Bool} (n : ℕ) → WholePatch alive link W → ((k : ℕ) → W k ≡ true → k < n) → (x : ℕ) × Smallest W x
+smallest {W = W} n p below = (x, record { member = first-holds W 0 n (omega (arith, low (p .seed) seeded, below (p .seed) seeded)); first = low })
+  where
+    x : ℕ
+    x = first W 0 n
+
+    seeded : W (p .seed) ≡ true
+    seeded = p .outer (p .seed) (here (p .survives))
+
+    low : (k : ℕ) → W k ≡ true → x ≤ k
+    low k e = elim (decLt k x) [ yes l ↦ absurd (true≢false (sym e ∙ first-before W 0 n k (omega arith) l)) | no f ↦ omega (arith, f) ]
 
 -- a count above 0 counts something
 tally-at : (p : ℕ → Bool) (n : ℕ) → 0 < tally p n → (k : ℕ) × (k < n) × (p k ≡ true)
@@ -38,30 +52,30 @@ tally-at p (suc n) h = go (p n) refl h (tally-at p n)
 
 -- ---- the first of the largest
 
-largest-most : (l : List ℕ) (n s : ℕ) → s < n → at l s ≤ at l (largestAt l n)
+largest-most : (l : List ℕ) (n s : ℕ) → s < n → getD l s 0 ≤ getD l (largestAt l n) 0
 unfolding largestAt
 largest-most l zero s h = absurd (omega arith)
-largest-most l (suc n) s h = go (ltb (at l (largestAt l n)) (at l n)) refl (eq-or-lt-of-le (omega arith)) (largest-most l n s)
+largest-most l (suc n) s h = go (ltb (getD l (largestAt l n) 0) (getD l n 0)) refl (eq-or-lt-of-le (omega arith)) (largest-most l n s)
   where
-    go : (b : Bool) → ltb (at l (largestAt l n)) (at l n) ≡ b → (s ≡ n) ⊎ (s < n) → (s < n → at l s ≤ at l (largestAt l n)) → at l s ≤ at l (cond b n (largestAt l n))
+    go : (b : Bool) → ltb (getD l (largestAt l n) 0) (getD l n 0) ≡ b → (s ≡ n) ⊎ (s < n) → (s < n → getD l s 0 ≤ getD l (largestAt l n) 0) → getD l s 0 ≤ getD l (cond b n (largestAt l n)) 0
     go true e (inl q) r = rw q (omega arith)
-    go true e (inr m) r = omega (arith, ltb-true (at l (largestAt l n)) (at l n) e, r m)
-    go false e (inl q) r = rw q (ltb-false (at l (largestAt l n)) (at l n) e)
+    go true e (inr m) r = omega (arith, ltb-true (getD l (largestAt l n) 0) (getD l n 0) e, r m)
+    go false e (inl q) r = rw q (ltb-false (getD l (largestAt l n) 0) (getD l n 0) e)
     go false e (inr m) r = r m
 
-largest-before : (l : List ℕ) (n s : ℕ) → s < largestAt l n → at l s < at l (largestAt l n)
+largest-before : (l : List ℕ) (n s : ℕ) → s < largestAt l n → getD l s 0 < getD l (largestAt l n) 0
 unfolding largestAt
 largest-before l zero s h = absurd (omega arith)
-largest-before l (suc n) s h = go (ltb (at l (largestAt l n)) (at l n)) refl h (largest-before l n s)
+largest-before l (suc n) s h = go (ltb (getD l (largestAt l n) 0) (getD l n 0)) refl h (largest-before l n s)
   where
-    go : (b : Bool) → ltb (at l (largestAt l n)) (at l n) ≡ b → s < cond b n (largestAt l n) → (s < largestAt l n → at l s < at l (largestAt l n)) → at l s < at l (cond b n (largestAt l n))
-    go true e m r = omega (arith, ltb-true (at l (largestAt l n)) (at l n) e, largest-most l n s m)
+    go : (b : Bool) → ltb (getD l (largestAt l n) 0) (getD l n 0) ≡ b → s < cond b n (largestAt l n) → (s < largestAt l n → getD l s 0 < getD l (largestAt l n) 0) → getD l s 0 < getD l (cond b n (largestAt l n)) 0
+    go true e m r = omega (arith, ltb-true (getD l (largestAt l n) 0) (getD l n 0) e, largest-most l n s m)
     go false e m r = r m
 
 largest-lt : (l : List ℕ) (n : ℕ) → 0 < n → largestAt l n < n
 unfolding largestAt
 largest-lt l zero h = h
-largest-lt l (suc n) h = go (ltb (at l (largestAt l n)) (at l n)) (largest-le l n)
+largest-lt l (suc n) h = go (ltb (getD l (largestAt l n) 0) (getD l n 0)) (largest-le l n)
   where
     go : (b : Bool) → largestAt l n ≤ n → cond b n (largestAt l n) < suc n
     go true e = omega arith
@@ -78,9 +92,9 @@ module _ (n : ℕ) (near : ℕ → ℕ) (sides dropped : List ℕ) where
   labels = labelsOf n near sides dropped
 
   abbrev label : ℕ → ℕ
-  label k = at labels k
+  label k = getD labels k 0
 
-  module _ (fit : Fit n sides) (pairs : paired sides ≡ true) (mirror : Mirrored n near) where
+  module _ (offsets : Offsets sides) (pairs : paired sides ≡ true) (mirror : Mirrored n near) where
     -- ---- patches by their labels
 
     patch-of : (s k : ℕ) → inPatch n labels s k ≡ true → (k < n) × (label k ≡ s)
@@ -91,10 +105,14 @@ module _ (n : ℕ) (near : ℕ → ℕ) (sides dropped : List ℕ) where
 
     -- a survivor's patch is what has its label
     patch-in : (a k : ℕ) → alive a ≡ true → inPatch n labels (label a) k ≡ true → Reach alive link a k
-    patch-in a k e t = let w = patch-of (label a) k t in same-label n near sides dropped fit pairs mirror a k e (label-lives n near sides dropped k (w .0) (omega (arith, w .1, label-le n near sides dropped a e, survives-lt n dropped a e))) .0 (sym (w .1))
+    patch-in a k e t =
+        let w = patch-of (label a) k t in
+        let low = label-le n near sides dropped a e in
+        let b = label-lives n near sides dropped k (w .0) (omega (arith, w .1, low, survives-lt n dropped a e)) in
+        same-label n near sides dropped offsets pairs mirror a k e b .0 (sym (w .1))
 
     patch-out : (a k : ℕ) → alive a ≡ true → Reach alive link a k → inPatch n labels (label a) k ≡ true
-    patch-out a k e r = let b = reach-to n alive link (joins n near sides dropped) r in patch-is (label a) k b (sym (same-label n near sides dropped fit pairs mirror a k e b .1 r))
+    patch-out a k e r = let b = reach-to n alive link (joins n near sides dropped) r in patch-is (label a) k b (sym (same-label n near sides dropped offsets pairs mirror a k e b .1 r))
 
     with-label : (a : ℕ) → alive a ≡ true → WholePatch alive link (inPatch n labels (label a))
     with-label a e = record { seed = a; survives = e; inner = λ k. patch-in a k e; outer = λ k. patch-out a k e }
@@ -110,7 +128,7 @@ module _ (n : ℕ) (near : ℕ → ℕ) (sides dropped : List ℕ) where
     own-label a e =
         let r = label-some n near sides dropped a e .reached in
         let b = reach-from n alive link (joins n near sides dropped) r in
-        (b, same-label n near sides dropped fit pairs mirror (label a) a b e .1 r)
+        (b, same-label n near sides dropped offsets pairs mirror (label a) a b e .1 r)
 
     root : (s : ℕ) → s < n → eqb (label s) s ≡ true → (alive s ≡ true) × (label s ≡ s)
     root s h e = let q = eqb-true (label s) s e in (label-lives n near sides dropped s h (omega (arith, q)), q)
@@ -121,8 +139,8 @@ module _ (n : ℕ) (near : ℕ → ℕ) (sides dropped : List ℕ) where
         record { member = patch-is s s (w .0) (w .1); first = λ k t. let v = patch-of s k t in omega (arith, v .1, label-le n near sides dropped k (label-lives n near sides dropped k (v .0) (omega (arith, v .1)))) }
 
     -- the count: one rank for each whole patch
-    pub counted : Counted alive link n (λ (s : ℕ). eqb (label s) s) (inPatch n labels)
-    counted = record {
+    pub labels-counted : PatchesCounted alive link n (λ (s : ℕ). eqb (label s) s) (inPatch n labels)
+    labels-counted = record {
       whole = λ s h e. let w = root s h e in rw (w .1) at (with-label s (w .0));
       member = first-of;
       apart = λ s t h g e f same. sym (root s h e .1) ∙ patch-of t s (sym (same s) ∙ first-of s h e .member) .1;
@@ -135,7 +153,7 @@ module _ (n : ℕ) (near : ℕ → ℕ) (sides dropped : List ℕ) where
     abbrev win : ℕ
     win = winnerOf n labels
 
-    size-of : (s : ℕ) → s < n → at (sizesOf n labels) s ≡ tally (inPatch n labels s) n
+    size-of : (s : ℕ) → s < n → getD (sizesOf n labels) s 0 ≡ tally (inPatch n labels s) n
     unfolding sizesOf
     size-of s h =
         column-at maxPoints 0 n (λ (s : ℕ). tally (λ (k : ℕ). eqb (label k) s) n) s h
@@ -156,11 +174,11 @@ module _ (n : ℕ) (near : ℕ → ℕ) (sides dropped : List ℕ) where
         (w, eq-eqb (label win) win (rw (v .1) at (o .1)))
 
     -- what is kept
-    pub kept : Kept alive link n (inPatch n labels win)
+    pub winner-kept : KeptPatch alive link n (inPatch n labels win)
     unfolding winnerOf
-    kept = record {
+    winner-kept = record {
       none = λ f k. not-true (inPatch n labels win k) (λ e. no-one f k e);
-      whole = λ a e. let w = won a e in counted .whole win (w .0) (w .1);
+      whole = λ a e. let w = won a e in labels-counted .whole win (w .0) (w .1);
       most = as-large;
       tie = ranked;
     }
@@ -168,23 +186,23 @@ module _ (n : ℕ) (near : ℕ → ℕ) (sides dropped : List ℕ) where
         no-one : ((a : ℕ) → alive a ≡ false) → (k : ℕ) → inPatch n labels win k ≡ true → ⊥
         no-one f k e = let w = patch-of win k e in omega (arith, w .0, w .1, label-none n near sides dropped k (w .0) (λ t. false≢true (sym (f k) ∙ t)), largest-lt (sizesOf n labels) n (omega (arith, w .0)))
 
-        sized : (W : ℕ → Bool) (p : WholePatch alive link W) → (tally W n ≡ at (sizesOf n labels) (counted .all W p .0)) × (tally (inPatch n labels win) n ≡ at (sizesOf n labels) win)
+        sized : (W : ℕ → Bool) (p : WholePatch alive link W) → (tally W n ≡ getD (sizesOf n labels) (labels-counted .all W p .0) 0) × (tally (inPatch n labels win) n ≡ getD (sizesOf n labels) win 0)
         sized W p =
-            let s = counted .all W p in
+            let s = labels-counted .all W p in
             (tally-ext W (inPatch n labels (s .0)) n (λ k l. s .3 k) ∙ sym (size-of (s .0) (s .1)), sym (size-of win (won (p .seed) (p .survives) .0)))
 
         as-large : (W : ℕ → Bool) → WholePatch alive link W → tally W n ≤ tally (inPatch n labels win) n
-        as-large W p = omega (arith, sized W p .0, sized W p .1, largest-most (sizesOf n labels) n (counted .all W p .0) (counted .all W p .1))
+        as-large W p = omega (arith, sized W p .0, sized W p .1, largest-most (sizesOf n labels) n (labels-counted .all W p .0) (labels-counted .all W p .1))
 
-        same : (W : ℕ → Bool) (p : WholePatch alive link W) → tally W n ≡ tally (inPatch n labels win) n → counted .all W p .0 ≤ win → counted .all W p .0 ≡ win
+        same : (W : ℕ → Bool) (p : WholePatch alive link W) → tally W n ≡ tally (inPatch n labels win) n → labels-counted .all W p .0 ≤ win → labels-counted .all W p .0 ≡ win
         same W p e h =
-            ⊎-elim (λ (q : counted .all W p .0 ≡ win). q)
-            (λ (l : counted .all W p .0 < win). absurd (omega (arith, e, sized W p .0, sized W p .1, largest-before (sizesOf n labels) n (counted .all W p .0) l)))
+            ⊎-elim (λ (q : labels-counted .all W p .0 ≡ win). q)
+            (λ (l : labels-counted .all W p .0 < win). absurd (omega (arith, e, sized W p .0, sized W p .1, largest-before (sizesOf n labels) n (labels-counted .all W p .0) l)))
             (eq-or-lt-of-le h)
 
         ranked : (W : ℕ → Bool) → WholePatch alive link W → tally W n ≡ tally (inPatch n labels win) n → ((k : ℕ) → W k ≡ inPatch n labels win k) ⊎ ((x y : ℕ) → Smallest W x → Smallest (inPatch n labels win) y → y < x)
         ranked W p e =
-            let t = counted .all W p in
+            let t = labels-counted .all W p in
             let w = won (p .seed) (p .survives) in
             elim (decLt win (t .0)) [
               | yes l ↦ inr (λ x y f g. omega (arith, l, first-of (t .0) (t .1) (t .2) .first x (sym (t .3 x) ∙ f .member), g .first win (first-of win (w .0) (w .1) .member)))

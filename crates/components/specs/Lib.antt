@@ -1,2 +1,2 @@
 pub mod Components
-pub mod Kept
+pub mod WholePatches

@@ -1,23 +1,23 @@
 // How many patches there are, which is the largest, and the component mark. See specs/Components.antt.
 ghost use mathlib.Core.Path.{_≡_};
 ghost use mathlib.Core.Bool.{cond, not, _&&_};
-ghost use mathlib.Core.List.{[]};
+ghost use mathlib.Core.List.{List};
 ghost use Prim.Native.Nat.{_+_, _≤_, _<_};
 ghost use lib.Dec.{eqb, ltb};
+ghost use lib.Ieee.{Float};
 ghost use Rattle.folds.specs.Marked.{bit};
-ghost use Rattle.view.specs.View.{maxPoints, viewAt};
-ghost use Rattle.patches.specs.Search.{Fit};
-ghost use Rattle.marks.specs.Arrays.{Ranks};
-ghost use Rattle.components.specs.Components.{countOf, sizesOf, largestAt, winnerOf, othersBy, Filtered};
+ghost use Rattle.view.specs.View.{maxPoints, viewAt, Ranked};
+ghost use Rattle.patches.specs.Search.{Offsets};
+ghost use Rattle.components.specs.Components.{patchCount, sizesOf, largestAt, winnerOf, othersBy, filterOf};
 use view::MAX_POINTS;
-use view::NEAR_SIZE;
+use view::RANKS_SIZE;
 
 // ---- count, winner and the ranks outside it
 
 // How many patches there are.
-pub fn count(label: &[u16; MAX_POINTS], n: usize) -> usize
+fn count(label: &[u16; MAX_POINTS], n: usize) -> usize
     requires { ⌜ n ≤ maxPoints ⌝ }
-    ensures { λ r. ⌜ r ≡ countOf n (now (label .entry)) ⌝ }
+    ensures { λ r. ⌜ r ≡ patchCount n (now (label .entry)) ⌝ }
 {
     let mut r: usize = 0;
     let mut i: usize = 0;
@@ -70,7 +70,7 @@ fn largest(size: &[u16; MAX_POINTS], n: usize) -> usize
 }
 
 // The label of the patch that is kept: most points, and of equals the one with the smaller least cell.
-pub fn winner(label: &[u16; MAX_POINTS], n: usize) -> usize
+fn winner(label: &[u16; MAX_POINTS], n: usize) -> usize
     requires { ⌜ n ≤ maxPoints ⌝ }
     ensures { λ r. ⌜ r ≡ winnerOf n (now (label .entry)) ⌝ }
 {
@@ -78,27 +78,28 @@ pub fn winner(label: &[u16; MAX_POINTS], n: usize) -> usize
     largest(&size, n)
 }
 
-fn other(v: usize, n: usize, w: usize) -> u8
-    ensures { λ r. ⌜ r ≡ bit (ltb v n && not (eqb v w)) ⌝ }
+// 1 for a label below n that is not the winner.
+fn other(v: usize, n: usize, win: usize) -> u8
+    ensures { λ r. ⌜ r ≡ bit (ltb v n && not (eqb v win)) ⌝ }
 {
     if n <= v {
         return 0;
     }
-    if v == w {
+    if v == win {
         return 0;
     }
     1
 }
 
-// 1 for each rank that survives and is in another patch than w.
-pub fn others(label: &[u16; MAX_POINTS], n: usize, w: usize) -> [u8; MAX_POINTS]
+// 1 for each rank that survives and is in another patch than the winner.
+fn others(label: &[u16; MAX_POINTS], n: usize, win: usize) -> [u8; MAX_POINTS]
     requires { ⌜ n ≤ maxPoints ⌝ }
-    ensures { λ r. ⌜ r ≡ othersBy n (now (label .entry)) w ⌝ }
+    ensures { λ r. ⌜ r ≡ othersBy n (now (label .entry)) win ⌝ }
 {
     let mut out = [0u8; MAX_POINTS];
     let mut i: usize = 0;
     while i < n {
-        out[i] = other(view::wide(label[i]), n, w);
+        out[i] = other(view::wide(label[i]), n, win);
         i += 1;
     }
     out
@@ -114,22 +115,19 @@ pub struct ComponentFilter {
 
 // The component mark: an index with a cell outside the winner is marked at each of its cells.
 pub fn largest_component_filter(
-    near: &[u16; NEAR_SIZE],
-    by_idx: &[u16; MAX_POINTS],
+    ranks: &[u16; RANKS_SIZE],
     dropped: &[u8; MAX_POINTS],
     sides: &[u8],
     n: usize,
 ) -> ComponentFilter
-    requires { ⌜ Fit n (now sides) × Ranks n (now «by_idx») ⌝ }
-    ensures { λ r. ⌜ Filtered (viewAt n (now (near .entry)) [] [] (now («by_idx» .entry)) [] []) (now (sides .entry)) (now (dropped .entry)) (r .marks) (r .«components_seen») ⌝ }
+    requires { ⌜ Ranked n (now ranks) × Offsets (now sides) ⌝ }
+    ensures { λ r. ⌜ ((xs ys : List Float) → r ≡ filterOf (viewAt n (now (ranks .entry)) xs ys) (now (sides .entry)) (now (dropped .entry))) ⌝ }
 {
-    let label = patches::labels(near, dropped, sides, n);
-    let w = winner(&label, n);
-    let out = others(&label, n, w);
-    let marks = marks::by_index(by_idx, &out, n);
-    let c = count(&label, n);
+    let label = patches::labels(ranks, dropped, sides, n);
+    let win = winner(&label, n);
+    let out = others(&label, n, win);
     ComponentFilter {
-        marks: marks,
-        components_seen: c,
+        marks: marks::by_index(ranks, &out, n),
+        components_seen: count(&label, n),
     }
 }

@@ -1,134 +1,117 @@
-// The marks of each index beside the validate marks, and all four as one byte a point: `drop_set`.
+// The filters of a sheet, in two steps: those that go by the points themselves, and those that go by what these leave. See specs/Filters.antt.
 use components::ComponentFilter;
-use edges::EdgeColumns;
+use edges::EDGES_SIZE;
+use judged::Judged;
+use marks::filters;
+use sheet_file::Settings;
 use view::MAX_POINTS;
-use view::NEAR_SIZE;
+use view::RANKS_SIZE;
 ghost use mathlib.Core.Path.{_≡_};
-ghost use mathlib.Core.Bool.{_||_};
-ghost use mathlib.Core.List.{[]};
-ghost use Prim.Native.Nat.{_+_, _*_, _≤_};
-ghost use lib.Dec.{eqb};
+ghost use mathlib.Core.List.{List, [], _∷_};
+ghost use Prim.Native.Nat.{ℕ, _≤_};
+ghost use lib.Ieee.{Float};
+ghost use Rattle.folds.specs.Column.{column};
 ghost use Rattle.folds.specs.Marked.{bit};
-ghost use Rattle.view.specs.View.{viewAt, maxPoints};
-ghost use Rattle.marks.specs.Arrays.{Ranks};
-ghost use Rattle.wrong_label_filters.specs.Ready.{Ready};
-ghost use Rattle.drop_set.specs.Drops.{Set, droppedBy, bytesBy, wrongBy, Joined, Given, Dropped};
+ghost use Rattle.view.specs.View.{viewAt, maxPoints, Ranked};
+ghost use Rattle.cells.specs.Cell.{cellsAt};
+ghost use Rattle.marks.specs.Filters.{validate as Validate, orientation as Orientation, wrong as Wrong};
+ghost use Rattle.marks.specs.Marks.{isSet};
+ghost use Rattle.marks.specs.Byte.{markedBy};
+ghost use Rattle.wrong_label_filters.specs.EdgesReady.{EdgesReady};
+ghost use Rattle.drop_set.specs.Given.{Celled, Joined};
+ghost use Rattle.drop_set.specs.Filters.{wrongMark, patchedOf, measuredOf, judgedOf};
 
-// The marks of each rank, and how many patches the survivors have.
+// The bytes of marks and how many patches the survivors have.
 pub struct DropSet {
     pub marks: [u8; MAX_POINTS],
     pub components: usize,
 }
 
-fn is_dropped(validate: u8, orientation: u8, wrong: u8) -> u8
-    ensures { λ r. ⌜ r ≡ bit (eqb validate 1 || (eqb orientation 1 || eqb wrong 1)) ⌝ }
+// The wrong-label marks; none with the switch off.
+fn wrong_marks(
+    s: Settings,
+    ranks: &[u16; RANKS_SIZE],
+    x: &[f32; MAX_POINTS],
+    y: &[f32; MAX_POINTS],
+    edges: &[f32; EDGES_SIZE],
+    n: usize,
+) -> [u8; MAX_POINTS]
+    requires { ⌜ EdgesReady n (now ranks) (now x) (now y) (now edges) ⌝ }
+    ensures { λ r. ⌜ r ≡ column maxPoints 0 n (λ (k : ℕ). bit (wrongMark s (viewAt n (now (ranks .entry)) (now (x .entry)) (now (y .entry))) k)) ⌝ }
 {
-    if validate == 1 {
-        return 1;
+    if s.apply_wrong_label_drops {
+        return wrong_label_filters::topological_wrong_label_drops(
+            ranks,
+            x,
+            y,
+            edges,
+            n,
+            s.cell_size,
+        );
     }
-    if orientation == 1 {
-        return 1;
-    }
-    if wrong == 1 {
-        return 1;
-    }
-    0
+    [0; MAX_POINTS]
 }
 
-// 1 for each rank with one of the three marks.
-fn dropped(
+// The bytes of the three marks of each point.
+fn point_marks(
     validate: &[u8; MAX_POINTS],
     orientation: &[u8; MAX_POINTS],
     wrong: &[u8; MAX_POINTS],
     n: usize,
 ) -> [u8; MAX_POINTS]
     requires { ⌜ n ≤ maxPoints ⌝ }
-    ensures { λ r. ⌜ r ≡ droppedBy n (now (validate .entry)) (now (orientation .entry)) (now (wrong .entry)) ⌝ }
+    ensures { λ r. ⌜ r ≡ markedBy n Wrong (isSet (now (wrong .entry))) (markedBy n Orientation (isSet (now (orientation .entry))) (markedBy n Validate (isSet (now (validate .entry))) [])) ⌝ }
 {
-    let mut out = [0u8; MAX_POINTS];
-    let mut k: usize = 0;
-    while k < n {
-        out[k] = is_dropped(validate[k], orientation[k], wrong[k]);
-        k += 1;
-    }
-    out
+    let none = [0u8; MAX_POINTS];
+    let first = marks::marked_by(&none, validate, filters::VALIDATE, n);
+    let second = marks::marked_by(&first, orientation, filters::ORIENTATION, n);
+    marks::marked_by(&second, wrong, filters::WRONG, n)
 }
 
-fn mark_byte(validate: u8, orientation: u8, wrong: u8, component: u8) -> u8
-    requires { ⌜ (validate ≤ 1) × (orientation ≤ 1) × (wrong ≤ 1) × (component ≤ 1) ⌝ }
-    ensures { λ r. ⌜ r ≡ validate + 2 * orientation + 4 * wrong + 8 * component ⌝ }
-{
-    validate + 2 * orientation + 4 * wrong + 8 * component
-}
-
-// The four marks of each rank as bits 0 to 3 of a byte.
-fn mark_bytes(
-    validate: &[u8; MAX_POINTS],
-    orientation: &[u8; MAX_POINTS],
-    wrong: &[u8; MAX_POINTS],
-    component: &[u8; MAX_POINTS],
-    n: usize,
-) -> [u8; MAX_POINTS]
-    requires { ⌜ Set n (now validate) (now orientation) (now wrong) (now component) ⌝ }
-    ensures { λ r. ⌜ r ≡ bytesBy n (now (validate .entry)) (now (orientation .entry)) (now (wrong .entry)) (now (component .entry)) ⌝ }
-{
-    let mut out = [0u8; MAX_POINTS];
-    let mut k: usize = 0;
-    while k < n {
-        out[k] = mark_byte(validate[k], orientation[k], wrong[k], component[k]);
-        k += 1;
-    }
-    out
-}
-
-// The wrong-label marks; none with the switch off.
-fn wrong_marks(
-    near: &[u16; NEAR_SIZE],
-    row: &[u16; MAX_POINTS],
-    column: &[u16; MAX_POINTS],
-    by_idx: &[u16; MAX_POINTS],
+// What the filters find that go by the points themselves: the judged sheet without the marks and the count of patches.
+pub fn measure(
+    s: Settings,
+    ranks: &[u16; RANKS_SIZE],
+    keys: &[u32; MAX_POINTS],
     x: &[f32; MAX_POINTS],
     y: &[f32; MAX_POINTS],
     n: usize,
-    cell: f32,
-    u: EdgeColumns,
-    v: EdgeColumns,
-    on: bool,
-) -> [u8; MAX_POINTS]
-    requires { ⌜ Ready n (now near) (now row) (now column) (now «by_idx») (now x) (now y) u v ⌝ }
-    ensures { λ r. ⌜ r ≡ wrongBy on (viewAt n (now (near .entry)) (now (row .entry)) (now (column .entry)) (now («by_idx» .entry)) (now (x .entry)) (now (y .entry))) cell ⌝ }
+) -> Judged
+    requires { ⌜ Celled n (now ranks) (now keys) (now x) (now y) ⌝ }
+    ensures { λ r. ⌜ r ≡ measuredOf s (viewAt n (now (ranks .entry)) (now (x .entry)) (now (y .entry))) (cellsAt (now (keys .entry))) ⌝ }
 {
-    if on {
-        return wrong_label_filters::topological_wrong_label_drops(
-            near,
-            row,
-            column,
-            by_idx,
-            x,
-            y,
-            n,
-            cell,
-            u,
-            v,
-        );
+    let edges = edges::edges(ranks, x, y, n);
+    let v = validate::validate(s, ranks, keys, x, y, &edges, n);
+    let orientation = orientation::lattice_orientation_drops(ranks, x, y, n);
+    let wrong = wrong_marks(s, ranks, x, y, &edges, n);
+    let validated = v.marks;
+    let has = v.has;
+    let value = v.value;
+    let figures = v.figures;
+    let boundary = v.boundary;
+    Judged {
+        marks: point_marks(&validated, &orientation, &wrong, n),
+        components: 0,
+        has,
+        value,
+        figures,
+        boundary,
     }
-    [0; MAX_POINTS]
 }
 
-// The component marks and count; none with the switch off.
+// The component marks and count among the points whose byte is 0; none with the switch off.
 fn component_marks(
-    near: &[u16; NEAR_SIZE],
-    by_idx: &[u16; MAX_POINTS],
-    dropped: &[u8; MAX_POINTS],
+    s: Settings,
+    ranks: &[u16; RANKS_SIZE],
+    marks: &[u8; MAX_POINTS],
     n: usize,
-    on: bool,
 ) -> ComponentFilter
-    requires { ⌜ (n ≤ maxPoints) × Ranks n (now «by_idx») ⌝ }
-    ensures { λ r. ⌜ Joined on (viewAt n (now (near .entry)) [] [] (now («by_idx» .entry)) [] []) (now (dropped .entry)) (r .marks) (r .«components_seen») ⌝ }
+    requires { ⌜ Ranked n (now ranks) ⌝ }
+    ensures { λ r. ⌜ ((xs ys : List Float) → Joined s (viewAt n (now (ranks .entry)) xs ys) (now (marks .entry)) r) ⌝ }
 {
-    if on {
+    if s.apply_largest_component {
         let sides = patches::square_sides();
-        return components::largest_component_filter(near, by_idx, dropped, &sides, n);
+        return components::largest_component_filter(ranks, marks, &sides, n);
     }
     ComponentFilter {
         marks: [0; MAX_POINTS],
@@ -136,33 +119,41 @@ fn component_marks(
     }
 }
 
-// The four marks of each rank, given the validate marks and the edges of both directions.
-pub fn drop_set(
-    validate: &[u8; MAX_POINTS],
-    near: &[u16; NEAR_SIZE],
-    row: &[u16; MAX_POINTS],
-    column: &[u16; MAX_POINTS],
-    by_idx: &[u16; MAX_POINTS],
+// The filters that go by the marks before them: the bytes with their marks too, and the count of patches.
+pub fn drop_patches(
+    s: Settings,
+    ranks: &[u16; RANKS_SIZE],
+    marks: &[u8; MAX_POINTS],
+    n: usize,
+) -> DropSet
+    requires { ⌜ Ranked n (now ranks) ⌝ }
+    ensures { λ r. ⌜ ((xs ys : List Float) → r ≡ patchedOf s (viewAt n (now (ranks .entry)) xs ys) (now (marks .entry))) ⌝ }
+{
+    let filter = component_marks(s, ranks, marks, n);
+    let mark = filter.marks;
+    DropSet {
+        marks: marks::marked_by(marks, &mark, filters::COMPONENT, n),
+        components: filter.components_seen,
+    }
+}
+
+// The judged sheet.
+pub fn judge(
+    s: Settings,
+    ranks: &[u16; RANKS_SIZE],
+    keys: &[u32; MAX_POINTS],
     x: &[f32; MAX_POINTS],
     y: &[f32; MAX_POINTS],
     n: usize,
-    cell: f32,
-    u: EdgeColumns,
-    v: EdgeColumns,
-    by_label: bool,
-    largest: bool,
-) -> DropSet
-    requires { ⌜ Given n (now validate) (now near) (now row) (now column) (now «by_idx») (now x) (now y) u v ⌝ }
-    ensures { λ r. ⌜ Dropped (viewAt n (now (near .entry)) (now (row .entry)) (now (column .entry)) (now («by_idx» .entry)) (now (x .entry)) (now (y .entry))) (now (validate .entry)) cell «by_label» largest (r .marks) (r .components) ⌝ }
+) -> Judged
+    requires { ⌜ Celled n (now ranks) (now keys) (now x) (now y) ⌝ }
+    ensures { λ r. ⌜ r ≡ judgedOf s (viewAt n (now (ranks .entry)) (now (x .entry)) (now (y .entry))) (cellsAt (now (keys .entry))) ⌝ }
 {
-    let orientation = orientation::lattice_orientation_drops(near, by_idx, x, y, n);
-    let wrong = wrong_marks(near, row, column, by_idx, x, y, n, cell, u, v, by_label);
-    let gone = dropped(validate, &orientation, &wrong, n);
-    let filter = component_marks(near, by_idx, &gone, n, largest);
-    let component = filter.marks;
-    let marks = mark_bytes(validate, &orientation, &wrong, &component, n);
-    DropSet {
-        marks,
-        components: filter.components_seen,
-    }
+    let mut j = measure(s, ranks, keys, x, y, n);
+    let measured = j.marks;
+    let d = drop_patches(s, ranks, &measured, n);
+    let marks = d.marks;
+    j.marks = marks;
+    j.components = d.components;
+    j
 }

@@ -4,13 +4,15 @@
 -- "What is left brief here is written out from these files' formulas": edge_shape.rs. Angles are held and judged as cosines.
 -- Assumes nothing.
 use mathlib.Core.Bool.{Bool, true, false, cond, not, _&&_, _||_}
+use mathlib.Core.List.{List}
 use Prim.Native.Nat.{ℕ, _+_}
 use lib.Dec.{eqb, ltb, leb}
 use lib.Ieee.{Float, lt, le, add, sub, mul, div, ofBits}
 use Rattle.folds.specs.Arith.{_⊕_, _⊖_, _⊗_, _⊘_}
 use Rattle.float.specs.Scalar.{maxOf, minOf, clampOf}
 use Rattle.float.specs.Constants.{epsilon}
-use Rattle.view.specs.View.{View, rankAt, present, own, nextU, prevU, nextV, prevV, degreeAt}
+use Rattle.folds.specs.Column.{column}
+use Rattle.view.specs.View.{maxPoints, View, rankAt, present, own, nextU, prevU, nextV, prevV, degreeAt}
 use Rattle.folds.specs.Marked.{bit}
 use Rattle.edges.specs.Edges.{edgeAt}
 use Rattle.sheet_file.specs.declared.EdgeShapeParams.{EdgeShapeParams}
@@ -141,3 +143,9 @@ figuresAt g w k =
 -- no figures, past the last rank
 abbrev pub noFigures : Figures
 noFigures = record { degree = 0; adjacent = 0; valid = 0; continuation = Absent; cells = Absent; reason = NoReason }
+
+-- by rank, what a row shows: "A row shows what the Rust holds under the point's index", which is the entry of the rank that has the index's
+-- place
+unfoldable pub indexFigures : EdgeShapeParams → View → List Figures
+unfolding column figuresAt
+indexFigures g w = column maxPoints noFigures (w .count) (λ (k : ℕ). figuresAt g w (w .byIdx k))

@@ -1,18 +1,20 @@
 // Edge figures and edge reasons: how edges continue through a corner, and the shape of the cells around it.
+use edges::EDGES_SIZE;
 use sheet_file::EdgeShapeParams;
 use view::MAX_POINTS;
-use view::NEAR_SIZE;
+use view::RANKS_SIZE;
 ghost use mathlib.Core.Path.{_≡_};
-ghost use mathlib.Core.Bool.{true, cond};
+ghost use mathlib.Core.Bool.{cond};
 ghost use mathlib.Core.List.{[]};
-ghost use Prim.Native.Nat.{ℕ, _+_, _≤_, _<_};
-ghost use lib.ListN.{length, getD};
-ghost use lib.Ieee.{nan, lt};
-ghost use Rattle.folds.specs.Marked.{bit};
-ghost use Rattle.folds.specs.Column.{column};
-ghost use Rattle.view.specs.View.{viewAt, maxPoints, nextU, nextV, rankAt, present, degreeAt};
-ghost use Rattle.edge_shape.specs.Figures.{sideAt, compared, noted, continuationAt, cellAt, within, continuationFails, isAdjacent, isValid, notedCell, reasonOf, reasonNumber, figuresBy, figuresAt, noFigures};
-ghost use Rattle.edge_shape.specs.Given.{seen, Lengths, Given, Counted};
+ghost use Prim.Native.Nat.{_-_, _<_};
+ghost use lib.Ieee.{lt};
+ghost use Rattle.view.specs.View.{viewAt, maxPoints};
+ghost use Rattle.edges.specs.Edges.{side};
+ghost use Rattle.edge_shape.specs.Figures.{sideAt, compared, noted, continuationAt, cellAt, within, continuationFails, isAdjacent, isValid, notedCell, reasonOf, reasonNumber, figuresBy, figuresAt, noFigures, indexFigures};
+ghost use Rattle.edge_shape.specs.Given.{WithEdges, sideBy, OneOrNone};
+
+// Offset (-1, -1).
+const DIAGONAL: usize = 6;
 
 pub struct Side {
     pub dx: f32,
@@ -82,97 +84,103 @@ fn note(m: Measure, p: Measure) -> Measure
     }
 }
 
-// The edge from rank a to the point at offset d, which is there; `along` has the lengths of such edges.
+// The edge from rank a to rank b, one of the way's edges.
 fn side_at(
     x: &[f32; MAX_POINTS],
     y: &[f32; MAX_POINTS],
-    near: &[u16; NEAR_SIZE],
-    along: &[f32; MAX_POINTS],
-    n: usize,
-    d: usize,
+    edges: &[f32; EDGES_SIZE],
+    way: usize,
     a: usize,
+    b: usize,
 ) -> Side
-    requires { ⌜ (n ≤ maxPoints) × (d < 25) × (a < n) × (present (seen n (now near) (now x) (now y)) a d ≡ true) ⌝ }
-    requires { ⌜ Lengths (seen n (now near) (now x) (now y)) d (now along) ⌝ }
-    ensures { λ r. ⌜ r ≡ sideAt (seen n (now (near .entry)) (now (x .entry)) (now (y .entry))) d a ⌝ }
+    requires { ⌜ (way < 2) × (a < maxPoints) × (b < maxPoints) ⌝ }
+    ensures { λ r. ⌜ r ≡ sideBy (viewAt 0 [] (now (x .entry)) (now (y .entry))) (now (edges .entry)) way a b ⌝ }
 {
-    let b = view::rank_at(near, a, d);
     Side {
         dx: x[b] - x[a],
         dy: y[b] - y[a],
-        len: along[a],
+        len: edges::length(edges, way, a),
     }
 }
 
-// The edge that leads to rank k from the offset `before`, against the one that goes on to the offset `after`.
+// The offset that a way's edges lead over.
+fn ahead(way: usize) -> usize
+    ensures { λ r. ⌜ (r ≡ side way) × (r < 25) ⌝ }
+{
+    if way == 0 { view::NEXT_U } else { view::NEXT_V }
+}
+
+// The way's edge that leads to rank k, against the one that goes on from it.
 fn continuation_at(
+    ranks: &[u16; RANKS_SIZE],
     x: &[f32; MAX_POINTS],
     y: &[f32; MAX_POINTS],
-    near: &[u16; NEAR_SIZE],
-    along: &[f32; MAX_POINTS],
+    edges: &[f32; EDGES_SIZE],
     n: usize,
-    before: usize,
-    after: usize,
+    way: usize,
     k: usize,
 ) -> Measure
-    requires { ⌜ (n ≤ maxPoints) × (before < 25) × (after < 25) × (k < n) ⌝ }
-    requires { ⌜ Lengths (seen n (now near) (now x) (now y)) after (now along) ⌝ }
-    ensures { λ r. ⌜ r ≡ continuationAt (seen n (now (near .entry)) (now (x .entry)) (now (y .entry))) before after k ⌝ }
+    requires { ⌜ WithEdges n (now ranks) (now x) (now y) (now edges) × (way < 2) × (k < n) ⌝ }
+    ensures { λ r. ⌜ r ≡ continuationAt (viewAt n (now (ranks .entry)) (now (x .entry)) (now (y .entry))) (24 - side way) (side way) k ⌝ }
 {
-    let b = view::rank_at(near, k, before);
+    let after = ahead(way);
+    let b = view::rank_at(ranks, k, 24 - after);
     if n <= b {
         return Measure::Absent;
     }
-    if n <= view::rank_at(near, k, after) {
+    let c = view::rank_at(ranks, k, after);
+    if n <= c {
         return Measure::Absent;
     }
-    if n <= view::rank_at(near, b, after) {
+    let d = view::rank_at(ranks, b, after);
+    if n <= d {
         return Measure::Absent;
     }
     compare(
-        side_at(x, y, near, along, n, after, b),
-        side_at(x, y, near, along, n, after, k),
+        side_at(x, y, edges, way, b, d),
+        side_at(x, y, edges, way, k, c),
     )
 }
 
-// The cell whose least corner is rank t; `len_u` and `len_v` have the lengths of the edges along u and along v.
+// The cell whose least corner is rank t.
 fn cell_at(
+    ranks: &[u16; RANKS_SIZE],
     x: &[f32; MAX_POINTS],
     y: &[f32; MAX_POINTS],
-    near: &[u16; NEAR_SIZE],
-    len_u: &[f32; MAX_POINTS],
-    len_v: &[f32; MAX_POINTS],
+    edges: &[f32; EDGES_SIZE],
     n: usize,
     t: usize,
 ) -> Cell
-    requires { ⌜ Given (seen n (now near) (now x) (now y)) (now «len_u») (now «len_v») ⌝ }
-    ensures { λ r. ⌜ r ≡ cellAt (seen n (now (near .entry)) (now (x .entry)) (now (y .entry))) t ⌝ }
+    requires { ⌜ WithEdges n (now ranks) (now x) (now y) (now edges) ⌝ }
+    ensures { λ r. ⌜ r ≡ cellAt (viewAt n (now (ranks .entry)) (now (x .entry)) (now (y .entry))) t ⌝ }
 {
     if n <= t {
         return Cell::Incomplete;
     }
-    let right = view::rank_at(near, t, 17);
+    let right = view::rank_at(ranks, t, view::NEXT_U);
     if n <= right {
         return Cell::Incomplete;
     }
-    let below = view::rank_at(near, t, 13);
+    let below = view::rank_at(ranks, t, view::NEXT_V);
     if n <= below {
         return Cell::Incomplete;
     }
-    if n <= view::rank_at(near, below, 17) {
+    let across = view::rank_at(ranks, below, view::NEXT_U);
+    if n <= across {
         return Cell::Incomplete;
     }
-    if n <= view::rank_at(near, right, 13) {
+    let down = view::rank_at(ranks, right, view::NEXT_V);
+    if n <= down {
         return Cell::Incomplete;
     }
     Cell::Complete(
         compare(
-            side_at(x, y, near, len_u, n, 17, t),
-            side_at(x, y, near, len_u, n, 17, below),
+            side_at(x, y, edges, 0, t, right),
+            side_at(x, y, edges, 0, below, across),
         ),
         compare(
-            side_at(x, y, near, len_v, n, 13, t),
-            side_at(x, y, near, len_v, n, 13, right),
+            side_at(x, y, edges, 1, t, below),
+            side_at(x, y, edges, 1, right, down),
         ),
     )
 }
@@ -197,7 +205,7 @@ fn is_within(g: EdgeShapeParams, m: Measure) -> bool
 
 // 1 for a complete cell, else 0.
 fn adjacent_count(c: Cell) -> u8
-    ensures { λ r. ⌜ Counted (isAdjacent c) r ⌝ }
+    ensures { λ r. ⌜ OneOrNone (isAdjacent c) r ⌝ }
 {
     match c {
         Cell::Incomplete => 0,
@@ -207,7 +215,7 @@ fn adjacent_count(c: Cell) -> u8
 
 // 1 for a valid cell, else 0.
 fn valid_count(g: EdgeShapeParams, c: Cell) -> u8
-    ensures { λ r. ⌜ Counted (isValid g c) r ⌝ }
+    ensures { λ r. ⌜ OneOrNone (isValid g c) r ⌝ }
 {
     match c {
         Cell::Incomplete => 0,
@@ -311,52 +319,57 @@ fn figures_by(
 // All figures of rank k's cell.
 fn figures_at(
     g: EdgeShapeParams,
+    ranks: &[u16; RANKS_SIZE],
     x: &[f32; MAX_POINTS],
     y: &[f32; MAX_POINTS],
-    near: &[u16; NEAR_SIZE],
-    len_u: &[f32; MAX_POINTS],
-    len_v: &[f32; MAX_POINTS],
+    edges: &[f32; EDGES_SIZE],
     n: usize,
     k: usize,
 ) -> Figures
-    requires { ⌜ Given (seen n (now near) (now x) (now y)) (now «len_u») (now «len_v») ⌝ }
-    requires { ⌜ k < n ⌝ }
-    ensures { λ r. ⌜ r ≡ figuresAt g (seen n (now (near .entry)) (now (x .entry)) (now (y .entry))) k ⌝ }
+    requires { ⌜ WithEdges n (now ranks) (now x) (now y) (now edges) × (k < n) ⌝ }
+    ensures { λ r. ⌜ r ≡ figuresAt g (viewAt n (now (ranks .entry)) (now (x .entry)) (now (y .entry))) k ⌝ }
 {
-    let degree = view::degree_at(near, n, k);
-    let along_u = continuation_at(x, y, near, len_u, n, 7, 17, k);
-    let along_v = continuation_at(x, y, near, len_v, n, 11, 13, k);
-    let a = cell_at(x, y, near, len_u, len_v, n, view::rank_at(near, k, 12));
-    let b = cell_at(x, y, near, len_u, len_v, n, view::rank_at(near, k, 7));
-    let c = cell_at(x, y, near, len_u, len_v, n, view::rank_at(near, k, 6));
-    let d = cell_at(x, y, near, len_u, len_v, n, view::rank_at(near, k, 11));
+    let degree = view::degree_at(ranks, n, k);
+    let along_u = continuation_at(ranks, x, y, edges, n, 0, k);
+    let along_v = continuation_at(ranks, x, y, edges, n, 1, k);
+    let a = cell_at(ranks, x, y, edges, n, view::rank_at(ranks, k, view::OWN));
+    let b = cell_at(ranks, x, y, edges, n, view::rank_at(ranks, k, view::PREV_U));
+    let c = cell_at(ranks, x, y, edges, n, view::rank_at(ranks, k, DIAGONAL));
+    let d = cell_at(ranks, x, y, edges, n, view::rank_at(ranks, k, view::PREV_V));
     figures_by(g, degree, note(along_u, along_v), a, b, c, d)
 }
 
-// The figures of each rank's cell.
-pub fn evaluate_edge_shape(
-    g: EdgeShapeParams,
-    x: &[f32; MAX_POINTS],
-    y: &[f32; MAX_POINTS],
-    near: &[u16; NEAR_SIZE],
-    len_u: &[f32; MAX_POINTS],
-    len_v: &[f32; MAX_POINTS],
-    n: usize,
-) -> [Figures; MAX_POINTS]
-    requires { ⌜ Given (seen n (now near) (now x) (now y)) (now «len_u») (now «len_v») ⌝ }
-    ensures { λ r. ⌜ r ≡ column maxPoints noFigures n (figuresAt g (seen n (now (near .entry)) (now (x .entry)) (now (y .entry)))) ⌝ }
+// No figures: what a row shows without a gate, and what stands past the last rank.
+pub fn no_figures() -> Figures
+    ensures { λ r. ⌜ r ≡ noFigures ⌝ }
 {
-    let mut out = [Figures {
+    Figures {
         degree: 0,
         adjacent: 0,
         valid: 0,
         continuation: Measure::Absent,
         cells: Measure::Absent,
         reason: Reason::NoReason,
-    }; MAX_POINTS];
+    }
+}
+
+// The figures of each rank's index: those of the cell that has the index's place.
+pub fn evaluate_edge_shape(
+    g: EdgeShapeParams,
+    ranks: &[u16; RANKS_SIZE],
+    x: &[f32; MAX_POINTS],
+    y: &[f32; MAX_POINTS],
+    edges: &[f32; EDGES_SIZE],
+    n: usize,
+) -> [Figures; MAX_POINTS]
+    requires { ⌜ WithEdges n (now ranks) (now x) (now y) (now edges) ⌝ }
+    ensures { λ r. ⌜ r ≡ indexFigures g (viewAt n (now (ranks .entry)) (now (x .entry)) (now (y .entry))) ⌝ }
+{
+    let none = no_figures();
+    let mut out = [none; MAX_POINTS];
     let mut k: usize = 0;
     while k < n {
-        out[k] = figures_at(g, x, y, near, len_u, len_v, n, k);
+        out[k] = figures_at(g, ranks, x, y, edges, n, view::index_of(ranks, k));
         k += 1;
     }
     out

@@ -1,116 +1,113 @@
-// The edges of the lattice in one direction: the length and the unit vector of each, computed once for all filters.
+// The edges of the lattice: the length and the unit vector of each, computed once for all filters.
 use view::MAX_POINTS;
-use view::NEAR_SIZE;
+use view::NEXT_U;
+use view::NEXT_V;
+use view::RANKS_SIZE;
 ghost use mathlib.Core.Path.{_≡_};
-ghost use mathlib.Core.List.{List};
-ghost use Prim.Native.Nat.{ℕ, _+_, _*_, _≤_, _<_};
+ghost use Prim.Native.Nat.{_+_, _*_, _≤_, _<_};
+ghost use lib.ListN.{getD};
 ghost use lib.Ieee.{nan};
-ghost use Rattle.folds.specs.Column.{column};
 ghost use Rattle.view.specs.View.{maxPoints, viewAt};
-ghost use Rattle.edges.specs.Edges.{edgesOf};
-ghost use Rattle.edges.specs.Parts.{lengthAt, unitAt};
+ghost use Rattle.edges.specs.Edges.{side, edgesOf, edgePlace, FilledTo};
 
-pub struct EdgeColumns {
-    pub len: [f32; MAX_POINTS],
-    pub ux: [f32; MAX_POINTS],
-    pub uy: [f32; MAX_POINTS],
+// Lengths and unit vectors (x, then y) of the edges along u, then of those along v, with MAX_POINTS entries each.
+pub const EDGES_SIZE: usize = 6 * MAX_POINTS;
+
+// The offset that the edges of a way lead over: way 0 is along u, 1 along v.
+pub fn side_of(way: usize) -> usize
+    ensures { λ r. ⌜ (r ≡ side way) × (r < 25) ⌝ }
+{
+    if way == 0 { NEXT_U } else { NEXT_V }
 }
 
-// The length of the edge from rank k to its neighbour at the offset, 0 where there is none.
-fn length_at(
-    near: &[u16; NEAR_SIZE],
+// The entry for rank k of the column c, whose lengths the table has already; an edge to no point has zeros.
+fn entry(
+    ranks: &[u16; RANKS_SIZE],
     x: &[f32; MAX_POINTS],
     y: &[f32; MAX_POINTS],
     n: usize,
-    offset: usize,
+    table: &[f32; EDGES_SIZE],
+    c: usize,
     k: usize,
 ) -> f32
-    requires { ⌜ (n ≤ maxPoints) × (offset < 25) × (k < n) ⌝ }
-    ensures { λ r. ⌜ r ≡ lengthAt n (now (near .entry)) (now (x .entry)) (now (y .entry)) offset k ⌝ }
+    requires { ⌜ (n ≤ maxPoints) × (c < 6) × (k < n) × FilledTo (viewAt n (now ranks) (now x) (now y)) (maxPoints * c + k) (now table) ⌝ }
+    ensures { λ r. ⌜ r ≡ getD (edgesOf (viewAt n (now (ranks .entry)) (now (x .entry)) (now (y .entry)))) (maxPoints * c + k) nan ⌝ }
 {
-    let j = view::wide(near[25 * k + offset]);
-    if j < n {
-        return float::norm(x[j] - x[k], y[j] - y[k]);
+    let j = view::rank_at(ranks, k, side_of(c / 3));
+    if n <= j {
+        return 0.0;
     }
-    0.0
+    let dx = x[j] - x[k];
+    let dy = y[j] - y[k];
+    if c % 3 == 0 {
+        return float::norm(dx, dy);
+    }
+    let len = length(table, c / 3, k);
+    if c % 3 == 1 {
+        return dx / len;
+    }
+    dy / len
 }
 
-fn lengths(
-    near: &[u16; NEAR_SIZE],
+// Fills the column c of the table.
+fn fill_column(
+    ranks: &[u16; RANKS_SIZE],
     x: &[f32; MAX_POINTS],
     y: &[f32; MAX_POINTS],
     n: usize,
-    offset: usize,
-) -> [f32; MAX_POINTS]
-    requires { ⌜ (n ≤ maxPoints) × (offset < 25) ⌝ }
-    ensures { λ r. ⌜ r ≡ column maxPoints nan n (lengthAt n (now (near .entry)) (now (x .entry)) (now (y .entry)) offset) ⌝ }
+    table: &mut [f32; EDGES_SIZE],
+    c: usize,
+)
+    requires { ⌜ (n ≤ maxPoints) × (c < 6) × FilledTo (viewAt n (now ranks) (now x) (now y)) (maxPoints * c) (now table) ⌝ }
+    ensures { λ r. ⌜ FilledTo (viewAt n (now (ranks .entry)) (now (x .entry)) (now (y .entry))) (maxPoints * (c + 1)) (now (table .exit)) ⌝ }
 {
-    let none: f32 = 0.0 / 0.0;
-    let mut out = [none; MAX_POINTS];
     let mut k = 0;
     while k < n {
-        out[k] = length_at(near, x, y, n, offset, k);
+        let e = entry(ranks, x, y, n, table, c, k);
+        table[MAX_POINTS * c + k] = e;
         k += 1;
     }
-    out
 }
 
-// The part of the unit vector along the coordinate c, from the lengths.
-fn unit_at(
-    near: &[u16; NEAR_SIZE],
-    c: &[f32; MAX_POINTS],
-    len: &[f32; MAX_POINTS],
-    n: usize,
-    offset: usize,
-    k: usize,
-) -> f32
-    requires { ⌜ (n ≤ maxPoints) × (offset < 25) × (k < n) ⌝ }
-    ensures { λ r. ⌜ r ≡ unitAt n (now (near .entry)) (now (c .entry)) (now (len .entry)) offset k ⌝ }
-{
-    let j = view::wide(near[25 * k + offset]);
-    if j < n {
-        return (c[j] - c[k]) / len[k];
-    }
-    0.0
-}
-
-fn units(
-    near: &[u16; NEAR_SIZE],
-    c: &[f32; MAX_POINTS],
-    len: &[f32; MAX_POINTS],
-    n: usize,
-    offset: usize,
-) -> [f32; MAX_POINTS]
-    requires { ⌜ (n ≤ maxPoints) × (offset < 25) ⌝ }
-    ensures { λ r. ⌜ r ≡ column maxPoints nan n (unitAt n (now (near .entry)) (now (c .entry)) (now (len .entry)) offset) ⌝ }
-{
-    let none: f32 = 0.0 / 0.0;
-    let mut out = [none; MAX_POINTS];
-    let mut k = 0;
-    while k < n {
-        out[k] = unit_at(near, c, len, n, offset, k);
-        k += 1;
-    }
-    out
-}
-
-// The edges that lead to the neighbours at the offset.
+// The table of the edges.
 pub fn edges(
-    near: &[u16; NEAR_SIZE],
+    ranks: &[u16; RANKS_SIZE],
     x: &[f32; MAX_POINTS],
     y: &[f32; MAX_POINTS],
     n: usize,
-    offset: usize,
-) -> EdgeColumns
-    requires { ⌜ (n ≤ maxPoints) × (offset < 25) ⌝ }
-    ensures { λ r. ⌜ ((row column byIdx : List ℕ) → r ≡ edgesOf (viewAt n (now (near .entry)) row column byIdx (now (x .entry)) (now (y .entry))) offset) ⌝ }
+) -> [f32; EDGES_SIZE]
+    requires { ⌜ n ≤ maxPoints ⌝ }
+    ensures { λ r. ⌜ r ≡ edgesOf (viewAt n (now (ranks .entry)) (now (x .entry)) (now (y .entry))) ⌝ }
 {
-    let len = lengths(near, x, y, n, offset);
-    let ux = units(near, x, &len, n, offset);
-    let uy = units(near, y, &len, n, offset);
-    EdgeColumns {
-        len: len,
-        ux: ux,
-        uy: uy,
+    let none: f32 = 0.0 / 0.0;
+    let mut table = [none; EDGES_SIZE];
+    let mut c = 0;
+    while c < 6 {
+        fill_column(ranks, x, y, n, &mut table, c);
+        c += 1;
     }
+    table
+}
+
+// The length of the way's edge that starts at rank k.
+pub fn length(edges: &[f32; EDGES_SIZE], way: usize, k: usize) -> f32
+    requires { ⌜ (way < 2) × (k < maxPoints) ⌝ }
+    ensures { λ r. ⌜ r ≡ getD (now (edges .entry)) (edgePlace way 0 k) nan ⌝ }
+{
+    edges[MAX_POINTS * (3 * way) + k]
+}
+
+// The parts of its unit vector.
+pub fn unit_x(edges: &[f32; EDGES_SIZE], way: usize, k: usize) -> f32
+    requires { ⌜ (way < 2) × (k < maxPoints) ⌝ }
+    ensures { λ r. ⌜ r ≡ getD (now (edges .entry)) (edgePlace way 1 k) nan ⌝ }
+{
+    edges[MAX_POINTS * (3 * way + 1) + k]
+}
+
+pub fn unit_y(edges: &[f32; EDGES_SIZE], way: usize, k: usize) -> f32
+    requires { ⌜ (way < 2) × (k < maxPoints) ⌝ }
+    ensures { λ r. ⌜ r ≡ getD (now (edges .entry)) (edgePlace way 2 k) nan ⌝ }
+{
+    edges[MAX_POINTS * (3 * way + 2) + k]
 }

@@ -1,5 +1,7 @@
 -- Laws that more than one function's proof uses.
+pub mod Bits
 pub mod Nan
+pub mod Order
 pub mod Near
 pub mod Over
 pub mod Pattern

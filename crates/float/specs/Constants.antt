@@ -1,4 +1,5 @@
 -- The f32 constants of the Rust, each by its bit pattern, which is that of the nearest f32 to the decimal number beside it.
+use Prim.Native.Nat.{ℕ}
 use lib.Ieee.{Float, binary32, ofBits}
 use Rattle.float.specs.Root.{rootOf}
 
@@ -58,3 +59,10 @@ duplicateFraction = ofBits binary32 0x3e4c_cccd
 -- "r > 0.30": TOPO_FRONTIER_CURV_TOL
 abbrev pub frontierTolerance : Float
 frontierTolerance = ofBits binary32 0x3e99_999a
+
+-- the bit pattern of +infinity, and the least of a NaN
+abbrev pub infinityBits : ℕ
+infinityBits = 0x7f80_0000
+
+abbrev pub firstNanBits : ℕ
+firstNanBits = 0x7f80_0001

@@ -1,16 +1,29 @@
--- The last rank of each line, kept at the place of the line. Assumes nothing.
+-- Rows and columns as lines, and the last rank of each line, kept at the place of the line. Way 0 is along u, so that its lines are the rows;
+-- way 1 is along v. Assumes nothing.
 use mathlib.Core.Path.{_≡_}
+use mathlib.Core.Bool.{Bool, cond, _||_}
 use mathlib.Core.List.{List}
 use Prim.Native.Nat.{ℕ, _<_}
 use lib.Dec.{eqb}
 use lib.ListN.{length, getD}
 use Rattle.folds.specs.Below.{last}
-use Rattle.view.specs.View.{maxPoints}
+use Rattle.view.specs.View.{View, maxPoints, prevU, prevV}
+use Rattle.edges.specs.Edges.{side}
+use Rattle.frontier.specs.Frontier.{lastOf, endMark}
 
--- the last k below n of line m
-abbrev pub lastIn : List ℕ → ℕ → ℕ → ℕ
-lastIn line n m = last (λ j. eqb (getD line j 0) m) 0 n
+-- the first rank of rank k's line, which stands for the line
+abbrev pub lineAt : View → ℕ → ℕ → ℕ
+lineAt w way k = cond (eqb way 0) (w .row k) (w .column k)
 
-pub record Lasts (line : List ℕ) (n : ℕ) (held : List ℕ) : Type 0 where
-  pub size : length held ≡ maxPoints
-  pub at : (m : ℕ) → m < maxPoints → getD held m 0 ≡ lastIn line n m
+-- the offset that leads inward from the last rank of a line
+abbrev pub back : ℕ → ℕ
+back way = cond (eqb way 0) prevU prevV
+
+-- rank k is marked as the first or as the last of its line
+unfoldable pub lineMark : View → ℕ → ℕ → Bool
+lineMark w way k = endMark w (lineAt w way) (side way) k || endMark w (lastOf w (lineAt w way)) (back way) k
+
+-- at the place of each line, the last of its ranks below n
+pub record Lasts (line : ℕ → ℕ) (n : ℕ) (lasts : List ℕ) : Type 0 where
+  pub size : length lasts ≡ maxPoints
+  pub at : (m : ℕ) → m < maxPoints → getD lasts m 0 ≡ last (λ (j : ℕ). eqb (line j) m) 0 n

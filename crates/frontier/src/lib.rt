@@ -1,22 +1,22 @@
 // Ends of rows and columns whose spacing has a kink.
 use float::constants::FRONTIER_TOLERANCE;
 use view::MAX_POINTS;
-use view::NEAR_SIZE;
+use view::PREV_U;
+use view::PREV_V;
+use view::RANKS_SIZE;
 ghost use mathlib.Core.Path.{_≡_};
-ghost use mathlib.Core.Bool.{_&&_};
+ghost use mathlib.Core.Bool.{cond, _&&_};
 ghost use mathlib.Core.List.{[]};
-ghost use Prim.Native.Nat.{ℕ, _+_, _*_, _≤_, _<_};
+ghost use Prim.Native.Nat.{ℕ, _+_, _≤_, _<_};
 ghost use lib.Dec.{eqb, ltb};
 ghost use lib.ListN.{getD};
 ghost use lib.Ieee.{nan};
 ghost use Rattle.folds.specs.Arith.{_⊖_};
-ghost use Rattle.folds.specs.Column.{column as columnOf};
 ghost use Rattle.folds.specs.Marked.{Marked};
 ghost use Rattle.float.specs.Scalar.{normOf};
-ghost use Rattle.view.specs.View.{maxPoints, viewAt, degreeAt};
-ghost use Rattle.marks.specs.Arrays.{Ranks, nearView, placedView};
+ghost use Rattle.view.specs.View.{maxPoints, rowsAt, columnsAt, viewAt, Ranked};
 ghost use Rattle.frontier.specs.Frontier.{kink, kinkAt, frontierMark};
-ghost use Rattle.frontier.specs.Lasts.{lastIn, Lasts};
+ghost use Rattle.frontier.specs.Lasts.{lineAt, back, lineMark, Lasts};
 
 // The distance from rank a to rank b.
 fn distance(x: &[f32; MAX_POINTS], y: &[f32; MAX_POINTS], a: usize, b: usize) -> f32
@@ -35,20 +35,9 @@ fn has_kink(e0: f32, e1: f32, e2: f32) -> bool
     false
 }
 
-// How many cells that share an edge with rank k's hold a point.
-fn degree(near: &[u16; NEAR_SIZE], n: usize, k: usize) -> usize
-    requires { ⌜ (n ≤ maxPoints) × (k < n) ⌝ }
-    ensures { λ r. ⌜ r ≡ degreeAt (nearView n (now (near .entry))) k ⌝ }
-{
-    let a = marks::one_more(view::wide(near[25 * k + 7]) < n, 0);
-    let b = marks::one_more(view::wide(near[25 * k + 17]) < n, a);
-    let c = marks::one_more(view::wide(near[25 * k + 11]) < n, b);
-    marks::one_more(view::wide(near[25 * k + 13]) < n, c)
-}
-
 // Whether four cells follow each other inward from rank k, with a kink there.
 fn kink_at(
-    near: &[u16; NEAR_SIZE],
+    ranks: &[u16; RANKS_SIZE],
     x: &[f32; MAX_POINTS],
     y: &[f32; MAX_POINTS],
     n: usize,
@@ -56,21 +45,21 @@ fn kink_at(
     k: usize,
 ) -> bool
     requires { ⌜ (n ≤ maxPoints) × (inward < 25) × (k < n) ⌝ }
-    ensures { λ r. ⌜ r ≡ kinkAt (placedView n (now (near .entry)) (now (x .entry)) (now (y .entry))) inward k ⌝ }
+    ensures { λ r. ⌜ r ≡ kinkAt (viewAt n (now (ranks .entry)) (now (x .entry)) (now (y .entry))) inward k ⌝ }
 {
-    let a = view::wide(near[25 * k + inward]);
+    let a = view::rank_at(ranks, k, inward);
     if n <= a {
         return false;
     }
-    let b = view::wide(near[25 * a + inward]);
+    let b = view::rank_at(ranks, a, inward);
     if n <= b {
         return false;
     }
-    let c = view::wide(near[25 * b + inward]);
+    let c = view::rank_at(ranks, b, inward);
     if n <= c {
         return false;
     }
-    if 2 < degree(near, n, k) {
+    if 2 < view::degree_at(ranks, n, k) {
         return false;
     }
     has_kink(
@@ -82,41 +71,32 @@ fn kink_at(
 
 // Whether rank k is the end of its line, with a kink there.
 fn end_at(
-    near: &[u16; NEAR_SIZE],
+    ranks: &[u16; RANKS_SIZE],
     x: &[f32; MAX_POINTS],
     y: &[f32; MAX_POINTS],
-    ends: &[u16; MAX_POINTS],
     n: usize,
+    end: usize,
     inward: usize,
     k: usize,
 ) -> bool
     requires { ⌜ (n ≤ maxPoints) × (inward < 25) × (k < n) ⌝ }
-    ensures { λ r. ⌜ r ≡ eqb (getD (now (ends .entry)) k 0) k && kinkAt (placedView n (now (near .entry)) (now (x .entry)) (now (y .entry))) inward k ⌝ }
+    ensures { λ r. ⌜ r ≡ eqb end k && kinkAt (viewAt n (now (ranks .entry)) (now (x .entry)) (now (y .entry))) inward k ⌝ }
 {
-    if view::wide(ends[k]) == k {
-        return kink_at(near, x, y, n, inward, k);
+    if end == k {
+        return kink_at(ranks, x, y, n, inward, k);
     }
     false
 }
 
-// Marks the ends of lines that have a kink there; `ends` holds the end of each rank's line, and the offset leads inward from it.
-fn mark_ends(
-    near: &[u16; NEAR_SIZE],
-    x: &[f32; MAX_POINTS],
-    y: &[f32; MAX_POINTS],
-    ends: &[u16; MAX_POINTS],
-    n: usize,
-    inward: usize,
-    mark: &mut [u8; MAX_POINTS],
-)
-    requires { ⌜ (n ≤ maxPoints) × (inward < 25) ⌝ }
-    ensures { λ r. ⌜ Marked (λ (m : ℕ). ltb m n && (eqb (getD (now (ends .entry)) m 0) m && kinkAt (placedView n (now (near .entry)) (now (x .entry)) (now (y .entry))) inward m)) (now (mark .entry)) (now (mark .exit)) ⌝ }
+// The first rank of rank k's row (way 0) or column.
+fn line_of(ranks: &[u16; RANKS_SIZE], way: usize, k: usize) -> usize
+    requires { ⌜ k < maxPoints ⌝ }
+    ensures { λ r. ⌜ r ≡ cond (eqb way 0) (getD (now (ranks .entry)) (rowsAt + k) 0) (getD (now (ranks .entry)) (columnsAt + k) 0) ⌝ }
 {
-    let mut k = 0;
-    while k < n {
-        marks::set_if(end_at(near, x, y, ends, n, inward, k), k, n, mark);
-        k += 1;
+    if way == 0 {
+        return view::row_of(ranks, k);
     }
+    view::column_of(ranks, k)
 }
 
 fn narrow(k: usize) -> u16
@@ -127,49 +107,77 @@ fn narrow(k: usize) -> u16
 }
 
 // The last rank of each line, at the place of the line.
-fn held_lasts(line: &[u16; MAX_POINTS], n: usize) -> [u16; MAX_POINTS]
-    requires { ⌜ (n ≤ maxPoints) × Ranks n (now line) ⌝ }
-    ensures { λ r. ⌜ Lasts (now (line .entry)) n r ⌝ }
+fn lasts_of(ranks: &[u16; RANKS_SIZE], n: usize, way: usize) -> [u16; MAX_POINTS]
+    requires { ⌜ Ranked n (now ranks) ⌝ }
+    ensures { λ r. ⌜ Lasts (lineAt (viewAt n (now (ranks .entry)) [] []) way) n r ⌝ }
 {
-    let mut held = [0u16; MAX_POINTS];
+    let mut lasts = [0u16; MAX_POINTS];
     let mut k = 0;
     while k < n {
-        held[view::wide(line[k])] = narrow(k);
+        lasts[line_of(ranks, way, k)] = narrow(k);
         k += 1;
     }
-    held
+    lasts
 }
 
-// The last rank of each rank's line.
-fn lasts_of(line: &[u16; MAX_POINTS], n: usize) -> [u16; MAX_POINTS]
-    requires { ⌜ (n ≤ maxPoints) × Ranks n (now line) ⌝ }
-    ensures { λ r. ⌜ r ≡ columnOf maxPoints 0 n (λ (k : ℕ). lastIn (now (line .entry)) n (getD (now (line .entry)) k 0)) ⌝ }
+// The offset that leads inward from the last rank of a line.
+fn back_of(way: usize) -> usize
+    ensures { λ r. ⌜ (r ≡ back way) × (r < 25) ⌝ }
 {
-    let held = held_lasts(line, n);
-    let mut out = [0u16; MAX_POINTS];
+    if way == 0 { PREV_U } else { PREV_V }
+}
+
+// Whether rank k is the first or the last of its line, with a kink there.
+fn line_end_at(
+    ranks: &[u16; RANKS_SIZE],
+    x: &[f32; MAX_POINTS],
+    y: &[f32; MAX_POINTS],
+    lasts: &[u16; MAX_POINTS],
+    n: usize,
+    way: usize,
+    k: usize,
+) -> bool
+    requires { ⌜ Ranked n (now ranks) × Lasts (lineAt (viewAt n (now ranks) [] []) way) n (now lasts) × (k < n) ⌝ }
+    ensures { λ r. ⌜ r ≡ lineMark (viewAt n (now (ranks .entry)) (now (x .entry)) (now (y .entry))) way k ⌝ }
+{
+    let first = line_of(ranks, way, k);
+    if end_at(ranks, x, y, n, first, edges::side_of(way), k) {
+        return true;
+    }
+    end_at(ranks, x, y, n, view::wide(lasts[first]), back_of(way), k)
+}
+
+// Marks both ends of each row (way 0) or column that have a kink there.
+fn mark_ends(
+    ranks: &[u16; RANKS_SIZE],
+    x: &[f32; MAX_POINTS],
+    y: &[f32; MAX_POINTS],
+    n: usize,
+    way: usize,
+    mark: &mut [u8; MAX_POINTS],
+)
+    requires { ⌜ Ranked n (now ranks) ⌝ }
+    ensures { λ r. ⌜ Marked (λ (m : ℕ). ltb m n && lineMark (viewAt n (now (ranks .entry)) (now (x .entry)) (now (y .entry))) way m) (now (mark .entry)) (now (mark .exit)) ⌝ }
+{
+    let lasts = lasts_of(ranks, n, way);
     let mut k = 0;
     while k < n {
-        out[k] = held[view::wide(line[k])];
+        marks::set_if(line_end_at(ranks, x, y, &lasts, n, way, k), k, n, mark);
         k += 1;
     }
-    out
 }
 
 // Marks both ends of each row and column that have a kink there.
 pub fn mark_frontier(
-    near: &[u16; NEAR_SIZE],
-    row: &[u16; MAX_POINTS],
-    column: &[u16; MAX_POINTS],
+    ranks: &[u16; RANKS_SIZE],
     x: &[f32; MAX_POINTS],
     y: &[f32; MAX_POINTS],
     n: usize,
     mark: &mut [u8; MAX_POINTS],
 )
-    requires { ⌜ (n ≤ maxPoints) × Ranks n (now row) × Ranks n (now column) ⌝ }
-    ensures { λ r. ⌜ Marked (λ (m : ℕ). ltb m n && frontierMark (viewAt n (now (near .entry)) (now (row .entry)) (now (column .entry)) [] (now (x .entry)) (now (y .entry))) m) (now (mark .entry)) (now (mark .exit)) ⌝ }
+    requires { ⌜ Ranked n (now ranks) ⌝ }
+    ensures { λ r. ⌜ Marked (λ (m : ℕ). ltb m n && frontierMark (viewAt n (now (ranks .entry)) (now (x .entry)) (now (y .entry))) m) (now (mark .entry)) (now (mark .exit)) ⌝ }
 {
-    mark_ends(near, x, y, row, n, 17, mark);
-    mark_ends(near, x, y, &lasts_of(row, n), n, 7, mark);
-    mark_ends(near, x, y, column, n, 13, mark);
-    mark_ends(near, x, y, &lasts_of(column, n), n, 11, mark);
+    mark_ends(ranks, x, y, n, 0, mark);
+    mark_ends(ranks, x, y, n, 1, mark);
 }

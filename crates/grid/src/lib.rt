@@ -8,9 +8,9 @@ ghost use Rattle.folds.specs.Column.{column};
 ghost use Rattle.view.specs.View.{maxPoints, ranksSize, rowsAt, columnsAt, indicesAt};
 ghost use Rattle.cells.specs.Points.{stride};
 ghost use Rattle.cells.specs.Cell.{cellsAt};
-ghost use Rattle.sort.specs.Packed.{packed};
+ghost use Rattle.sort.specs.Packed.{packedPlaces, packed};
 ghost use Rattle.grid.specs.Tables.{entryIn, neighbourEntry, firstInRow, firstInColumn, lastWithIndex, spliced, ranksOf, Keys};
-ghost use Rattle.grid.specs.Sweep.{keyCentre, packedPlaces, Behind, Reached, FiveFit, standingFrom};
+ghost use Rattle.grid.specs.Sweep.{keyCentre, Behind, Reached, FiveFit, standingFrom};
 
 // A rank stands at a target if its key plus this is the target, so that the targets of two cells down are no negative numbers.
 const CENTRE: u32 = 2 * cells::STRIDE + 2;
@@ -20,9 +20,6 @@ const V_PARTS: usize = cells::STRIDE as usize;
 
 // No rank.
 const NONE: u16 = view::MAX_POINTS as u16;
-
-// An index and a rank in one number: the index times this, plus the rank.
-const PACKED_PLACES: u64 = 4096;
 
 // The first rank from `from` on that does not stand before the target.
 fn advance(keys: &[u32; view::MAX_POINTS], n: usize, from: usize, target: u32) -> usize
@@ -164,7 +161,7 @@ fn pack(index: u32, rank: usize) -> u64
     requires { ⌜ rank < maxPoints ⌝ }
     ensures { λ r. ⌜ r ≡ index * packedPlaces + rank ⌝ }
 {
-    (index as u64) * PACKED_PLACES + (rank as u64)
+    (index as u64) * sort::PACKED_PLACES + (rank as u64)
 }
 
 fn packed_ranks(idx: &[u32; view::MAX_POINTS], n: usize) -> [u64; view::MAX_POINTS]
@@ -185,11 +182,11 @@ fn last_rank(order: &[u64; view::MAX_POINTS], n: usize, i: usize, after: u16) ->
     requires { ⌜ (i < n) × (n ≤ maxPoints) ⌝ }
     ensures { λ r. ⌜ r ≡ cond (ltb (i + 1) n && eqb (entryIn (now (order .entry)) i / packedPlaces) (entryIn (now (order .entry)) (i + 1) / packedPlaces)) after (entryIn (now (order .entry)) i % packedPlaces) ⌝ }
 {
-    let rank = (order[i] % PACKED_PLACES) as u16;
+    let rank = (order[i] % sort::PACKED_PLACES) as u16;
     if n <= i + 1 {
         return rank;
     }
-    if order[i] / PACKED_PLACES == order[i + 1] / PACKED_PLACES {
+    if order[i] / sort::PACKED_PLACES == order[i + 1] / sort::PACKED_PLACES {
         return after;
     }
     rank
@@ -207,7 +204,7 @@ fn fill_indices(idx: &[u32; view::MAX_POINTS], n: usize, ranks: &mut [u16; view:
     while 0 < i {
         i -= 1;
         last = last_rank(&order, n, i, last);
-        let k = (order[i] % PACKED_PLACES) as usize;
+        let k = (order[i] % sort::PACKED_PLACES) as usize;
         ranks[view::INDICES_AT + k] = last;
     }
 }

@@ -1,29 +1,30 @@
 -- The verdict on an edge from counts, and from arrays that hold the edges. Assumes nothing.
 use mathlib.Core.Path.{_≡_, refl, sym, ap, _∙_}
 use mathlib.Core.Bool.{Bool, true, false, cond, not, _&&_, _||_, false≢true}
-use mathlib.Core.List.{List}
+use mathlib.Core.List.{List, []}
 use Prim.Native.Nat.{ℕ, _+_, _/_, _≤_, _<_}
 use Prim.{Dec, yes, no}
 use native.Mathlib.Decide.{decLt}
 use native.Mathlib.Omega.{arith}
 use lib.Dec.{T, ltb, leb, eqb}
-use borrow.Author.Tests.{leb-true, ltb-true, le-ltb, ne-eqb}
+use borrow.Author.Tests.{leb-true, ltb-true, lt-ltb, le-ltb, ne-eqb}
 use lib.ListN.{length, getD}
 use lib.Ieee.{Float, nan, lt, ofBits}
 use lib.Ieee.Positive.{positive as positive-float}
 use Rattle.folds.specs.Arith.{_⊗_, zeroF}
 use Rattle.folds.specs.Below.{tally, tally-more, sumOf, sum-more, sum-ext, some, some-ext, some-no, and-false, and-under, and-left, and-right}
 use Rattle.folds.specs.Lists.{listed, listed-length, listed-ext}
-use Rattle.folds.specs.Column.{column-at}
+use Rattle.folds.specs.Column.{column, column-at}
+use Rattle.folds.specs.Marked.{Marked, marked-as}
 use Rattle.float.specs.Constants.{overlongRatio, globalOverlongRatio}
-use Rattle.median.specs.Median.{medianOf, over-median-of}
+use Rattle.median.specs.Median.{medianOf}
+use Rattle.median.proofs.Median.{over-median-of}
 use Rattle.median.specs.Packed.{positives}
 use Rattle.view.specs.View.{View, maxPoints, viewAt, own, rankAt, present}
-use Rattle.marks.specs.Arrays.{nearView}
-use Rattle.edges.specs.declared.EdgeColumns.{EdgeColumns}
-use Rattle.edges.specs.Edges.{Edge, edgeAt, edgesOf}
-use Rattle.judged_edges.specs.Judged.{positive, inWindow, windowLens, sheetLens, windowX, windowY, overlong, offAxis, fails, endOfFailing}
-use Rattle.judged_edges.specs.Inner.{held, windowTo, stepped, failingEnds}
+use Rattle.edges.specs.Edges.{Edge, edgeAt, side, edgesOf, edgePlace}
+use Rattle.edges.proofs.Laws.{partOf, edge-part}
+use Rattle.judged_edges.specs.Judged.{positive, inWindow, windowLens, sheetLens, windowX, windowY, overlong, offAxis, fails, endOfFailing, edgeMark}
+use Rattle.judged_edges.specs.Inner.{tableEdge, under, windowTo, withEdgeAt, positiveLens, failingEnds}
 use Rattle.judged_edges.specs.declared.Window.{Window}
 
 module _ (w : View) (E : ℕ → Edge) where
@@ -31,10 +32,10 @@ module _ (w : View) (E : ℕ → Edge) where
   unfolding windowTo tally sumOf
   window-none k len = refl
 
-  pub window-more : (k : ℕ) (len : Float) (j : ℕ) → windowTo w E k len (j + 1)
-      ≡ stepped (inWindow w E k j) (lt (overlongRatio ⊗ E (rankAt w k j) .len) len) (E (rankAt w k j) .ux) (E (rankAt w k j) .uy) (windowTo w E k len j)
+  pub window-more : (k : ℕ) (len : Float) (j : ℕ) → windowTo w E k len (j + 1) ≡ withEdgeAt w E k len j (windowTo w E k len j)
   unfolding windowTo
-  window-more k len j = rw (tally-more (inWindow w E k) j, tally-more (λ i. inWindow w E k i && lt (overlongRatio ⊗ E (rankAt w k i) .len) len) j, sum-more (inWindow w E k) (λ i. E (rankAt w k i) .ux) j, sum-more (inWindow w E k) (λ i. E (rankAt w k i) .uy) j)
+  window-more k len j =
+      rw (tally-more (inWindow w E k) j, tally-more (λ i. inWindow w E k i && under w E k len i) j, sum-more (inWindow w E k) (λ i. E (rankAt w k i) .ux) j, sum-more (inWindow w E k) (λ i. E (rankAt w k i) .uy) j)
 
   ratio-positive : T (positive-float overlongRatio)
   unfolding ofBits
@@ -84,23 +85,25 @@ module _ (w : View) (E : ℕ → Edge) where
       ∙ ap (λ l. lt (overlongRatio ⊗ medianOf l) (E k .len)) (lens-are k)
       ∙ over-median-of overlongRatio (E k .len) ratio-positive (inWindow w E k) (λ i. E (rankAt w k i) .len) 25 (λ i l p. in-positive k i p) (omega (arith, leb-true 5 (tally (inWindow w E k) 25) h))
 
-  -- The verdict: v is the window of rank k's edge, t the number of positive lengths on the sheet.
-  pub fails-by : (k : ℕ) (v : Window) (t : ℕ) → v ≡ windowTo w E k (E k .len) 25 → t ≡ tally (positive w E) (w .count)
-      → fails w E k ≡ positive w E k && cond (leb 5 (v .count)) (ltb (v .count / 2) (v .under) || offAxis (v .sx) (v .sy) (E k .ux) (E k .uy)) (leb 8 t && lt (globalOverlongRatio ⊗ medianOf (sheetLens w E)) (E k .len))
-  fails-by k v t e f =
+  -- The verdict: v is the window of rank k's edge, which has the length len, and t the number of positive lengths on the sheet.
+  pub fails-by : (k : ℕ) (len : Float) (v : Window) (t : ℕ) → len ≡ E k .len → v ≡ windowTo w E k len 25 → t ≡ tally (positive w E) (w .count)
+      → fails w E k ≡ lt zeroF len && cond (leb 5 (v .count)) (ltb (v .count / 2) (v .under) || offAxis (v .sx) (v .sy) (E k .ux) (E k .uy)) (leb 8 t && lt (globalOverlongRatio ⊗ medianOf (positiveLens E (w .count))) len)
+  fails-by k len v t o e f =
       let a : length (windowLens w E k) ≡ tally (inWindow w E k) 25 = ap length (lens-are k) ∙ listed-length (inWindow w E k) (λ i. E (rankAt w k i) .len) 25 in
       let b : length (sheetLens w E) ≡ tally (positive w E) (w .count) = ap length sheet-is ∙ listed-length (positive w E) (λ i. E i .len) (w .count) in
       fails-is k
-      ∙ rw (e ∙ window-is k (E k .len), f, a, b, x-is k, y-is k)
+      ∙ rw (e ∙ window-is k len, o, f, a, b, x-is k, y-is k)
       (ap (λ r. positive w E k && r)
       (cond-ext (leb 5 (tally (inWindow w E k) 25))
       (λ h. ap (λ r. r || offAxis (sumOf (inWindow w E k) (λ i. E (rankAt w k i) .ux) 25) (sumOf (inWindow w E k) (λ i. E (rankAt w k i) .uy) 25) (E k .ux) (E k .uy)) (local k h))
-      (ap (λ r. leb 8 (tally (positive w E) (w .count)) && r) (over-is globalOverlongRatio (sheetLens w E) (E k .len)))))
+      (ap (λ r. leb 8 (tally (positive w E) (w .count)) && r) (over-is globalOverlongRatio (sheetLens w E) (E k .len) ∙ ap (λ l. lt (globalOverlongRatio ⊗ medianOf l) (E k .len)) sheet-is))))
 
--- the sheet's lengths, read from an array
-pub sheet-held : (n : ℕ) (near : List ℕ) (len ux uy : List Float) → sheetLens (nearView n near) (held len ux uy) ≡ positives len n
-unfolding sheetLens positives
-sheet-held n near len ux uy = refl
+-- the positive lengths, read from a column
+pub column-lens : (E : ℕ → Edge) (n : ℕ) (l : List Float) → l ≡ column maxPoints nan n (λ (k : ℕ). E k .len) → positives l n ≡ positiveLens E n
+unfolding positives
+column-lens E n l e =
+    let at : (k : ℕ) → k < n → getD l k nan ≡ E k .len = λ k h. rw e (column-at maxPoints nan n (λ (k : ℕ). E k .len) k h) in
+    listed-ext (λ k. lt zeroF (getD l k nan)) (λ k. lt zeroF (E k .len)) (λ k. getD l k nan) (λ k. E k .len) n (λ k h. rw (at k h)) (λ k h p. at k h)
 
 -- ---- what a verdict depends on
 
@@ -166,49 +169,60 @@ module _ (w : View) (o : ℕ) where
   turn false false true h = refl
   turn false false false h = refl
 
-  held-is : (len ux uy : List Float) → record { len = len; ux = ux; uy = uy } ≡ edgesOf w o → (k : ℕ) → k < w .count → held len ux uy k ≡ edgeAt w o k
-  unfolding edgesOf
-  held-is len ux uy e k h =
-      whole (edgeAt w o k)
-      (ap (λ c. getD (c .len) k nan) e ∙ column-at maxPoints nan (w .count) (λ k. edgeAt w o k .len) k h)
-      (ap (λ c. getD (c .ux) k nan) e ∙ column-at maxPoints nan (w .count) (λ k. edgeAt w o k .ux) k h)
-      (ap (λ c. getD (c .uy) k nan) e ∙ column-at maxPoints nan (w .count) (λ k. edgeAt w o k .uy) k h)
-    where
-      whole : {a b c : Float} (d : Edge) → a ≡ d .len → b ≡ d .ux → c ≡ d .uy → record { len = a; ux = b; uy = c } ≡ d
-      whole d p q r = rw (p, q, r)
-
   ends-is : (m : ℕ) → endOfFailing w (edgeAt w o) o m ≡ some (λ k. (eqb k m || eqb (rankAt w k o) m) && fails w (edgeAt w o) k) (w .count)
   unfolding endOfFailing
   ends-is m = refl
 
-  pub ends-are : (len ux uy : List Float) → record { len = len; ux = ux; uy = uy } ≡ edgesOf w o → (m : ℕ) → some (λ k. failingEnds (w .count) (λ i. rankAt w i o) (fails w (held len ux uy)) k m) (w .count) ≡ endOfFailing w (edgeAt w o) o m
-  ends-are len ux uy e m =
-      some-ext (λ k. failingEnds (w .count) (λ i. rankAt w i o) (fails w (held len ux uy)) k m) (λ k. (eqb k m || eqb (rankAt w k o) m) && fails w (edgeAt w o) k) (w .count)
-      (λ k l. rw (same-fails w (held len ux uy) (edgeAt w o) (held-is len ux uy e) k l) (turn (present w k o) (fails w (edgeAt w o) k) (eqb k m || eqb (rankAt w k o) m) (two-ends k)))
+  ends-are : (E : ℕ → Edge) → ((k : ℕ) → k < w .count → E k ≡ edgeAt w o k) → (m : ℕ) → some (λ k. failingEnds w o (fails w E) k m) (w .count) ≡ endOfFailing w (edgeAt w o) o m
+  ends-are E same m =
+      some-ext (λ k. failingEnds w o (fails w E) k m) (λ k. (eqb k m || eqb (rankAt w k o) m) && fails w (edgeAt w o) k) (w .count)
+      (λ k l. rw (same-fails w E (edgeAt w o) same k l) (turn (present w k o) (fails w (edgeAt w o) k) (eqb k m || eqb (rankAt w k o) m) (two-ends k)))
       ∙ sym (ends-is m)
 
--- only the neighbours of the view count
-alike-fails : (n : ℕ) (near row col byIdx : List ℕ) (xs ys : List Float) (E : ℕ → Edge) (k : ℕ) → fails (nearView n near) E k ≡ fails (viewAt n near row col byIdx xs ys) E k
-alike-fails n near row col byIdx xs ys E k =
-    let w = viewAt n near row col byIdx xs ys in
-    same-verdict (nearView n near) w E E k k (record { own-edge = refl; there = λ j h. refl; edges = λ j h p. refl }) (sheet-is (nearView n near) E ∙ sym (sheet-is w E))
-
--- ---- the marks that a direction's columns give
-
-module _ (n : ℕ) (near row col byIdx : List ℕ) (xs ys : List Float) (o : ℕ) (e : EdgeColumns) (h : e ≡ edgesOf (viewAt n near row col byIdx xs ys) o) where
-  abbrev pub hits : ℕ → Bool
-  hits m = some (λ k. failingEnds n (λ i. rankAt (nearView n near) i o) (fails (nearView n near) (held (e .len) (e .ux) (e .uy))) k m) n
-
-  pub marks-are : (m : ℕ) → hits m ≡ endOfFailing (viewAt n near row col byIdx xs ys) (edgeAt (viewAt n near row col byIdx xs ys) o) o m
-  marks-are m =
-      some-ext (λ k. failingEnds n (λ i. rankAt (nearView n near) i o) (fails (nearView n near) (held (e .len) (e .ux) (e .uy))) k m)
-      (λ k. failingEnds n (λ i. rankAt (nearView n near) i o) (fails (viewAt n near row col byIdx xs ys) (held (e .len) (e .ux) (e .uy))) k m) n
-      (λ k l. rw (alike-fails n near row col byIdx xs ys (held (e .len) (e .ux) (e .uy)) k))
-      ∙ ends-are (viewAt n near row col byIdx xs ys) o (e .len) (e .ux) (e .uy) h m
-
-  pub marks-past : (m : ℕ) → n ≤ m → hits m ≡ false
-  marks-past m g = some-no (λ k. failingEnds n (λ i. rankAt (nearView n near) i o) (fails (nearView n near) (held (e .len) (e .ux) (e .uy))) k m) n (λ k l. go k l (rankAt (nearView n near) k o) (fails (nearView n near) (held (e .len) (e .ux) (e .uy)) k) (decLt (rankAt (nearView n near) k o) n))
+  -- nothing from the count on is marked
+  ends-past : (t : ℕ → Bool) (m : ℕ) → w .count ≤ m → some (λ k. failingEnds w o t k m) (w .count) ≡ false
+  ends-past t m g = some-no (λ k. failingEnds w o t k m) (w .count) (λ k l. go k l (decLt (rankAt w k o) (w .count)))
     where
-      go : (k : ℕ) → k < n → (r : ℕ) (t : Bool) → Dec (r < n) → ltb r n && (t && (eqb k m || eqb r m)) ≡ false
-      go k l r t (yes y) = rw (ne-eqb k m (λ q. omega (arith, l, q)), ne-eqb r m (λ q. omega (arith, y, q)), and-false t) (and-false (ltb r n))
-      go k l r t (no y) = rw (le-ltb r n (omega (arith, y)))
+      go : (k : ℕ) → k < w .count → Dec (rankAt w k o < w .count) → failingEnds w o t k m ≡ false
+      go k l (yes y) = rw (ne-eqb k m (λ q. omega (arith, l, q)), ne-eqb (rankAt w k o) m (λ q. omega (arith, y, q)), and-false (t k)) (and-false (present w k o))
+      go k l (no y) = rw (le-ltb (rankAt w k o) (w .count) (omega (arith, y)))
+
+-- the table's edges are those of the view
+table-is : (w : View) (way : ℕ) (edges : List Float) → w .count ≤ maxPoints → way < 2 → edges ≡ edgesOf w → (k : ℕ) → k < w .count → tableEdge edges way k ≡ edgeAt w (side way) k
+table-is w way edges few h e k l = whole (edgeAt w (side way) k) (at 0 (omega arith)) (at 1 (omega arith)) (at 2 (omega arith))
+  where
+    at : (part : ℕ) → part < 3 → getD edges (edgePlace way part k) nan ≡ partOf part (edgeAt w (side way) k)
+    at part p = rw e (edge-part w few way part k h p l)
+
+    whole : {a b c : Float} (d : Edge) → a ≡ d .len → b ≡ d .ux → c ≡ d .uy → record { len = a; ux = b; uy = c } ≡ d
+    whole d p q r = rw (p, q, r)
+
+-- ---- the marks that a way's edges give
+
+module _ (n : ℕ) (ranks : List ℕ) (way : ℕ) (edges : List Float) where
+  abbrev v : View
+  v = viewAt n ranks [] []
+
+  -- the marks, from the table
+  abbrev pub hits : ℕ → ℕ → Bool
+  hits k m = failingEnds v (side way) (fails v (tableEdge edges way)) k m
+
+  module _ (xs ys : List Float) (few : n ≤ maxPoints) (h : way < 2) (e : edges ≡ edgesOf (viewAt n ranks xs ys)) where
+    abbrev w : View
+    w = viewAt n ranks xs ys
+
+    -- only the neighbours of the view count
+    same : (k : ℕ) → fails v (tableEdge edges way) k ≡ fails w (tableEdge edges way) k
+    same k =
+        same-verdict v w (tableEdge edges way) (tableEdge edges way) k k (record { own-edge = refl; there = λ j h. refl; edges = λ j h p. refl })
+        (sheet-is v (tableEdge edges way) ∙ sym (sheet-is w (tableEdge edges way)))
+
+    pub marks-are : {a b : List ℕ} → Marked (λ (m : ℕ). some (λ (k : ℕ). hits k m) n) a b → Marked (λ (m : ℕ). ltb m n && edgeMark w (side way) m) a b
+    marks-are r = marked-as (λ (m : ℕ). some (λ (k : ℕ). hits k m) n) (λ (m : ℕ). ltb m n && edgeMark w (side way) m) (λ m l. go m (decLt m n)) r
+      where
+        go : (m : ℕ) → Dec (m < n) → some (λ (k : ℕ). hits k m) n ≡ ltb m n && edgeMark w (side way) m
+        go m (yes l) =
+            rw (lt-ltb m n l)
+            (some-ext (λ k. hits k m) (λ k. failingEnds w (side way) (fails w (tableEdge edges way)) k m) n (λ k g. rw (same k))
+            ∙ ends-are w (side way) (tableEdge edges way) (table-is w way edges few h e) m)
+        go m (no l) = rw (le-ltb m n (omega (arith, l))) (ends-past v (side way) (fails v (tableEdge edges way)) m (omega (arith, l)))

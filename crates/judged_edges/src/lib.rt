@@ -1,23 +1,25 @@
 // Edges that are too long, or off the axis of their neighbours.
-use edges::EdgeColumns;
+use edges::EDGES_SIZE;
 use float::constants::GLOBAL_OVERLONG_RATIO;
 use float::constants::OVERLONG_RATIO;
 use view::MAX_POINTS;
-use view::NEAR_SIZE;
+use view::OWN;
+use view::RANKS_SIZE;
 ghost use mathlib.Core.Path.{_≡_};
 ghost use mathlib.Core.Bool.{true, _&&_, _||_};
+ghost use mathlib.Core.List.{List, []};
 ghost use lib.Dec.{ltb};
-ghost use Prim.Native.Nat.{ℕ, _+_, _*_, _/_, _≤_, _<_};
-ghost use lib.ListN.{length, getD};
-ghost use lib.Ieee.{nan, lt};
-ghost use Rattle.folds.specs.Arith.{_⊗_, zeroF};
-ghost use Rattle.folds.specs.Below.{some, tally};
+ghost use Prim.Native.Nat.{ℕ, _+_, _/_, _≤_, _<_};
+ghost use lib.ListN.{getD};
+ghost use lib.Ieee.{Float, nan, lt};
+ghost use Rattle.folds.specs.Arith.{zeroF};
+ghost use Rattle.folds.specs.Below.{tally};
+ghost use Rattle.folds.specs.Column.{column};
 ghost use Rattle.folds.specs.Marked.{Marked};
-ghost use Rattle.float.specs.Constants.{overlongRatio};
-ghost use Rattle.view.specs.View.{maxPoints, rankAt};
-ghost use Rattle.marks.specs.Arrays.{nearView};
-ghost use Rattle.judged_edges.specs.Judged.{positive, inWindow, offAxis, fails};
-ghost use Rattle.judged_edges.specs.Inner.{held, windowTo, stepped, Limits, Asked, failingEnds};
+ghost use Rattle.view.specs.View.{maxPoints, viewAt};
+ghost use Rattle.edges.specs.Edges.{side, edgesOf, edgePlace};
+ghost use Rattle.judged_edges.specs.Judged.{offAxis, fails, edgeMark};
+ghost use Rattle.judged_edges.specs.Inner.{tableEdge, withEdge, withEdgeAt, windowTo, Limits, Asked, failingEnds};
 
 pub struct Window {
     pub count: usize,
@@ -38,62 +40,63 @@ pub struct Verdict {
     pub limit: Limit,
 }
 
-// The window v with the edge at offset j from rank k.
-fn step(
+// The window v with one edge more; under says whether 1.5 times its length is under the length of the edge that is judged.
+fn with_edge(v: Window, under: bool, ux: f32, uy: f32) -> Window
+    requires { ⌜ (v .count < maxPoints) × (v .under < maxPoints) ⌝ }
+    ensures { λ r. ⌜ r ≡ withEdge true under ux uy v ⌝ }
+{
+    Window {
+        count: v.count + 1,
+        under: marks::one_more(under, v.under),
+        sx: v.sx + ux,
+        sy: v.sy + uy,
+    }
+}
+
+// The window v with the edge that starts at offset j from rank k, if that is one of the window of rank k's edge, which has the length own.
+fn with_edge_at(
     v: Window,
-    near: &[u16; NEAR_SIZE],
-    len: &[f32; MAX_POINTS],
-    ux: &[f32; MAX_POINTS],
-    uy: &[f32; MAX_POINTS],
+    ranks: &[u16; RANKS_SIZE],
+    edges: &[f32; EDGES_SIZE],
     n: usize,
+    way: usize,
     k: usize,
     j: usize,
     own: f32,
 ) -> Window
-    requires { ⌜ (n ≤ maxPoints) × (k < n) × (j < 25) × (v .count ≤ j) × (v .under ≤ j) ⌝ }
-    ensures { λ r. ⌜ r ≡ stepped (inWindow (nearView n (now (near .entry))) (held (now (len .entry)) (now (ux .entry)) (now (uy .entry))) k j) (lt (overlongRatio ⊗ getD (now (len .entry)) (rankAt (nearView n (now (near .entry))) k j) nan) own) (getD (now (ux .entry)) (rankAt (nearView n (now (near .entry))) k j) nan) (getD (now (uy .entry)) (rankAt (nearView n (now (near .entry))) k j) nan) v ⌝ }
+    requires { ⌜ (n ≤ maxPoints) × (way < 2) × (k < n) × (j < 25) × (v .count ≤ j) × (v .under ≤ j) ⌝ }
+    ensures { λ r. ⌜ r ≡ withEdgeAt (viewAt n (now (ranks .entry)) [] []) (tableEdge (now (edges .entry)) way) k own j v ⌝ }
 {
-    if j == 12 {
+    if j == OWN {
         return v;
     }
-    let e = view::wide(near[25 * k + j]);
+    let e = view::rank_at(ranks, k, j);
     if n <= e {
         return v;
     }
-    let l = len[e];
-    if 0.0 < l {
-        let sx = v.sx + ux[e];
-        let sy = v.sy + uy[e];
-        if OVERLONG_RATIO * l < own {
-            return Window {
-                count: v.count + 1,
-                under: v.under + 1,
-                sx: sx,
-                sy: sy,
-            };
-        }
-        return Window {
-            count: v.count + 1,
-            under: v.under,
-            sx: sx,
-            sy: sy,
-        };
+    let len = edges::length(edges, way, e);
+    if 0.0 < len {
+        return with_edge(
+            v,
+            OVERLONG_RATIO * len < own,
+            edges::unit_x(edges, way, e),
+            edges::unit_y(edges, way, e),
+        );
     }
     v
 }
 
-// The window of rank k, whose edge has the length own.
+// The window of rank k's edge, which has the length own.
 fn window_at(
-    near: &[u16; NEAR_SIZE],
-    len: &[f32; MAX_POINTS],
-    ux: &[f32; MAX_POINTS],
-    uy: &[f32; MAX_POINTS],
+    ranks: &[u16; RANKS_SIZE],
+    edges: &[f32; EDGES_SIZE],
     n: usize,
+    way: usize,
     k: usize,
     own: f32,
 ) -> Window
-    requires { ⌜ (n ≤ maxPoints) × (k < n) ⌝ }
-    ensures { λ r. ⌜ r ≡ windowTo (nearView n (now (near .entry))) (held (now (len .entry)) (now (ux .entry)) (now (uy .entry))) k own 25 ⌝ }
+    requires { ⌜ (n ≤ maxPoints) × (way < 2) × (k < n) ⌝ }
+    ensures { λ r. ⌜ r ≡ windowTo (viewAt n (now (ranks .entry)) [] []) (tableEdge (now (edges .entry)) way) k own 25 ⌝ }
 {
     let mut v = Window {
         count: 0,
@@ -103,7 +106,7 @@ fn window_at(
     };
     let mut j = 0;
     while j < 25 {
-        let next = step(v, near, len, ux, uy, n, k, j, own);
+        let next = with_edge_at(v, ranks, edges, n, way, k, j, own);
         v = next;
         j += 1;
     }
@@ -120,31 +123,46 @@ fn off_axis(sx: f32, sy: f32, ux: f32, uy: f32) -> bool
     false
 }
 
-// How many edges of the sheet have a positive length.
-fn sheet_count(len: &[f32; MAX_POINTS], n: usize) -> usize
-    requires { ⌜ n ≤ maxPoints ⌝ }
-    ensures { λ r. ⌜ r ≡ tally (λ (k : ℕ). lt zeroF (getD (now (len .entry)) k nan)) n ⌝ }
+// How many of the way's edges have a positive length.
+fn sheet_count(edges: &[f32; EDGES_SIZE], n: usize, way: usize) -> usize
+    requires { ⌜ (n ≤ maxPoints) × (way < 2) ⌝ }
+    ensures { λ r. ⌜ r ≡ tally (λ (k : ℕ). lt zeroF (getD (now (edges .entry)) (edgePlace way 0 k) nan)) n ⌝ }
 {
     let mut c = 0;
     let mut k = 0;
     while k < n {
-        c = marks::one_more(0.0 < len[k], c);
+        c = marks::one_more(0.0 < edges::length(edges, way, k), c);
         k += 1;
     }
     c
 }
 
+// The lengths of the way's edges.
+fn lengths_of(edges: &[f32; EDGES_SIZE], n: usize, way: usize) -> [f32; MAX_POINTS]
+    requires { ⌜ (n ≤ maxPoints) × (way < 2) ⌝ }
+    ensures { λ r. ⌜ r ≡ column maxPoints nan n (λ (k : ℕ). getD (now (edges .entry)) (edgePlace way 0 k) nan) ⌝ }
+{
+    let none: f32 = 0.0 / 0.0;
+    let mut out = [none; MAX_POINTS];
+    let mut k = 0;
+    while k < n {
+        out[k] = edges::length(edges, way, k);
+        k += 1;
+    }
+    out
+}
+
 // The sheet's limit, taken where it is not known yet.
-fn sheet_limit(limit: Limit, len: &[f32; MAX_POINTS], n: usize) -> Limit
-    requires { ⌜ (n ≤ maxPoints) × Limits (now len) n limit ⌝ }
-    ensures { λ r. ⌜ (r .known ≡ true) × Limits (now (len .entry)) n r ⌝ }
+fn sheet_limit(limit: Limit, edges: &[f32; EDGES_SIZE], n: usize, way: usize) -> Limit
+    requires { ⌜ (n ≤ maxPoints) × (way < 2) × Limits (tableEdge (now edges) way) n limit ⌝ }
+    ensures { λ r. ⌜ (r .known ≡ true) × Limits (tableEdge (now (edges .entry)) way) n r ⌝ }
 {
     if limit.known {
         return limit;
     }
     Limit {
         known: true,
-        value: GLOBAL_OVERLONG_RATIO * median::middle(len, n),
+        value: GLOBAL_OVERLONG_RATIO * median::middle(&lengths_of(edges, n, way), n),
     }
 }
 
@@ -158,31 +176,34 @@ fn fails_in(v: Window, ux: f32, uy: f32) -> bool
     off_axis(v.sx, v.sy, ux, uy)
 }
 
-// Whether the edge that starts at rank k fails; total edges of the sheet have a positive length.
+// Whether the way's edge that starts at rank k fails; total of the way's edges have a positive length.
 fn fails_at(
-    near: &[u16; NEAR_SIZE],
-    len: &[f32; MAX_POINTS],
-    ux: &[f32; MAX_POINTS],
-    uy: &[f32; MAX_POINTS],
+    ranks: &[u16; RANKS_SIZE],
+    edges: &[f32; EDGES_SIZE],
     n: usize,
+    way: usize,
     k: usize,
     total: usize,
     limit: Limit,
 ) -> Verdict
-    requires { ⌜ Asked n (now len) k total limit ⌝ }
-    ensures { λ r. ⌜ (r .fails ≡ fails (nearView n (now (near .entry))) (held (now (len .entry)) (now (ux .entry)) (now (uy .entry))) k) × Limits (now (len .entry)) n (r .limit) ⌝ }
+    requires { ⌜ Asked n (now edges) way k total limit ⌝ }
+    ensures { λ r. ⌜ (r .fails ≡ fails (viewAt n (now (ranks .entry)) [] []) (tableEdge (now (edges .entry)) way) k) × Limits (tableEdge (now (edges .entry)) way) n (r .limit) ⌝ }
 {
-    let own = len[k];
+    let own = edges::length(edges, way, k);
     if 0.0 < own {
-        let v = window_at(near, len, ux, uy, n, k, own);
+        let v = window_at(ranks, edges, n, way, k, own);
         if 5 <= v.count {
             return Verdict {
-                fails: fails_in(v, ux[k], uy[k]),
+                fails: fails_in(
+                    v,
+                    edges::unit_x(edges, way, k),
+                    edges::unit_y(edges, way, k),
+                ),
                 limit: limit,
             };
         }
         if 8 <= total {
-            let sheet = sheet_limit(limit, len, n);
+            let sheet = sheet_limit(limit, edges, n, way);
             return Verdict {
                 fails: sheet.value < own,
                 limit: sheet,
@@ -195,27 +216,25 @@ fn fails_at(
     }
 }
 
-// Marks the ends of the edge that starts at rank k, if it fails.
+// Marks the ends of the way's edge that starts at rank k, if it fails.
 fn mark_edge(
-    near: &[u16; NEAR_SIZE],
-    len: &[f32; MAX_POINTS],
-    ux: &[f32; MAX_POINTS],
-    uy: &[f32; MAX_POINTS],
+    ranks: &[u16; RANKS_SIZE],
+    edges: &[f32; EDGES_SIZE],
     n: usize,
-    offset: usize,
+    way: usize,
     k: usize,
     total: usize,
     limit: Limit,
     mark: &mut [u8; MAX_POINTS],
 ) -> Limit
-    requires { ⌜ (offset < 25) × Asked n (now len) k total limit ⌝ }
-    ensures { λ r. ⌜ Marked (failingEnds n (λ (i : ℕ). rankAt (nearView n (now (near .entry))) i offset) (fails (nearView n (now (near .entry))) (held (now (len .entry)) (now (ux .entry)) (now (uy .entry)))) k) (now (mark .entry)) (now (mark .exit)) × Limits (now (len .entry)) n r ⌝ }
+    requires { ⌜ Asked n (now edges) way k total limit ⌝ }
+    ensures { λ r. ⌜ Marked (failingEnds (viewAt n (now (ranks .entry)) [] []) (side way) (fails (viewAt n (now (ranks .entry)) [] []) (tableEdge (now (edges .entry)) way)) k) (now (mark .entry)) (now (mark .exit)) × Limits (tableEdge (now (edges .entry)) way) n r ⌝ }
 {
-    let e = view::wide(near[25 * k + offset]);
+    let e = view::rank_at(ranks, k, edges::side_of(way));
     if n <= e {
         return limit;
     }
-    let verdict = fails_at(near, len, ux, uy, n, k, total, limit);
+    let verdict = fails_at(ranks, edges, n, way, k, total, limit);
     if verdict.fails {
         mark[k] = 1;
         mark[e] = 1;
@@ -224,45 +243,26 @@ fn mark_edge(
     verdict.limit
 }
 
-// Marks the ends of each edge that fails.
-fn mark_edges(
-    near: &[u16; NEAR_SIZE],
-    len: &[f32; MAX_POINTS],
-    ux: &[f32; MAX_POINTS],
-    uy: &[f32; MAX_POINTS],
+// Marks the ends of each of the way's edges that fails.
+pub fn mark_failing(
+    ranks: &[u16; RANKS_SIZE],
+    edges: &[f32; EDGES_SIZE],
     n: usize,
-    offset: usize,
+    way: usize,
     mark: &mut [u8; MAX_POINTS],
 )
-    requires { ⌜ (n ≤ maxPoints) × (offset < 25) ⌝ }
-    ensures { λ r. ⌜ Marked (λ (m : ℕ). some (λ (k : ℕ). failingEnds n (λ (i : ℕ). rankAt (nearView n (now (near .entry))) i offset) (fails (nearView n (now (near .entry))) (held (now (len .entry)) (now (ux .entry)) (now (uy .entry)))) k m) n) (now (mark .entry)) (now (mark .exit)) ⌝ }
+    requires { ⌜ (n ≤ maxPoints) × (way < 2) ⌝ }
+    ensures { λ r. ⌜ ((xs ys : List Float) → now (edges .entry) ≡ edgesOf (viewAt n (now (ranks .entry)) xs ys) → Marked (λ (m : ℕ). ltb m n && edgeMark (viewAt n (now (ranks .entry)) xs ys) (side way) m) (now (mark .entry)) (now (mark .exit))) ⌝ }
 {
-    let total = sheet_count(len, n);
+    let total = sheet_count(edges, n, way);
     let mut limit = Limit {
         known: false,
         value: 0.0,
     };
     let mut k = 0;
     while k < n {
-        let next = mark_edge(near, len, ux, uy, n, offset, k, total, limit, mark);
+        let next = mark_edge(ranks, edges, n, way, k, total, limit, mark);
         limit = next;
         k += 1;
     }
-}
-
-// Marks the ends of each edge of the direction that fails; e has the direction's edges.
-pub fn mark_failing(
-    near: &[u16; NEAR_SIZE],
-    e: EdgeColumns,
-    n: usize,
-    offset: usize,
-    mark: &mut [u8; MAX_POINTS],
-)
-    requires { ⌜ (n ≤ maxPoints) × (offset < 25) ⌝ }
-    ensures { λ r. ⌜ Marked (λ (m : ℕ). some (λ (k : ℕ). failingEnds n (λ (i : ℕ). rankAt (nearView n (now (near .entry))) i offset) (fails (nearView n (now (near .entry))) (held (e .len) (e .ux) (e .uy))) k m) n) (now (mark .entry)) (now (mark .exit)) ⌝ }
-{
-    let len = e.len;
-    let ux = e.ux;
-    let uy = e.uy;
-    mark_edges(near, &len, &ux, &uy, n, offset, mark);
 }

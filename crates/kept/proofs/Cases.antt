@@ -13,14 +13,15 @@ use Rattle.sheet_file.specs.Bytes.{Bytes}
 use Rattle.sheet_file.specs.declared.Settings.{Settings}
 use Rattle.points.specs.declared.Table.{Table}
 use Rattle.points.specs.Table.{Tabled}
-use Rattle.ruling.specs.Ruling.{Ruling, refused, accepted, rulingOf, is-given}
+use Rattle.ruling.specs.Ruling.{Ruling, refused, accepted, rulingOf}
+use Rattle.ruling.proofs.Given.{is-given}
 use Rattle.ruling.specs.Sheet.{Ruled}
-use Rattle.ruling.specs.Standing.{sound}
+use Rattle.ruling.proofs.Standing.{sound}
 use Rattle.ruling.specs.declared.Sheet.{Sheet}
 use Rattle.rows.specs.Rows.{rowByte}
 use Rattle.kept.specs.Marks.{countIn}
 use Rattle.kept.specs.Answer.{shownOf, answerOf, rowsAfter}
-use Rattle.kept.specs.Arrays.{sheetView, arrays-ready, rows-fit}
+use Rattle.kept.proofs.Arrays.{sheetView, arrays-ready, rows-fit}
 use Rattle.kept.specs.Ready.{Taken, Written, shownBy}
 use Rattle.kept.specs.declared.Answer.{Answer}
 use Rattle.kept.specs.declared.Answer.the-variants.{Refused, Accepted}

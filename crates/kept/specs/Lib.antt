@@ -1,12 +1,1 @@
-pub mod Marks
 pub mod Answer
-pub mod Arrays
-pub mod Ready
-pub mod Words
-pub mod Depends
-pub mod Shared
-pub mod Patch
-pub mod Unswitched
-pub mod RowMarks
-pub mod Moving
-pub mod Promises

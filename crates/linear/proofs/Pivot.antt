@@ -3,18 +3,18 @@ use mathlib.Core.Bool.{Bool, true, false, cond, _&&_, _||_, false≢true, true�
 use mathlib.Core.List.{List}
 use mathlib.Core.Logic.{⊎-elim}
 use mathlib.Core.Path.{_≡_, refl, sym, _∙_}
-use Prim.Native.Nat.{ℕ, _+_, _*_, _≤_, _<_}
+use Prim.Native.Nat.{ℕ, zero, suc, _+_, _-_, _*_, _≤_, _<_}
 use native.Mathlib.Nat.{eq-or-lt-of-le, le-refl, mul-right-comm, mul-le-mul-right, mul-lt-mul-of-pos-right, lt-of-mul-lt-mul-right}
 use native.Mathlib.Omega.{arith}
 use lib.Dec.{eqb, ltb}
 use lib.Ieee.{Float, nan, inf, fin, up, down, lt, eq, le}
 use lib.Ieee.Fits.{down-pos}
 use borrow.Author.Tests.{ltb-true, eqb-true, lt-ltb, le-ltb}
-use Rattle.folds.specs.Below.{not-true, and-left}
-use Rattle.folds.specs.Run.{run, run-keeps}
+use Rattle.folds.specs.Below.{not-true, and-left, first, firstIn, first-more, first-from}
+use Rattle.folds.specs.Run.{run, upTo, run-keeps}
 use Rattle.float.specs.Scalar.{absOf}
 use Rattle.linear.specs.Rows.{entry}
-use Rattle.linear.specs.Linear.{betterRow, pivotRow}
+use Rattle.linear.specs.Linear.{larger, betterRow, nextLarger, pivotRow}
 
 -- ---- the order of magnitudes; nothing is below a NaN, and a NaN is below nothing
 
@@ -58,6 +58,47 @@ not-below-itself (fin s m e) = le-ltb (m * up e * down e) (m * up e * down e) (l
 below-at-most : (x y : Float) → lt x y ≡ true → le x y ≡ true
 unfolding le
 below-at-most x y h = rw h
+
+-- ---- the search by larger entries
+
+module _ (m : List (List Float)) (i best k : ℕ) {largest size : Float} (h : k < 8) (p : largest ≡ absOf (entry m best i)) (q : size ≡ absOf (entry m k i)) where
+  pub next-found : lt largest size ≡ true → k ≡ first (larger m i best) k 8
+  next-found e = sym (first-more (larger m i best) k 8 h ∙ rw (← p, ← q, e))
+
+  pub next-passed : lt largest size ≡ false → first (larger m i best) (k + 1) 8 ≡ first (larger m i best) k 8
+  next-passed e = sym (first-more (larger m i best) k 8 h ∙ rw (← p, ← q, e))
+
+-- the pivot's row, where k is the next row with a larger entry than row best's, or 8
+abbrev pub searched : List (List Float) → ℕ → ℕ → ℕ → ℕ
+searched m i best k = cond (ltb k 8) (run (betterRow m i) (k + 1) 8 k) best
+
+upTo-next : (m : List (List Float)) (i best n from : ℕ) → from + n ≡ 8 → upTo (betterRow m i) n from best ≡ searched m i best (firstIn (larger m i best) n from)
+unfolding upTo firstIn betterRow run
+upTo-next m i best zero from e = sym (rw (le-ltb from 8 (omega arith)))
+upTo-next m i best (suc n) from e = go (larger m i best from) (upTo-next m i best n (from + 1) (omega arith))
+  where
+    go : (t : Bool) → upTo (betterRow m i) n (from + 1) best ≡ searched m i best (firstIn (larger m i best) n (from + 1))
+        → upTo (betterRow m i) n (from + 1) (cond t from best) ≡ searched m i best (cond t from (firstIn (larger m i best) n (from + 1)))
+    go true h = let l : n ≡ 8 - (from + 1) = omega arith in rw (lt-ltb from 8 (omega arith), l)
+    go false h = h
+
+pub search-next : (m : List (List Float)) (i best from : ℕ) → from ≤ 8 → run (betterRow m i) from 8 best ≡ searched m i best (nextLarger m i best from)
+unfolding run nextLarger first
+search-next m i best from h = upTo-next m i best (8 - from) from (omega arith)
+
+pub search-starts : (m : List (List Float)) (i : ℕ) → i < 8 → searched m i i (nextLarger m i i (i + 1)) ≡ pivotRow m i
+unfolding pivotRow
+search-starts m i h = sym (search-next m i i (i + 1) (omega arith))
+
+pub search-goes-on : (m : List (List Float)) (i best k : ℕ) → k < 8 → searched m i k (nextLarger m i k (k + 1)) ≡ searched m i best k
+search-goes-on m i best k h = sym (rw (lt-ltb k 8 h) (search-next m i k (k + 1) (omega arith)))
+
+pub search-ends : (m : List (List Float)) (i best k : ℕ) → 8 ≤ k → searched m i best k ≡ best
+search-ends m i best k h = rw (le-ltb k 8 h)
+
+pub next-after : (m : List (List Float)) (i best from : ℕ) → from ≤ nextLarger m i best from
+unfolding nextLarger
+next-after m i best from = first-from (larger m i best) from 8
 
 -- ---- the search
 

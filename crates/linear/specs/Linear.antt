@@ -9,7 +9,7 @@ use lib.Count.{trailingZeros}
 use lib.Ieee.{Float, nan, add, sum, sub, mul, div, neg, lt, eq, ofBits, odd, round, units, size, span, climb}
 use Rattle.folds.specs.Arith.{_⊕_, _⊗_, _⊘_, zeroF}
 use Rattle.folds.specs.Run.{run, upTo, down}
-use Rattle.folds.specs.Below.{some}
+use Rattle.folds.specs.Below.{some, first}
 use Rattle.float.specs.Constants.{one}
 use Rattle.float.specs.Scalar.{absOf}
 use Rattle.linear.specs.Rows.{at, rowAt, entry, withEntry}
@@ -17,9 +17,17 @@ use Rattle.linear.specs.declared.Solution.{Solution}
 
 -- ---- "pivot of largest magnitude, first of equals"
 
--- the row of the larger entry of column i, of the best row so far and row k
+-- whether the entry of column i in row k is larger than that in the best row so far
+abbrev pub larger : List (List Float) → ℕ → ℕ → ℕ → Bool
+larger m i best k = lt (absOf (entry m best i)) (absOf (entry m k i))
+
+-- the row of the larger of the two
 unfoldable pub betterRow : List (List Float) → ℕ → ℕ → ℕ → ℕ
-betterRow m i k best = cond (lt (absOf (entry m best i)) (absOf (entry m k i))) k best
+betterRow m i k best = cond (larger m i best k) k best
+
+-- the first row from `from` on with a larger entry, or 8
+unfoldable pub nextLarger : List (List Float) → ℕ → ℕ → ℕ → ℕ
+nextLarger m i best from = first (larger m i best) from 8
 
 -- the row of column i's pivot, of the rows from i on
 unfoldable pub pivotRow : List (List Float) → ℕ → ℕ
@@ -48,13 +56,16 @@ reduceRow p i inverse k m =
     let t = entry m k i ⊗ inverse in
     run (reduceEntry p k t) (i + 1) 8 (withEntry m k i t)
 
+unfoldable pub reduceRows : List Float → ℕ → Float → List (List Float) → List (List Float)
+reduceRows p i inverse m = run (reduceRow p i inverse) (i + 1) 8 m
+
 -- column i, where row k has its pivot: "an all-zero column is passed over"
 unfoldable pub eliminateBy : ℕ → ℕ → System → System
 eliminateBy k i s =
     let p = rowAt (s .rows) k in
     cond (eq (at p i) zeroF)
     s
-    (record { rows = run (reduceRow p i (one ⊘ at p i)) (i + 1) 8 (swapRows (s .rows) i k); right = swapEntries (s .right) i k })
+    (record { rows = reduceRows p i (one ⊘ at p i) (swapRows (s .rows) i k); right = swapEntries (s .right) i k })
 
 unfoldable pub eliminateColumn : ℕ → System → System
 eliminateColumn i s = eliminateBy (pivotRow (s .rows) i) i s
@@ -100,5 +111,5 @@ solutionOf m b = substituted (run eliminateColumn 0 8 (record { rows = m; right 
 
 -- This name on an `unfolding` line opens every definition that a solution computes by.
 unfoldable pub solution-computes : Bool
-unfolding add sum sub mul div neg lt eq ofBits odd round units size span climb trailingZeros absOf some run upTo down betterRow pivotRow reduceEntry reduceRow eliminateBy eliminateColumn lessEntry forwardColumn forwardBy backwardColumn backwardBy zeroDiagonal substituted solutionOf
+unfolding add sum sub mul div neg lt eq ofBits odd round units size span climb trailingZeros absOf some run upTo down betterRow pivotRow reduceEntry reduceRow reduceRows eliminateBy eliminateColumn lessEntry forwardColumn forwardBy backwardColumn backwardBy zeroDiagonal substituted solutionOf
 solution-computes = true

@@ -1,11 +1,90 @@
-// A system of eight linear equations, solved by elimination with row exchange.
+// A system of eight linear equations, solved by elimination with row exchange. The matrix is a local of `solve` and lent to the steps of the
+// elimination: a call that takes and returns it would copy it.
 ghost use mathlib.Core.Path.{_≡_};
-ghost use Rattle.linear.specs.Linear.{System, zeroDiagonal, forwardBy, backwardBy, substituted, solutionOf};
+ghost use Prim.Native.Nat.{_<_, _≤_};
+ghost use Rattle.folds.specs.Run.{run};
+ghost use Rattle.linear.specs.Linear.{System, nextLarger, pivotRow, reduceRow, reduceRows, eliminateColumn, lessEntry, forwardBy, backwardBy, zeroDiagonal, substituted, solutionOf};
 
 // The solution x, where there is one.
 pub struct Solution {
     pub found: bool,
     pub x: [f32; 8],
+}
+
+// The first row from `from` on whose entry of column i is larger than that of row `best`, or 8.
+fn next_larger(m: &[[f32; 8]; 8], i: usize, best: usize, from: usize) -> usize
+    requires { ⌜ (i < 8) × (best < 8) ⌝ }
+    ensures { λ r. ⌜ r ≡ nextLarger (now (m .entry)) i best from ⌝ }
+{
+    let largest = float::abs(m[best][i]);
+    let mut k = from;
+    while k < 8 {
+        if largest < float::abs(m[k][i]) {
+            return k;
+        }
+        k += 1;
+    }
+    k
+}
+
+// The row of column i's pivot. The search starts anew after each larger entry: so it is compiled to jumps, which the processor foresees, and the
+// pivot's row is read without waiting for the comparisons.
+fn pivot_row(m: &[[f32; 8]; 8], i: usize) -> usize
+    requires { ⌜ i < 8 ⌝ }
+    ensures { λ r. ⌜ (r < 8) × (r ≡ pivotRow (now (m .entry)) i) ⌝ }
+{
+    let mut best = i;
+    let mut k = next_larger(m, i, best, i + 1);
+    while k < 8 {
+        best = k;
+        k = next_larger(m, i, best, k + 1);
+    }
+    best
+}
+
+// Row k, where p is the pivot's row of column i: the multiplier takes the place of the zero.
+fn reduce_row(m: &mut [[f32; 8]; 8], p: [f32; 8], i: usize, inverse: f32, k: usize)
+    requires { ⌜ (i < 8) × (k < 8) ⌝ }
+    ensures { λ r. ⌜ now (m .exit) ≡ reduceRow p i inverse k (now (m .entry)) ⌝ }
+{
+    let t = m[k][i] * inverse;
+    m[k][i] = t;
+    let mut j = i + 1;
+    while j < 8 {
+        m[k][j] = m[k][j] + (-p[j]) * t;
+        j += 1;
+    }
+}
+
+// The rows below row i.
+fn reduce_rows(m: &mut [[f32; 8]; 8], p: [f32; 8], i: usize, inverse: f32)
+    requires { ⌜ i < 8 ⌝ }
+    ensures { λ r. ⌜ now (m .exit) ≡ reduceRows p i inverse (now (m .entry)) ⌝ }
+{
+    let mut k = i + 1;
+    while k < 8 {
+        reduce_row(m, p, i, inverse, k);
+        k += 1;
+    }
+}
+
+// Column i: the pivot is searched, its row exchanged, and the rows below reduced. An all-zero column is passed over.
+fn eliminate(m: &mut [[f32; 8]; 8], y: &mut [f32; 8], i: usize)
+    requires { ⌜ i < 8 ⌝ }
+    ensures { λ r. ⌜ eliminateColumn i (record { rows = now (m .entry); right = now (y .entry) }) ≡ record { rows = now (m .exit); right = now (y .exit) } ⌝ }
+{
+    let best = pivot_row(m, i);
+    let pivot = m[best][i];
+    if pivot == 0.0 {
+        return;
+    }
+    let p = m[best];
+    m[best] = m[i];
+    m[i] = p;
+    let t = y[best];
+    y[best] = y[i];
+    y[i] = t;
+    reduce_rows(m, p, i, 1.0 / pivot);
 }
 
 fn zero_diagonal(m: [[f32; 8]; 8]) -> bool
@@ -21,6 +100,18 @@ fn zero_diagonal(m: [[f32; 8]; 8]) -> bool
     false
 }
 
+// The entries of x from `from` on and below `end`, each less t times that of column i.
+fn less_column(m: &[[f32; 8]; 8], i: usize, t: f32, x: &mut [f32; 8], from: usize, end: usize)
+    requires { ⌜ (i < 8) × (end ≤ 8) ⌝ }
+    ensures { λ r. ⌜ now (x .exit) ≡ run (lessEntry (now (m .entry)) i t) from end (now (x .entry)) ⌝ }
+{
+    let mut k = from;
+    while k < end {
+        x[k] = x[k] + (-t) * m[k][i];
+        k += 1;
+    }
+}
+
 fn forward(m: [[f32; 8]; 8], b: [f32; 8]) -> [f32; 8]
     ensures { λ r. ⌜ r ≡ forwardBy m b ⌝ }
 {
@@ -28,11 +119,7 @@ fn forward(m: [[f32; 8]; 8], b: [f32; 8]) -> [f32; 8]
     let mut i = 0;
     while i < 8 {
         let t = x[i];
-        let mut k = i + 1;
-        while k < 8 {
-            x[k] = x[k] + (-t) * m[k][i];
-            k += 1;
-        }
+        less_column(&m, i, t, &mut x, i + 1, 8);
         i += 1;
     }
     x
@@ -47,11 +134,7 @@ fn backward(m: [[f32; 8]; 8], b: [f32; 8]) -> [f32; 8]
         n -= 1;
         let t = x[n] / m[n][n];
         x[n] = t;
-        let mut k = 0;
-        while k < n {
-            x[k] = x[k] + (-t) * m[k][n];
-            k += 1;
-        }
+        less_column(&m, n, t, &mut x, 0, n);
     }
     x
 }
@@ -70,53 +153,15 @@ fn substitute(m: [[f32; 8]; 8], b: [f32; 8]) -> Solution
     Solution { found: true, x: x }
 }
 
-// Column by column: the pivot is searched, its row exchanged, and the rows below reduced. All in place, since a call that takes and returns the
-// matrix copies it. The search starts anew after each larger entry, in a loop of its own: so it is compiled to jumps, which the processor
-// foresees, and the pivot's row is read without waiting for the comparisons.
 pub fn solve(a: [[f32; 8]; 8], b: [f32; 8]) -> Solution
     ensures { λ r. ⌜ r ≡ solutionOf a b ⌝ }
 {
     let mut m = a;
     let mut y = b;
-    let mut next = 0;
-    while next < 8 {
-        let i = next;
-        next += 1;
-        let mut best = i;
-        let mut rest = next;
-        while rest < 8 {
-            let largest = float::abs(m[best][i]);
-            while rest < 8 {
-                let k = rest;
-                rest += 1;
-                if largest < float::abs(m[k][i]) {
-                    best = k;
-                    break;
-                }
-            }
-        }
-        let pivot = m[best][i];
-        if pivot == 0.0 {
-            continue;
-        }
-        let p = m[best];
-        m[best] = m[i];
-        m[i] = p;
-        let t = y[best];
-        y[best] = y[i];
-        y[i] = t;
-        let inverse = 1.0 / pivot;
-        let mut k = next;
-        while k < 8 {
-            let t = m[k][i] * inverse;
-            m[k][i] = t;
-            let mut j = next;
-            while j < 8 {
-                m[k][j] = m[k][j] + (-p[j]) * t;
-                j += 1;
-            }
-            k += 1;
-        }
+    let mut i = 0;
+    while i < 8 {
+        eliminate(&mut m, &mut y, i);
+        i += 1;
     }
     substitute(m, y)
 }

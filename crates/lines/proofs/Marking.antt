@@ -17,7 +17,8 @@ use Rattle.folds.specs.Scattered.{counts, Scattered, oneMore, fold-tally}
 use Rattle.lines.specs.Fit.{fitOf}
 use Rattle.lines.specs.declared.Line.{Line}
 use Rattle.lines.specs.Flags.{LineRule, isFar, flaggedBy, isOn, isFlagged, flagCount}
-use Rattle.lines.specs.Lines.{markIf, isCounted}
+use Rattle.lines.specs.Lines.{markIf}
+use Rattle.marks.specs.Marks.{isSet}
 
 -- two tests that agree set the same marks
 over-ext : (f g : ℕ → Bool) (a l : List ℕ) → ((k : ℕ) → f k ≡ g k) → over (markIf f) a l ≡ over (markIf g) a l
@@ -114,56 +115,54 @@ module _ (rule : LineRule) (minimum : ℕ) (line : ℕ → ℕ) (n : ℕ) where
 
 -- ---- the counts of the indices
 
--- the ranks that count at place m, where f names the marks
-abbrev counted : List ℕ → (ℕ → Bool) → ℕ → ℕ → ℕ → ℕ → Bool
-counted byIdx f size n m = counts (λ (k : ℕ). getD byIdx k 0) (isCounted n byIdx (column size 0 n (λ (k : ℕ). bit (f k)))) m
+module _ (byIdx : ℕ → ℕ) (size n : ℕ) where
+  -- the ranks that count at place m, where f names the marks
+  abbrev counted : (ℕ → Bool) → ℕ → ℕ → Bool
+  counted f m = counts byIdx (isSet (column size 0 n (λ (k : ℕ). bit (f k)))) m
 
--- they are the ranks of its index that f names
-counted-tally : (byIdx : List ℕ) (f : ℕ → Bool) (size n m : ℕ) → m < n → tally (counted byIdx f size n m) n ≡ tally (counts (λ (k : ℕ). getD byIdx k 0) f m) n
-counted-tally byIdx f size n m h =
-    tally-ext (counted byIdx f size n m) (counts (λ (k : ℕ). getD byIdx k 0) f m) n
-    (λ k l. and-under (eqb (getD byIdx k 0) m) (λ e. rw (eqb-true (getD byIdx k 0) m e, lt-ltb m n h, column-at size 0 n (λ (k : ℕ). bit (f k)) k l) (bit-is (f k))))
+  -- they are the ranks of its index that f names
+  counted-tally : (f : ℕ → Bool) (m : ℕ) → tally (counted f m) n ≡ tally (counts byIdx f m) n
+  counted-tally f m =
+      tally-ext (counted f m) (counts byIdx f m) n
+      (λ k l. ap (λ (b : Bool). eqb (byIdx k) m && b) (rw (column-at size 0 n (λ (k : ℕ). bit (f k)) k l) (bit-is (f k))))
 
-never : (n : ℕ) → tally (λ (k : ℕ). false) n ≡ 0
-unfolding tally
-never zero = refl
-never (suc n) = never n
+  never : (i : ℕ) → tally (λ (k : ℕ). false) i ≡ 0
+  unfolding tally
+  never zero = refl
+  never (suc i) = never i
 
--- nothing is counted past the ranks
-counted-none : (byIdx marks : List ℕ) (n m : ℕ) → n ≤ m → tally (counts (λ (k : ℕ). getD byIdx k 0) (isCounted n byIdx marks) m) n ≡ 0
-counted-none byIdx marks n m h =
-    tally-ext (counts (λ (k : ℕ). getD byIdx k 0) (isCounted n byIdx marks) m) (λ (k : ℕ). false) n (λ k l. none k (ℕ-discrete (getD byIdx k 0) m)) ∙ never n
-  where
-    none : (k : ℕ) → Dec (getD byIdx k 0 ≡ m) → counts (λ (k : ℕ). getD byIdx k 0) (isCounted n byIdx marks) m k ≡ false
-    none k (yes e) = rw (e, le-ltb m n h) (and-false (eqb m m))
-    none k (no f) = rw (ne-eqb (getD byIdx k 0) m f)
+  module _ (few : n ≤ size) (ranks : (k : ℕ) → k < n → byIdx k < n) where
+    -- nothing is counted past the ranks
+    counted-none : (f : ℕ → Bool) (m : ℕ) → n ≤ m → tally (counted f m) n ≡ 0
+    counted-none f m h =
+        tally-ext (counted f m) (λ (k : ℕ). false) n (λ k l. rw (ne-eqb (byIdx k) m (λ e. omega (arith, ranks k l)))) ∙ never n
 
--- the counts of two arrays of marks, one after the other
-pub both-counts : (byIdx : List ℕ) (f g : ℕ → Bool) (size n : ℕ) {a b : List ℕ} → n ≤ size
-    → Scattered 0 (λ (k : ℕ). getD byIdx k 0) (isCounted n byIdx (column size 0 n (λ (k : ℕ). bit (f k)))) oneMore (replicate size 0) n a
-    → Scattered 0 (λ (k : ℕ). getD byIdx k 0) (isCounted n byIdx (column size 0 n (λ (k : ℕ). bit (g k)))) oneMore a n b
-    → b ≡ column size 0 n (λ (m : ℕ). tally (counts (λ (k : ℕ). getD byIdx k 0) f m) n + tally (counts (λ (k : ℕ). getD byIdx k 0) g m) n)
-both-counts byIdx f g size n {a} {b} h s t =
-    filled n h (record {
-      long = t .size ∙ s .size;
-      done = λ m l. summed m (omega arith) ∙ rw (counted-tally byIdx f size n m l, counted-tally byIdx g size n m l);
-      left = λ m l. past m l (decLt m size);
-    })
-  where
-    summed : (m : ℕ) → m < size → getD b m 0 ≡ tally (counted byIdx f size n m) n + tally (counted byIdx g size n m) n
-    summed m l =
-        let z : length (replicate {A = ℕ} size 0) ≡ size = length-replicate {A = ℕ} size 0 in
-        omega (arith, t .at m (omega (arith, s .size)), s .at m (omega arith), fold-tally (counted byIdx g size n m) (getD a m 0) n, fold-tally (counted byIdx f size n m) (getD (replicate {A = ℕ} size 0) m 0) n, replicate-at {A = ℕ} size 0 m)
+    -- the counts of two arrays of marks, one after the other
+    pub both-counts : (f g : ℕ → Bool) {a b : List ℕ}
+        → Scattered 0 byIdx (isSet (column size 0 n (λ (k : ℕ). bit (f k)))) oneMore (replicate size 0) n a
+        → Scattered 0 byIdx (isSet (column size 0 n (λ (k : ℕ). bit (g k)))) oneMore a n b
+        → b ≡ column size 0 n (λ (m : ℕ). tally (counts byIdx f m) n + tally (counts byIdx g m) n)
+    both-counts f g {a} {b} s t =
+        filled n few (record {
+          long = t .size ∙ s .size;
+          done = λ m l. summed m (omega arith) ∙ rw (counted-tally f m, counted-tally g m);
+          left = λ m l. past m l (decLt m size);
+        })
+      where
+        summed : (m : ℕ) → m < size → getD b m 0 ≡ tally (counted f m) n + tally (counted g m) n
+        summed m l =
+            let z : length (replicate {A = ℕ} size 0) ≡ size = length-replicate {A = ℕ} size 0 in
+            omega (arith, t .at m (omega (arith, s .size)), s .at m (omega arith), fold-tally (counted g m) (getD a m 0) n, fold-tally (counted f m) (getD (replicate {A = ℕ} size 0) m 0) n, replicate-at {A = ℕ} size 0 m)
 
-    past : (m : ℕ) → n ≤ m → Dec (m < size) → getD b m 0 ≡ getD (replicate {A = ℕ} size 0) m 0
-    past m l (yes k) = summed m k ∙ rw (counted-none byIdx (column size 0 n (λ (k : ℕ). bit (f k))) n m l, counted-none byIdx (column size 0 n (λ (k : ℕ). bit (g k))) n m l) (sym (replicate-at {A = ℕ} size 0 m))
-    past m l (no k) =
-        List·getD-eq-default b 0 (omega (arith, k, t .size, s .size, length-replicate {A = ℕ} size 0)) ∙ sym (replicate-at {A = ℕ} size 0 m)
+        past : (m : ℕ) → n ≤ m → Dec (m < size) → getD b m 0 ≡ getD (replicate {A = ℕ} size 0) m 0
+        past m l (yes k) = summed m k ∙ rw (counted-none f m l, counted-none g m l) (sym (replicate-at {A = ℕ} size 0 m))
+        past m l (no k) =
+            List·getD-eq-default b 0 (omega (arith, k, t .size, s .size, length-replicate {A = ℕ} size 0)) ∙ sym (replicate-at {A = ℕ} size 0 m)
 
--- the flags of the indices, from the marks of both directions
-pub line-counts : (byIdx : List ℕ) (rule : LineRule) (minimum : ℕ) (row col : ℕ → ℕ) (size n : ℕ) {rows columns a b : List ℕ} → n ≤ size
-    → rows ≡ column size 0 n (λ (k : ℕ). bit (isFlagged rule minimum row n k)) → columns ≡ column size 0 n (λ (k : ℕ). bit (isFlagged rule minimum col n k))
-    → Scattered 0 (λ (k : ℕ). getD byIdx k 0) (isCounted n byIdx rows) oneMore (replicate size 0) n a → Scattered 0 (λ (k : ℕ). getD byIdx k 0) (isCounted n byIdx columns) oneMore a n b
-    → b ≡ column size 0 n (λ (m : ℕ). flagCount (λ (k : ℕ). getD byIdx k 0) rule minimum row n m + flagCount (λ (k : ℕ). getD byIdx k 0) rule minimum col n m)
-unfolding flagCount
-line-counts byIdx rule minimum row col size n h d e s t = both-counts byIdx (isFlagged rule minimum row n) (isFlagged rule minimum col n) size n h (rw d at s) (rw e at t)
+    -- the flags of the indices, from the marks of both directions
+    pub line-counts : (rule : LineRule) (minimum : ℕ) (row col : ℕ → ℕ) {rows columns a b : List ℕ}
+        → rows ≡ column size 0 n (λ (k : ℕ). bit (isFlagged rule minimum row n k)) → columns ≡ column size 0 n (λ (k : ℕ). bit (isFlagged rule minimum col n k))
+        → Scattered 0 byIdx (isSet rows) oneMore (replicate size 0) n a → Scattered 0 byIdx (isSet columns) oneMore a n b
+        → b ≡ column size 0 n (λ (m : ℕ). flagCount byIdx rule minimum row n m + flagCount byIdx rule minimum col n m)
+    unfolding flagCount
+    line-counts rule minimum row col d e s t = both-counts (isFlagged rule minimum row n) (isFlagged rule minimum col n) (rw d at s) (rw e at t)

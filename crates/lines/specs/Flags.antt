@@ -1,5 +1,5 @@
 -- Which ranks their rows and their columns flag, and how many flags an index has. Assumes nothing.
-use mathlib.Core.Bool.{Bool, _&&_}
+use mathlib.Core.Bool.{Bool, true, false, cond, _&&_}
 use mathlib.Core.List.{List}
 use Prim.Native.Nat.{ℕ, _+_}
 use lib.Dec.{eqb, leb}
@@ -33,7 +33,11 @@ unfoldable pub flaggedBy : LineRule → ℕ → List ℕ → ℕ → Bool
 unfolding isFar fitOf
 flaggedBy rule minimum l k = leb minimum (length l) && isFar rule (fitOf (rule .x) (rule .y) l) k
 
--- Ranks with one number are on one line: `line` is the view's `row` or its `column`.
+-- the line of each rank: its row, or its column, by the line's first rank
+abbrev pub lineOf : View → Bool → ℕ → ℕ
+lineOf w rows = cond rows (w .row) (w .column)
+
+-- the line with this number has rank k
 abbrev pub isOn : (ℕ → ℕ) → ℕ → ℕ → Bool
 isOn line number k = eqb (line k) number
 
@@ -52,4 +56,4 @@ flagCount byIdx rule minimum line n m = tally (counts byIdx (isFlagged rule mini
 abbrev pub flagsAt : View → (ℕ → Float) → Float → ℕ → ℕ → ℕ
 flagsAt w scale tolerance minimum m =
     let rule : LineRule = record { x = w .x; y = w .y; scale = scale; tolerance = tolerance } in
-    flagCount (w .byIdx) rule minimum (w .row) (w .count) m + flagCount (w .byIdx) rule minimum (w .column) (w .count) m
+    flagCount (w .byIdx) rule minimum (lineOf w true) (w .count) m + flagCount (w .byIdx) rule minimum (lineOf w false) (w .count) m

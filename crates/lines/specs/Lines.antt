@@ -1,23 +1,12 @@
 -- What the functions ask for and keep on the way. Assumes nothing.
 use mathlib.Core.Path.{_≡_}
-use mathlib.Core.Bool.{Bool, true, cond, _&&_}
+use mathlib.Core.Bool.{Bool, true, cond}
 use mathlib.Core.List.{List}
 use Prim.Native.Nat.{ℕ, _+_, _≤_, _<_}
-use lib.Dec.{eqb, ltb}
 use lib.ListN.{length, getD, set}
 use Rattle.folds.specs.Below.{first}
 use Rattle.view.specs.View.{maxPoints}
 use Rattle.lines.specs.Flags.{isOn}
-
--- the numbers of the lines of n ranks, each a rank
-pub record OfLine (n : ℕ) (line : List ℕ) : Type 0 where
-  pub few : n ≤ maxPoints
-  pub ranks : (k : ℕ) → k < n → getD line k 0 < n
-
--- row and column numbers: a row is numbered by its first rank, and so is a column
-pub record Lined (n : ℕ) (row column : List ℕ) : Type 0 where
-  pub rows : OfLine n row
-  pub columns : OfLine n column
 
 -- the first c of l are ranks
 pub record Members (l : List ℕ) (c : ℕ) : Type 0 where
@@ -25,13 +14,10 @@ pub record Members (l : List ℕ) (c : ℕ) : Type 0 where
   pub size : length l ≡ maxPoints
   pub ranks : (i : ℕ) → i < c → getD l i 0 < maxPoints
 
-abbrev pub lineAt : List ℕ → ℕ → ℕ
-lineAt line k = getD line k 0
-
 -- The ranks from i on are chained: each has the next rank on its line, and each line its first rank from i on; n is none.
-pub record Chained (n : ℕ) (line : List ℕ) (i : ℕ) (head next : List ℕ) : Type 0 where
-  pub heads : (number : ℕ) → number < maxPoints → getD head number 0 ≡ first (isOn (lineAt line) number) i n
-  pub nexts : (k : ℕ) → i ≤ k → k < n → getD next k 0 ≡ first (isOn (lineAt line) (getD line k 0)) (k + 1) n
+pub record Chained (n : ℕ) (line : ℕ → ℕ) (i : ℕ) (head next : List ℕ) : Type 0 where
+  pub heads : (number : ℕ) → number < maxPoints → getD head number 0 ≡ first (isOn line number) i n
+  pub nexts : (k : ℕ) → i ≤ k → k < n → getD next k 0 ≡ first (isOn line (line k)) (k + 1) n
   pub head-size : length head ≡ maxPoints
   pub next-size : length next ≡ maxPoints
 
@@ -46,7 +32,3 @@ Linked p n next = (k : ℕ) → k < n → p k ≡ true → getD next k 0 ≡ fir
 -- sets the mark of rank k if f k
 abbrev pub markIf : (ℕ → Bool) → List ℕ → ℕ → List ℕ
 markIf f marks k = cond (f k) (set marks k 1) marks
-
--- rank k counts for its index: its index has a place, and it has a mark
-abbrev pub isCounted : ℕ → List ℕ → List ℕ → ℕ → Bool
-isCounted n byIdx marks k = ltb (getD byIdx k 0) n && eqb (getD marks k 0) 1

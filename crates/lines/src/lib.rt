@@ -3,17 +3,19 @@ ghost use mathlib.Core.Path.{_≡_};
 ghost use mathlib.Core.Bool.{Bool, true};
 ghost use Prim.Native.Nat.{ℕ, _+_, _≤_, _<_};
 ghost use lib.ListN.{length, getD, take, replicate};
-ghost use mathlib.Core.List.{List};
+ghost use mathlib.Core.List.{List, []};
 ghost use Rattle.folds.specs.Below.{first};
 ghost use Rattle.folds.specs.Lists.{Gathered, over};
 ghost use Rattle.folds.specs.Marked.{bit};
 ghost use Rattle.folds.specs.Column.{column as columnOf};
 ghost use Rattle.folds.specs.Scattered.{Scattered, oneMore};
-ghost use Rattle.view.specs.View.{maxPoints, viewAt};
+ghost use Rattle.view.specs.View.{maxPoints, viewAt, Ranked};
+ghost use Rattle.marks.specs.Marks.{isSet};
 ghost use Rattle.lines.specs.Fit.{valueAt, largerEigenvalue, directionOf, lineThrough, centreOf, lineAround, fitOf, distanceOf};
-ghost use Rattle.lines.specs.Flags.{ruleBy, isFar, flaggedBy, isFlagged, flagsAt};
-ghost use Rattle.lines.specs.Lines.{Members, Lined, OfLine, Chained, Onward, Linked, markIf, isCounted};
+ghost use Rattle.lines.specs.Flags.{ruleBy, isFar, flaggedBy, lineOf, isFlagged, flagsAt};
+ghost use Rattle.lines.specs.Lines.{Members, Chained, Onward, Linked, markIf};
 use view::MAX_POINTS;
+use view::RANKS_SIZE;
 use view::wide;
 
 // A line: its centre and its unit direction.
@@ -179,16 +181,32 @@ fn mark_flagged(
     }
 }
 
+// The line of rank k: the first rank of its row, or of its column.
+fn line_of(ranks: &[u16; RANKS_SIZE], rows: bool, k: usize) -> usize
+    requires { ⌜ k < maxPoints ⌝ }
+    ensures { λ r. ⌜ r ≡ lineOf (viewAt 0 (now (ranks .entry)) [] []) rows k ⌝ }
+{
+    if rows {
+        return view::row_of(ranks, k);
+    }
+    view::column_of(ranks, k)
+}
+
 // The next rank on the same line, for each rank, or n where there is none; and in `head` the first rank of each line.
-fn chain(line: &[u16; MAX_POINTS], n: usize, head: &mut [u16; MAX_POINTS]) -> [u16; MAX_POINTS]
-    requires { ⌜ OfLine n (now line) × (now head ≡ replicate maxPoints n) ⌝ }
-    ensures { λ r. ⌜ Chained n (now (line .entry)) 0 (now (head .exit)) r ⌝ }
+fn chain(
+    ranks: &[u16; RANKS_SIZE],
+    rows: bool,
+    n: usize,
+    head: &mut [u16; MAX_POINTS],
+) -> [u16; MAX_POINTS]
+    requires { ⌜ Ranked n (now ranks) × (now head ≡ replicate maxPoints n) ⌝ }
+    ensures { λ r. ⌜ Chained n (lineOf (viewAt n (now (ranks .entry)) [] []) rows) 0 (now (head .exit)) r ⌝ }
 {
     let mut next = [0u16; MAX_POINTS];
     let mut i = n;
     while 0 < i {
         i -= 1;
-        let number = wide(line[i]);
+        let number = line_of(ranks, rows, i);
         next[i] = head[number];
         head[number] = i as u16;
     }
@@ -210,9 +228,10 @@ fn members(next: &[u16; MAX_POINTS], n: usize, from: usize, out: &mut [u16; MAX_
     c
 }
 
-// 1 for each rank that its line flags, else 0.
+// 1 for each rank that its row, or its column, flags, else 0.
 fn flagged(
-    line: &[u16; MAX_POINTS],
+    ranks: &[u16; RANKS_SIZE],
+    rows: bool,
     x: &[f32; MAX_POINTS],
     y: &[f32; MAX_POINTS],
     scale: &[f32; MAX_POINTS],
@@ -220,11 +239,11 @@ fn flagged(
     tolerance: f32,
     minimum: u16,
 ) -> [u8; MAX_POINTS]
-    requires { ⌜ OfLine n (now line) ⌝ }
-    ensures { λ r. ⌜ r ≡ columnOf maxPoints 0 n (λ (k : ℕ). bit (isFlagged (ruleBy (now (x .entry)) (now (y .entry)) (now (scale .entry)) tolerance) minimum (λ (j : ℕ). getD (now (line .entry)) j 0) n k)) ⌝ }
+    requires { ⌜ Ranked n (now ranks) ⌝ }
+    ensures { λ r. ⌜ r ≡ columnOf maxPoints 0 n (λ (k : ℕ). bit (isFlagged (ruleBy (now (x .entry)) (now (y .entry)) (now (scale .entry)) tolerance) minimum (lineOf (viewAt n (now (ranks .entry)) [] []) rows) n k)) ⌝ }
 {
     let mut head = [n as u16; MAX_POINTS];
-    let next = chain(line, n, &mut head);
+    let next = chain(ranks, rows, n, &mut head);
     let mut l = [0u16; MAX_POINTS];
     let mut out = [0u8; MAX_POINTS];
     let mut number: usize = 0;
@@ -239,32 +258,28 @@ fn flagged(
 
 // Adds to the count of each index its ranks with a mark.
 fn count(
-    marks: &[u8; MAX_POINTS],
-    by_idx: &[u16; MAX_POINTS],
+    mark: &[u8; MAX_POINTS],
+    ranks: &[u16; RANKS_SIZE],
     n: usize,
     flags: &mut [u16; MAX_POINTS],
 )
-    requires { ⌜ (n ≤ maxPoints) × (length (now flags) ≡ maxPoints) × ((m : ℕ) → m < maxPoints → getD (now flags) m 0 ≤ maxPoints) ⌝ }
-    ensures { λ r. ⌜ Scattered 0 (λ (k : ℕ). getD (now («by_idx» .entry)) k 0) (isCounted n (now («by_idx» .entry)) (now (marks .entry))) oneMore (now (flags .entry)) n (now (flags .exit)) ⌝ }
+    requires { ⌜ Ranked n (now ranks) × (length (now flags) ≡ maxPoints) × ((m : ℕ) → m < maxPoints → getD (now flags) m 0 ≤ maxPoints) ⌝ }
+    ensures { λ r. ⌜ Scattered 0 (viewAt n (now (ranks .entry)) [] [] .byIdx) (isSet (now (mark .entry))) oneMore (now (flags .entry)) n (now (flags .exit)) ⌝ }
 {
     let mut i: usize = 0;
     while i < n {
         let k = i;
         i += 1;
-        let m = wide(by_idx[k]);
-        if m < n {
-            if marks[k] == 1 {
-                flags[m] = flags[m] + 1;
-            }
+        if mark[k] == 1 {
+            let m = view::index_of(ranks, k);
+            flags[m] = flags[m] + 1;
         }
     }
 }
 
 // How many flags each index has from the rows and columns of its cells, at the last of its ranks.
 pub fn line_flags(
-    row: &[u16; MAX_POINTS],
-    column: &[u16; MAX_POINTS],
-    by_idx: &[u16; MAX_POINTS],
+    ranks: &[u16; RANKS_SIZE],
     x: &[f32; MAX_POINTS],
     y: &[f32; MAX_POINTS],
     scale: &[f32; MAX_POINTS],
@@ -272,13 +287,13 @@ pub fn line_flags(
     tolerance: f32,
     minimum: u16,
 ) -> [u16; MAX_POINTS]
-    requires { ⌜ Lined n (now row) (now column) ⌝ }
-    ensures { λ r. ⌜ ((near : List ℕ) → r ≡ columnOf maxPoints 0 n (flagsAt (viewAt n near (now (row .entry)) (now (column .entry)) (now («by_idx» .entry)) (now (x .entry)) (now (y .entry))) (valueAt (now (scale .entry))) tolerance minimum)) ⌝ }
+    requires { ⌜ Ranked n (now ranks) ⌝ }
+    ensures { λ r. ⌜ r ≡ columnOf maxPoints 0 n (flagsAt (viewAt n (now (ranks .entry)) (now (x .entry)) (now (y .entry))) (valueAt (now (scale .entry))) tolerance minimum) ⌝ }
 {
-    let rows = flagged(row, x, y, scale, n, tolerance, minimum);
-    let columns = flagged(column, x, y, scale, n, tolerance, minimum);
+    let rows = flagged(ranks, true, x, y, scale, n, tolerance, minimum);
+    let columns = flagged(ranks, false, x, y, scale, n, tolerance, minimum);
     let mut flags = [0u16; MAX_POINTS];
-    count(&rows, by_idx, n, &mut flags);
-    count(&columns, by_idx, n, &mut flags);
+    count(&rows, ranks, n, &mut flags);
+    count(&columns, ranks, n, &mut flags);
     flags
 }

@@ -1,38 +1,40 @@
 -- Document 01's listing, and a refusal. Assumes nothing.
 use mathlib.Core.Path.{_≡_, refl}
-use mathlib.Core.List.{List, [], _∷_, _++_}
-use Prim.Native.Nat.{ℕ, _+_, _*_}
-use lib.ListN.{replicate}
+use mathlib.Core.List.{List, [], _∷_}
+use mathlib.Core.Option.{some}
+use Prim.Native.Nat.{ℕ}
+use lib.IntN.{ℤ, pos, negsuc}
+use lib.Ieee.{binary32, ofBits}
+use lib.ListN.{getD, replicate}
 use Rattle.folds.specs.Below.{fold, tally, first, firstIn}
 use Rattle.folds.specs.Lists.{listOf, upFrom}
-use Rattle.text.specs.Text.{bytes, each, digit, digits, decimal, whole, hex}
-use Rattle.listing.specs.Listing.{cellText, marksText, residualText, rowText, lineOf, headText, countOf, countsOf, tallyText, listingOf, refusalOf}
-
--- the key of the cell (u, v)
-key : ℕ → ℕ → ℕ
-key u v = (u + 8003) * 16384 + (v + 8003)
-
--- a row with these marks, no reason and no floats
-row : ℕ → List ℕ
-row marks = marks ∷ replicate 27 0
+use Rattle.cells.specs.Cell.{Cell}
+use Rattle.cells.proofs.Edges.{cellAt}
+use Rattle.judged.specs.Shown.{shownAt}
+use Rattle.judged.specs.declared.Judged.{Judged}
+use Rattle.marks.specs.Byte.{firstMark}
+use Rattle.marks.specs.Tally.{countUnder, countsOf}
+use Rattle.text.specs.Text.{bytes, each, digits, decimal, whole, hex}
+use Rattle.listing.specs.Listing.{cellText, marksText, residualText, shownText, lineText, headText, tallyText, listingOf, refusalOf}
 
 -- "Here: .. cell (5,5) index 14 ..; (0,0) 10 ..; (1,0) 11 ..; (0,1) 12 ..; (1,1) 13": in cell order
-keys : List ℕ
-keys = key 0 0 ∷ key 0 1 ∷ key 1 0 ∷ key 1 1 ∷ key 5 5 ∷ []
+cells : ℕ → Cell
+cells k = getD (cellAt (pos 0) (pos 0) ∷ cellAt (pos 0) (pos 1) ∷ cellAt (pos 1) (pos 0) ∷ cellAt (pos 1) (pos 1) ∷ []) k (cellAt (pos 5) (pos 5))
 
 indices : List ℕ
 indices = 10 ∷ 12 ∷ 11 ∷ 13 ∷ 14 ∷ []
 
-rows : List ℕ
-rows = row 0 ++ row 0 ++ row 0 ++ row 0 ++ row 8
+-- the last has the component mark; no residual and no figures
+judged : Judged
+judged = record { marks = 0 ∷ 0 ∷ 0 ∷ 0 ∷ 8 ∷ []; components = 2; has = []; value = []; figures = []; boundary = [] }
 
-example : listingOf 5 2 keys indices rows ≡ bytes "points 5 components 2\n0 0 10 ---- - -\n0 1 12 ---- - -\n1 0 11 ---- - -\n1 1 13 ---- - -\n5 5 14 ---C - -\nkept 4 validate 0 orientation 0 wrong 0 component 1\n"
-unfolding listingOf headText lineOf cellText rowText marksText residualText tallyText countOf countsOf listOf upFrom decimal digits whole hex each fold tally first firstIn key row keys indices rows
+example : listingOf 5 cells indices judged ≡ bytes "points 5 components 2\n0 0 10 ---- - -\n0 1 12 ---- - -\n1 0 11 ---- - -\n1 1 13 ---- - -\n5 5 14 ---C - -\nkept 4 validate 0 orientation 0 wrong 0 component 1\n"
+unfolding listingOf headText lineText cellText shownText marksText residualText shownAt tallyText countUnder countsOf firstMark listOf upFrom decimal digits whole hex each fold tally first firstIn cells indices judged
 example = refl
 
 -- a line with every column in use
-full : lineOf (3 * 16384 + 8015) 4294967295 (15 ∷ 2 ∷ 1 ∷ 0 ∷ 0 ∷ 0 ∷ 0 ∷ 0 ∷ 239 ∷ 205 ∷ 171 ∷ 64 ∷ []) 0 ≡ bytes "-8000 12 4294967295 VOWC 2 40ABCDEF\n"
-unfolding lineOf cellText rowText marksText residualText decimal digits whole hex each fold
+full : lineText (cellAt (negsuc 7999) (pos 12)) 4294967295 15 2 (some (ofBits binary32 0x40ab_cdef)) ≡ bytes "-8000 12 4294967295 VOWC 2 40ABCDEF\n"
+unfolding lineText cellText shownText marksText residualText decimal digits whole hex each fold ofBits
 full = refl
 
 refused : refusalOf 7 ≡ bytes "refused 7\n"

@@ -11,6 +11,7 @@ use lib.ListN.{getD}
 use lib.Ieee.{Float}
 use borrow.Author.Tests.{ltb-true, lt-ltb, le-ltb, not-true}
 use Rattle.folds.specs.Below.{first, first-before, first-holds, and-left, and-right, first-from}
+use Rattle.cells.specs.Cell.{Cell}
 use Rattle.view.specs.View.{View, viewAt}
 use Rattle.local_h.specs.declared.Base.{Base}
 use Rattle.local_h.specs.declared.Residual.the-variants.{NoFit}
@@ -102,13 +103,13 @@ module _ (w : View) (k : ℕ) where
   other-rank p e = ltb-true (memberAt w k p) (w .count) (and-left (ltb (memberAt w k p) (w .count)) _ e)
 
 -- the residual, from a base
-module _ (n : ℕ) (near row column byIdx : List ℕ) (xs ys : List Float) (key : ℕ → ℕ) (k : ℕ) (b : Base) (e : b ≡ baseOf (viewAt n near row column byIdx xs ys) k) where
+module _ (n : ℕ) (ranks : List ℕ) (xs ys : List Float) (cell : ℕ → Cell) (k : ℕ) (b : Base) (e : b ≡ baseOf (viewAt n ranks xs ys) k) where
   pub fitted : {i j l m : ℕ} → b .d < 24
-      → i ≡ getD near (25 * k + offsetAt (b .a)) 0 → j ≡ getD near (25 * k + offsetAt (b .b)) 0 → l ≡ getD near (25 * k + offsetAt (b .c)) 0 → m ≡ getD near (25 * k + offsetAt (b .d)) 0
-      → residualOf (viewAt 0 [] [] [] [] xs ys) key k i j l m ≡ residualAt (viewAt n near row column byIdx xs ys) key k
+      → i ≡ getD ranks (25 * k + offsetAt (b .a)) 0 → j ≡ getD ranks (25 * k + offsetAt (b .b)) 0 → l ≡ getD ranks (25 * k + offsetAt (b .c)) 0 → m ≡ getD ranks (25 * k + offsetAt (b .d)) 0
+      → residualOf (viewAt 0 [] xs ys) cell k i j l m ≡ residualAt (viewAt n ranks xs ys) cell k
   unfolding residualAt residualOf
   fitted h p q r s = rw (← e, lt-ltb (b .d) 24 h, ← p, ← q, ← r, ← s)
 
-  pub unfitted : 24 ≤ b .d → NoFit ≡ residualAt (viewAt n near row column byIdx xs ys) key k
+  pub unfitted : 24 ≤ b .d → NoFit ≡ residualAt (viewAt n ranks xs ys) cell k
   unfolding residualAt
   unfitted h = rw (← e, le-ltb (b .d) 24 h)

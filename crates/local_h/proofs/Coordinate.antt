@@ -4,9 +4,10 @@ use mathlib.Core.Bool.{Bool, true, false, cond}
 use Prim.Native.Nat.{ℕ, zero, suc, _+_, _-_, _*_, _/_, _%_, _^_, _≤_, _<_, compare}
 use native.Mathlib.Omega.{arith}
 use lib.Dec.{T, leb, ltb}
-use lib.IntN.{pos, negsuc}
-use lib.Ieee.{Format, inf, binary32, prec, emax, low, neg, odd, units, round, nearest, size, ofInt, inFloat, minus}
-use borrow.Author.Tests.{le-leb, lt-leb}
+use lib.IntN.{pos, negsuc, _-ℤ_}
+use lib.Ieee.{Format, inf, binary32, prec, emax, low, neg, odd, units, round, nearest, size, ofInt, inFloat}
+use borrow.Author.Tests.{le-leb, lt-ltb, le-ltb}
+use Rattle.cells.specs.Points.{bias}
 use Rattle.local_h.specs.Residual.{coordinate}
 
 neg-odd : (d q k l : ℕ) → neg (odd d false q k l) ≡ odd d true q k l
@@ -29,14 +30,14 @@ neg-round f a b =
     let k = size (n / b) - prec f in
     neg-units f (nearest (n / (b * 2 ^ k)) (compare (n % (b * 2 ^ k) * 2) (b * 2 ^ k))) k
 
-pub below : (b : ℕ) → b < 8003 → neg (ofInt binary32 (pos (8003 - b))) ≡ coordinate b
+pub below : (b : ℕ) → b < bias → neg (ofInt binary32 (pos (bias - b))) ≡ coordinate (pos b -ℤ pos bias)
 unfolding ofInt
 below b h =
     let e : 8003 - b ≡ suc (8003 - suc b) = omega arith in
-    rw (lt-leb 8003 b h, e) (neg-round binary32 (suc (8003 - suc b)) 1)
+    rw (lt-ltb b 8003 h, e) (neg-round binary32 (suc (8003 - suc b)) 1)
 
-pub above : (b : ℕ) → 8003 ≤ b → ofInt binary32 (pos (b - 8003)) ≡ coordinate b
-above b h = rw (le-leb 8003 b h)
+pub above : (b : ℕ) → bias ≤ b → ofInt binary32 (pos (b - bias)) ≡ coordinate (pos b -ℤ pos bias)
+above b h = rw (le-ltb b 8003 h)
 
 -- whole numbers up to 2 ^ 24 are f32
 pub exact : (n : ℕ) → n ≤ 2 ^ 24 → T (inFloat binary32 (pos n))

@@ -1,34 +1,44 @@
--- From the marks of ranks to the columns of their indices. Assumes nothing.
+-- From the residuals of ranks to those of their indices. Assumes nothing.
 use mathlib.Core.Bool.{Bool, true, false, cond, _&&_}
 use mathlib.Core.List.{List}
 use mathlib.Core.Path.{_≡_, refl, sym, ap, _∙_}
-use Prim.Native.Nat.{ℕ, zero, suc, _<_}
+use Prim.Native.Nat.{ℕ, zero, suc, _≤_, _<_}
 use native.Mathlib.Omega.{arith}
 use lib.Dec.{eqb, ltb}
 use lib.ListN.{getD, replicate, length-replicate, getD-replicate}
 use lib.Ieee.{Float, nan}
 use borrow.Author.Tests.{lt-ltb, le-ltb, ltb-true}
 use Rattle.folds.specs.Arith.{zeroF}
-use Rattle.folds.specs.Below.{fold, turn, some, last, last-ext, last-holds, last-miss, some-fails, and-left, and-swap}
+use Rattle.folds.specs.Below.{fold, turn, some, last, last-ext, last-holds, last-miss, some-ext, some-fails, and-left, and-swap}
 use Rattle.folds.specs.Column.{column, column-at, column-ext}
-use Rattle.folds.specs.Marked.{bit, bit-is}
+use Rattle.folds.specs.Marked.{bit}
 use Rattle.folds.specs.Scattered.{Scattered, counts}
 use Rattle.view.specs.View.{View, maxPoints, alike, indexHas}
+use Rattle.cells.specs.Cell.{Cell}
+use Rattle.marks.specs.Marks.{isSet, indexMarks}
+use Rattle.marks.proofs.Guards.{set-is, index-marks}
 use Rattle.local_h.specs.declared.Residual.the-variants.{NoFit}
 use Rattle.local_h.specs.declared.Residuals.{Residuals}
 use Rattle.local_h.specs.Residual.{residualAt}
-use Rattle.local_h.specs.ByIndex.{hasValue, valueOf, overAt, highAt, cellColumns, lastFit, indexResidual, indexColumns, lastOf, valueAt}
+use Rattle.local_h.specs.ByIndex.{hasValue, valueOf, overAt, highAt, cellColumns, lastFit, indexResidual, indexColumns, lastValue}
 
--- of ranks stored over each other the last stays
-pub fold-rank : (p : ℕ → Bool) (d n : ℕ) → fold (turn p (λ k x. k)) d n ≡ last p d n
+-- of values stored over each other the last stays
+fold-value : (p : ℕ → Bool) (f : ℕ → Float) (d : Float) (e n : ℕ) → n ≤ e → fold (turn p (λ k x. f k)) d n ≡ cond (ltb (last p e n) e) (f (last p e n)) d
 unfolding fold last
-fold-rank p d zero = refl
-fold-rank p d (suc n) = ap (cond (p n) n) (fold-rank p d n)
+fold-value p f d e zero h = rw (le-ltb e e (omega arith))
+fold-value p f d e (suc n) h = go (p n) (fold-value p f d e n (omega arith))
+  where
+    go : (b : Bool) → fold (turn p (λ k x. f k)) d n ≡ cond (ltb (last p e n) e) (f (last p e n)) d → cond b (f n) (fold (turn p (λ k x. f k)) d n) ≡ cond (ltb (cond b n (last p e n)) e) (f (cond b n (last p e n))) d
+    go true r = rw (lt-ltb n e (omega arith))
+    go false r = r
 
--- what stands at the place m of an index
-pub placed : {key : ℕ → ℕ} {q : ℕ → Bool} {n : ℕ} {r : List ℕ} → Scattered 0 key q (λ k x. k) (replicate maxPoints n) n r → (m : ℕ) → m < maxPoints → getD r m 0 ≡ last (counts key q m) n n
-placed {key} {q} {n} {r} f m h =
-    f .at m (omega (arith, length-replicate {A = ℕ} maxPoints n)) ∙ rw (getD-replicate {A = ℕ} maxPoints m n 0 h) (fold-rank (counts key q m) n n)
+-- what is read for rank k at the place of its index
+pub placed : (w : View) (t : ℕ → Bool) (value : ℕ → Float) {r : List Float} → Scattered nan (w .byIdx) t (λ k x. value k) (replicate maxPoints zeroF) (w .count) r
+    → (k : ℕ) → w .byIdx k < maxPoints → getD r (w .byIdx k) nan ≡ lastValue w t value k
+placed w t value f k h =
+    f .at (w .byIdx k) (omega (arith, length-replicate {A = Float} maxPoints zeroF))
+    ∙ rw (getD-replicate {A = Float} maxPoints (w .byIdx k) zeroF nan h) (fold-value (counts (w .byIdx) t (w .byIdx k)) value zeroF (w .count) (w .count) (omega arith))
+    ∙ ap (λ (j : ℕ). cond (ltb j (w .count)) (value j) zeroF) (last-ext _ _ (w .count) (w .count) (λ j l. and-swap (alike w j k) (t j)))
 
 -- there is a last just where there is some
 last-some : (p : ℕ → Bool) (n : ℕ) → ltb (last p n n) n ≡ some p n
@@ -38,69 +48,51 @@ last-some p n = go (some p n) refl
     go true e = lt-ltb (last p n n) n (last-holds p n n e .0)
     go false e = rw (last-miss p n n (some-fails p n e)) (le-ltb n n (omega arith))
 
-module _ (w : View) (byIdx : List ℕ) (same : (k : ℕ) → w .byIdx k ≡ getD byIdx k 0) where
-  -- the last rank with rank k's index and a mark, where the marks are a column
-  last-of : (t : ℕ → Bool) (k : ℕ) → lastOf (column maxPoints 0 (w .count) (λ (j : ℕ). bit (t j))) byIdx (w .count) (getD byIdx k 0) ≡ last (λ (j : ℕ). t j && alike w j k) (w .count) (w .count)
-  last-of t k =
-      last-ext _ (λ (j : ℕ). t j && alike w j k) (w .count) (w .count)
-      (λ j l. rw (column-at maxPoints 0 (w .count) (λ (j : ℕ). bit (t j)) j l, bit-is (t j), same j, same k) (and-swap (eqb (getD byIdx j 0) (getD byIdx k 0)) (t j)))
+module _ (w : View) (cell : ℕ → Cell) where
+  abbrev has : ℕ → Bool
+  has j = hasValue (residualAt w cell j)
 
-  -- that rank for each rank
-  abbrev pub ranksOf : (ℕ → Bool) → List ℕ
-  ranksOf t = column maxPoints 0 (w .count) (λ (k : ℕ). lastOf (column maxPoints 0 (w .count) (λ (j : ℕ). bit (t j))) byIdx (w .count) (getD byIdx k 0))
+  -- the last that has a residual has one
+  last-has : (k : ℕ) → hasValue (indexResidual w cell k) ≡ indexHas w has k
+  unfolding indexResidual lastFit
+  last-has k = sym (go (ltb j (w .count)) refl) ∙ last-some p (w .count)
+    where
+      p : ℕ → Bool
+      p i = has i && alike w i k
 
-  rank-at : (t : ℕ → Bool) (k : ℕ) → k < w .count → getD (ranksOf t) k 0 ≡ last (λ (j : ℕ). t j && alike w j k) (w .count) (w .count)
-  rank-at t k l = column-at maxPoints 0 (w .count) _ k l ∙ last-of t k
+      j : ℕ
+      j = last p (w .count) (w .count)
 
-  -- whether some rank with rank k's index has a mark
-  pub marked-by : (t : ℕ → Bool) → column maxPoints 0 (w .count) (λ (k : ℕ). bit (ltb (getD (ranksOf t) k 0) (w .count))) ≡ column maxPoints 0 (w .count) (λ (k : ℕ). bit (indexHas w t k))
-  marked-by t =
-      column-ext maxPoints 0 (w .count) _ _
-      (λ k l. rw (rank-at t k l, last-some (λ (j : ℕ). t j && alike w j k) (w .count)))
+      go : (t : Bool) → ltb j (w .count) ≡ t → t ≡ hasValue (cond t (residualAt w cell j) NoFit)
+      go true e = sym (and-left (has j) _ (last-holds p (w .count) (w .count) (sym (last-some p (w .count)) ∙ e) .1))
+      go false e = refl
 
-  module _ (key : ℕ → ℕ) where
-    abbrev has : ℕ → Bool
-    has j = hasValue (residualAt w key j)
+  -- and its value is read
+  last-value : (mark : List ℕ) (value : List Float) → mark ≡ column maxPoints 0 (w .count) (λ (k : ℕ). bit (has k)) → value ≡ column maxPoints nan (w .count) (λ (k : ℕ). valueOf (residualAt w cell k))
+      → (k : ℕ) → lastValue w (isSet mark) (λ (j : ℕ). getD value j nan) k ≡ valueOf (indexResidual w cell k)
+  unfolding indexResidual lastFit
+  last-value mark value e f k =
+      rw (last-ext (λ (j : ℕ). isSet mark j && alike w j k) (λ (j : ℕ). has j && alike w j k) (w .count) (w .count) (λ j l. rw (set-is maxPoints (w .count) has mark e j l)))
+      (go (last (λ (j : ℕ). has j && alike w j k) (w .count) (w .count)) (ltb (last (λ (j : ℕ). has j && alike w j k) (w .count) (w .count)) (w .count)) refl)
+    where
+      go : (j : ℕ) (t : Bool) → ltb j (w .count) ≡ t → cond t (getD value j nan) zeroF ≡ valueOf (cond t (residualAt w cell j) NoFit)
+      go j true d = rw f (column-at maxPoints nan (w .count) (λ (j : ℕ). valueOf (residualAt w cell j)) j (ltb-true j (w .count) d))
+      go j false d = refl
 
-    fits-at : (k : ℕ) → k < w .count → getD (ranksOf has) k 0 ≡ lastFit w key k
-    unfolding lastFit
-    fits-at k l = rank-at has k l
-
-    -- the last that has a residual has one
-    last-has : (k : ℕ) → ltb (lastFit w key k) (w .count) ≡ true → has (lastFit w key k) ≡ true
-    unfolding lastFit
-    last-has k e =
-        let p : ℕ → Bool = λ (j : ℕ). has j && alike w j k in
-        and-left (has (last p (w .count) (w .count))) _ (last-holds p (w .count) (w .count) (sym (last-some p (w .count)) ∙ e) .1)
-
-    pub has-by : column maxPoints 0 (w .count) (λ (k : ℕ). bit (ltb (getD (ranksOf has) k 0) (w .count))) ≡ column maxPoints 0 (w .count) (λ (k : ℕ). bit (hasValue (indexResidual w key k)))
-    unfolding indexResidual
-    has-by = column-ext maxPoints 0 (w .count) _ _ (λ k l. rw (fits-at k l) (ap bit (go k (ltb (lastFit w key k) (w .count)) refl)))
-      where
-        go : (k : ℕ) (t : Bool) → ltb (lastFit w key k) (w .count) ≡ t → t ≡ hasValue (cond t (residualAt w key (lastFit w key k)) NoFit)
-        go k true e = sym (last-has k e)
-        go k false e = refl
-
-    pub value-by : column maxPoints nan (w .count) (λ (k : ℕ). valueAt (column maxPoints nan (w .count) (λ (j : ℕ). valueOf (residualAt w key j))) (w .count) (getD (ranksOf has) k 0))
-        ≡ column maxPoints nan (w .count) (λ (k : ℕ). valueOf (indexResidual w key k))
-    unfolding indexResidual
-    value-by = column-ext maxPoints nan (w .count) _ _ (λ k l. rw (fits-at k l) (go (lastFit w key k) (ltb (lastFit w key k) (w .count)) refl))
-      where
-        go : (j : ℕ) (t : Bool) → ltb j (w .count) ≡ t → cond t (getD (column maxPoints nan (w .count) (λ (j : ℕ). valueOf (residualAt w key j))) j nan) zeroF ≡ valueOf (cond t (residualAt w key j) NoFit)
-        go j true e = column-at maxPoints nan (w .count) (λ (j : ℕ). valueOf (residualAt w key j)) j (ltb-true j (w .count) e)
-        go j false e = refl
-
-    -- the four columns of the indices, from those of the ranks
-    module _ (scale : ℕ → Float) (tolerance : Float) where
-      pub gathered : {cells : Residuals} {fits overs highs out over high : List ℕ} {value : List Float} → cells ≡ cellColumns w key scale tolerance
-          → fits ≡ column maxPoints 0 (w .count) (λ (k : ℕ). lastOf (cells .has) byIdx (w .count) (getD byIdx k 0))
-          → overs ≡ column maxPoints 0 (w .count) (λ (k : ℕ). lastOf (cells .over) byIdx (w .count) (getD byIdx k 0))
-          → highs ≡ column maxPoints 0 (w .count) (λ (k : ℕ). lastOf (cells .high) byIdx (w .count) (getD byIdx k 0))
-          → out ≡ column maxPoints 0 (w .count) (λ (k : ℕ). bit (ltb (getD fits k 0) (w .count)))
-          → value ≡ column maxPoints nan (w .count) (λ (k : ℕ). valueAt (cells .value) (w .count) (getD fits k 0))
-          → over ≡ column maxPoints 0 (w .count) (λ (k : ℕ). bit (ltb (getD overs k 0) (w .count)))
-          → high ≡ column maxPoints 0 (w .count) (λ (k : ℕ). bit (ltb (getD highs k 0) (w .count)))
-          → _≡_ {A = Residuals} (record { has = out; value = value; over = over; high = high }) (indexColumns w key scale tolerance)
-      unfolding cellColumns indexColumns
-      gathered e f o h a b c d =
-          rw (a, b, c, d, f, o, h, e, has-by, value-by, marked-by (overAt w key scale tolerance), marked-by (highAt w key scale tolerance))
+  -- the four columns of the indices, from those of the ranks
+  module _ (scale : ℕ → Float) (tolerance : Float) where
+    pub gathered : {cells : Residuals} {has over high : List ℕ} {value : List Float} → cells ≡ cellColumns w cell scale tolerance
+        → has ≡ indexMarks w (cells .has)
+        → value ≡ column maxPoints nan (w .count) (lastValue w (isSet (cells .has)) (λ (k : ℕ). getD (cells .value) k nan))
+        → over ≡ indexMarks w (cells .over)
+        → high ≡ indexMarks w (cells .high)
+        → _≡_ {A = Residuals} (record { has = has; value = value; over = over; high = high }) (indexColumns w cell scale tolerance)
+    unfolding cellColumns indexColumns
+    gathered {cells} e a b c d =
+        let f = ap (λ (r : Residuals). r .has) e in
+        rw (
+          a ∙ index-marks w has (cells .has) f ∙ column-ext maxPoints 0 (w .count) _ _ (λ k l. ap bit (sym (last-has k))),
+          b ∙ column-ext maxPoints nan (w .count) _ _ (λ k l. last-value (cells .has) (cells .value) f (ap (λ (r : Residuals). r .value) e) k),
+          c ∙ index-marks w (overAt w cell scale tolerance) (cells .over) (ap (λ (r : Residuals). r .over) e),
+          d ∙ index-marks w (highAt w cell scale tolerance) (cells .high) (ap (λ (r : Residuals). r .high) e),
+        )

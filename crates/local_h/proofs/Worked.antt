@@ -1,12 +1,13 @@
 -- The residual of one corner with a neighbour on each side, by the definitions: checked by computing. Assumes nothing.
 use mathlib.Core.List.{List, [], _∷_}
 use mathlib.Core.Path.{_≡_, refl}
-use Prim.Native.Nat.{ℕ, _+_, _*_}
+use Prim.Native.Nat.{ℕ}
 use lib.IntN.{pos}
 use lib.ListN.{getD}
-use lib.Ieee.{Float, binary32, ofInt}
+use lib.Ieee.{Float, nan, binary32, ofInt}
 use Rattle.folds.specs.Arith.{f32}
-use Rattle.view.specs.View.{View, viewAt}
+use Rattle.cells.specs.Cell.{Cell}
+use Rattle.view.specs.View.{View}
 use Rattle.local_h.specs.declared.Residual.the-variants.{Value}
 use Rattle.local_h.specs.Residual.{residualAt, residuals-compute}
 
@@ -14,19 +15,25 @@ use Rattle.local_h.specs.Residual.{residualAt, residuals-compute}
 abbrev near : List ℕ
 near = 5 ∷ 5 ∷ 5 ∷ 5 ∷ 5 ∷ 5 ∷ 5 ∷ 2 ∷ 5 ∷ 5 ∷ 5 ∷ 1 ∷ 0 ∷ 4 ∷ 5 ∷ 5 ∷ 5 ∷ 3 ∷ 5 ∷ 5 ∷ 5 ∷ 5 ∷ 5 ∷ 5 ∷ 5 ∷ []
 
--- the cells (10, 12), (10, 11), (9, 12), (11, 12) and (10, 13)
-abbrev keys : List ℕ
-keys = (8013 * 16384 + 8015) ∷ (8013 * 16384 + 8014) ∷ (8012 * 16384 + 8015) ∷ (8014 * 16384 + 8015) ∷ (8013 * 16384 + 8016) ∷ []
-
 abbrev whole : ℕ → Float
 whole n = ofInt binary32 (pos n)
 
+-- each rank has an index of its own
 abbrev five : View
 five =
-    viewAt 5 near [] [] (0 ∷ 1 ∷ 2 ∷ 3 ∷ 4 ∷ [])
-    (whole 1000 ∷ whole 1003 ∷ whole 902 ∷ whole 1099 ∷ whole 1001 ∷ [])
-    (whole 1200 ∷ whole 1097 ∷ whole 1201 ∷ whole 1205 ∷ whole 1298 ∷ [])
+    record {
+      count = 5;
+      near = λ (i : ℕ). getD near i 0;
+      row = λ (k : ℕ). k;
+      column = λ (k : ℕ). k;
+      byIdx = λ (k : ℕ). k;
+      x = λ (k : ℕ). getD (whole 1000 ∷ whole 1003 ∷ whole 902 ∷ whole 1099 ∷ whole 1001 ∷ []) k nan;
+      y = λ (k : ℕ). getD (whole 1200 ∷ whole 1097 ∷ whole 1201 ∷ whole 1205 ∷ whole 1298 ∷ []) k nan;
+    }
 
-pub corner-residual : residualAt five (λ (k : ℕ). getD keys k 0) 0 ≡ Value (f32 0x4066_62F0)
+abbrev cell : ℕ → Cell
+cell k = record { u = pos (getD (10 ∷ 10 ∷ 9 ∷ 11 ∷ 10 ∷ []) k 0); v = pos (getD (12 ∷ 11 ∷ 12 ∷ 12 ∷ 13 ∷ []) k 0) }
+
+pub corner-residual : residualAt five cell 0 ≡ Value (f32 0x4066_62F0)
 unfolding residuals-compute
 corner-residual = refl

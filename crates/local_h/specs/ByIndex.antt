@@ -1,17 +1,15 @@
 -- What a rank, and its index, has of residuals. Assumes nothing.
 use mathlib.Core.Bool.{Bool, true, false, cond, _&&_}
-use mathlib.Core.List.{List}
 use Prim.Native.Nat.{ℕ}
-use lib.Dec.{eqb, ltb}
-use lib.ListN.{getD}
+use lib.Dec.{ltb}
 use lib.Ieee.{Float, nan, lt}
 use Rattle.folds.specs.Arith.{_⊗_, zeroF}
 use Rattle.folds.specs.Below.{last}
 use Rattle.folds.specs.Column.{column}
 use Rattle.folds.specs.Marked.{bit}
-use Rattle.folds.specs.Scattered.{counts}
 use Rattle.float.specs.Constants.{two}
 use Rattle.view.specs.View.{View, maxPoints, alike, indexHas}
+use Rattle.cells.specs.Cell.{Cell}
 use Rattle.local_h.specs.Residual.{residualAt}
 use Rattle.local_h.specs.declared.Residual.{Residual}
 use Rattle.local_h.specs.declared.Residual.the-variants.{Value, NoFit}
@@ -35,28 +33,32 @@ exceeds limit NoFit = false
 abbrev pub isHigh : Float → Residual → Bool
 isHigh limit r = exceeds limit r && exceeds (two ⊗ limit) r
 
-module _ (w : View) (key : ℕ → ℕ) where
+-- the value of the last rank with rank k's index that has the mark t, or 0
+abbrev pub lastValue : View → (ℕ → Bool) → (ℕ → Float) → ℕ → Float
+lastValue w t value k = let j = last (λ (j : ℕ). t j && alike w j k) (w .count) (w .count) in cond (ltb j (w .count)) (value j) zeroF
+
+module _ (w : View) (cell : ℕ → Cell) where
   -- the last rank with rank k's index that has a residual, or the count
   unfoldable pub lastFit : ℕ → ℕ
-  lastFit k = last (λ (j : ℕ). hasValue (residualAt w key j) && alike w j k) (w .count) (w .count)
+  lastFit k = last (λ (j : ℕ). hasValue (residualAt w cell j) && alike w j k) (w .count) (w .count)
 
   -- "a residual comes from the last cell, in the order of the rows, having one"
   unfoldable pub indexResidual : ℕ → Residual
-  indexResidual k = cond (ltb (lastFit k) (w .count)) (residualAt w key (lastFit k)) NoFit
+  indexResidual k = cond (ltb (lastFit k) (w .count)) (residualAt w cell (lastFit k)) NoFit
 
   module _ (scale : ℕ → Float) (tolerance : Float) where
     abbrev pub overAt : ℕ → Bool
-    overAt k = exceeds (tolerance ⊗ scale k) (residualAt w key k)
+    overAt k = exceeds (tolerance ⊗ scale k) (residualAt w cell k)
 
     abbrev pub highAt : ℕ → Bool
-    highAt k = isHigh (tolerance ⊗ scale k) (residualAt w key k)
+    highAt k = isHigh (tolerance ⊗ scale k) (residualAt w cell k)
 
     -- what each rank has
     unfoldable pub cellColumns : Residuals
     cellColumns =
         record {
-          has = column maxPoints 0 (w .count) (λ (k : ℕ). bit (hasValue (residualAt w key k)));
-          value = column maxPoints nan (w .count) (λ (k : ℕ). valueOf (residualAt w key k));
+          has = column maxPoints 0 (w .count) (λ (k : ℕ). bit (hasValue (residualAt w cell k)));
+          value = column maxPoints nan (w .count) (λ (k : ℕ). valueOf (residualAt w cell k));
           over = column maxPoints 0 (w .count) (λ (k : ℕ). bit (overAt k));
           high = column maxPoints 0 (w .count) (λ (k : ℕ). bit (highAt k));
         }
@@ -70,16 +72,3 @@ module _ (w : View) (key : ℕ → ℕ) where
           over = column maxPoints 0 (w .count) (λ (k : ℕ). bit (indexHas w overAt k));
           high = column maxPoints 0 (w .count) (λ (k : ℕ). bit (indexHas w highAt k));
         }
-
--- ---- the same of arrays
-
-abbrev pub isMarked : List ℕ → ℕ → Bool
-isMarked marks k = eqb (getD marks k 0) 1
-
--- the last rank with a mark of the index at place m, or n
-abbrev pub lastOf : List ℕ → List ℕ → ℕ → ℕ → ℕ
-lastOf marks byIdx n m = last (counts (λ (k : ℕ). getD byIdx k 0) (isMarked marks) m) n n
-
--- the value at rank j, or 0 where that is no rank
-abbrev pub valueAt : List Float → ℕ → ℕ → Float
-valueAt value n j = cond (ltb j n) (getD value j nan) zeroF

@@ -1,9 +1,10 @@
 -- The residual of a corner: how far the map fitted to its base takes its cell from where it is seen. Assumes nothing.
 use mathlib.Core.Bool.{Bool, true, false, not, cond}
 use mathlib.Core.List.{List, [], _∷_}
-use Prim.Native.Nat.{ℕ, _/_, _%_}
+use Prim.Native.Nat.{ℕ}
+use lib.IntN.{ℤ}
 use lib.Dec.{ltb}
-use lib.Ieee.{Float, binary32, ofInt, minus}
+use lib.Ieee.{Float, binary32, ofInt}
 use Rattle.folds.specs.Arith.{_⊖_}
 use Rattle.folds.specs.Below.{first, firstIn}
 use Rattle.float.specs.Scalar.{normOf}
@@ -11,26 +12,27 @@ use Rattle.homography.specs.declared.Point.{Point}
 use Rattle.homography.specs.declared.Fit.{Fit}
 use Rattle.homography.specs.declared.Fit.the-variants as fit
 use Rattle.homography.specs.Fit.{homographyFrom4pt, appliedTo, fit-computes}
+use Rattle.cells.specs.Cell.{Cell}
 use Rattle.view.specs.View.{View}
 use Rattle.local_h.specs.Base.{memberAt, onLine, isOther, isFourth, baseOf}
 use Rattle.local_h.specs.declared.Base.{Base}
 use Rattle.local_h.specs.declared.Residual.{Residual}
 use Rattle.local_h.specs.declared.Residual.the-variants.{Value, NoFit}
 
--- u or v as f32, from u + 8,003 or v + 8,003
-abbrev pub coordinate : ℕ → Float
-coordinate b = ofInt binary32 (minus b 8003)
+-- u or v as f32
+abbrev pub coordinate : ℤ → Float
+coordinate z = ofInt binary32 z
 
--- a cell as a point, from its key (u + 8,003) * 2 ^ 14 + (v + 8,003)
-abbrev pub cellPoint : ℕ → Point
-cellPoint key = record { x = coordinate (key / 16384); y = coordinate (key % 16384) }
+-- a cell as a point
+abbrev pub cellPoint : Cell → Point
+cellPoint c = record { x = coordinate (c .u); y = coordinate (c .v) }
 
 -- "A residual is a number or the finding that no fit exists": the distance of where the map takes p from q
 unfoldable pub residualBy : Fit → Point → Point → Residual
 residualBy (fit.Found h) p q = Value (normOf (appliedTo h p .x ⊖ q .x) (appliedTo h p .y ⊖ q .y))
 residualBy fit.NoFit p q = NoFit
 
-module _ (w : View) (key : ℕ → ℕ) where
+module _ (w : View) (cell : ℕ → Cell) where
   -- where rank k is seen. "One index stands at positions with different bits" is refused, so this is its index's position.
   abbrev pub seenAt : ℕ → Point
   seenAt k = record { x = w .x k; y = w .y k }
@@ -40,9 +42,9 @@ module _ (w : View) (key : ℕ → ℕ) where
   residualOf k i j l m =
       residualBy
       (homographyFrom4pt
-      (cellPoint (key i) ∷ cellPoint (key j) ∷ cellPoint (key l) ∷ cellPoint (key m) ∷ [])
+      (cellPoint (cell i) ∷ cellPoint (cell j) ∷ cellPoint (cell l) ∷ cellPoint (cell m) ∷ [])
       (seenAt i ∷ seenAt j ∷ seenAt l ∷ seenAt m ∷ []))
-      (cellPoint (key k))
+      (cellPoint (cell k))
       (seenAt k)
 
   -- "With fewer than four there is no fit."

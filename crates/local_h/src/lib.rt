@@ -2,17 +2,20 @@
 use homography::Fit;
 use homography::Point;
 use view::MAX_POINTS;
-use view::NEAR_SIZE;
+use view::RANKS_SIZE;
 ghost use mathlib.Core.Path.{_≡_};
 ghost use mathlib.Core.List.{List, []};
 ghost use Prim.Native.Nat.{ℕ, _+_, _*_, _≤_, _<_};
 ghost use lib.ListN.{getD};
 ghost use lib.Ieee.{Float, nan};
 ghost use Rattle.folds.specs.Marked.{bit};
-ghost use Rattle.view.specs.View.{maxPoints, viewAt};
+ghost use lib.IntN.{pos, _-ℤ_};
+ghost use Rattle.view.specs.View.{maxPoints, viewAt, Ranked};
+ghost use Rattle.cells.specs.Points.{bias};
+ghost use Rattle.cells.specs.Cell.{cellOfKey, cellsAt};
 ghost use Rattle.local_h.specs.Order.{offsetAt};
 ghost use Rattle.local_h.specs.Base.{times, onLine, isOther, isFourth, baseOf};
-ghost use Rattle.local_h.specs.Places.{Next, Ranks, Indexed};
+ghost use Rattle.local_h.specs.Places.{Next, FiveRanks};
 ghost use Rattle.local_h.specs.Residual.{coordinate, cellPoint, residualBy, residualOf, residualAt};
 ghost use Rattle.local_h.specs.ByIndex.{hasValue, valueOf, exceeds, isHigh, cellColumns, indexColumns};
 
@@ -74,26 +77,20 @@ fn offset_at(p: usize) -> usize
 }
 
 // The rank at place p of the order round rank k; a number of points or more is none.
-pub fn member(near: &[u16; NEAR_SIZE], k: usize, p: usize) -> usize
+pub fn member(ranks: &[u16; RANKS_SIZE], k: usize, p: usize) -> usize
     requires { ⌜ (k < maxPoints) × (p < 24) ⌝ }
-    ensures { λ r. ⌜ r ≡ getD (now (near .entry)) (25 * k + offsetAt p) 0 ⌝ }
+    ensures { λ r. ⌜ r ≡ getD (now (ranks .entry)) (25 * k + offsetAt p) 0 ⌝ }
 {
-    view::wide(near[25 * k + offset_at(p)])
+    view::rank_at(ranks, k, offset_at(p))
 }
 
-fn is_other(
-    near: &[u16; NEAR_SIZE],
-    by_idx: &[u16; MAX_POINTS],
-    n: usize,
-    k: usize,
-    p: usize,
-) -> bool
+fn is_other(ranks: &[u16; RANKS_SIZE], n: usize, k: usize, p: usize) -> bool
     requires { ⌜ (n ≤ maxPoints) × (k < n) × (p < 24) ⌝ }
-    ensures { λ r. ⌜ r ≡ isOther (viewAt n (now (near .entry)) [] [] (now («by_idx» .entry)) [] []) k p ⌝ }
+    ensures { λ r. ⌜ r ≡ isOther (viewAt n (now (ranks .entry)) [] []) k p ⌝ }
 {
-    let j = member(near, k, p);
+    let j = member(ranks, k, p);
     if j < n {
-        return by_idx[j] != by_idx[k];
+        return view::index_of(ranks, j) != view::index_of(ranks, k);
     }
     false
 }
@@ -113,19 +110,13 @@ fn on_line(a: usize, b: usize, c: usize) -> bool
 }
 
 // The first place from p on with a point of another index.
-fn next_other(
-    near: &[u16; NEAR_SIZE],
-    by_idx: &[u16; MAX_POINTS],
-    n: usize,
-    k: usize,
-    p: usize,
-) -> usize
+fn next_other(ranks: &[u16; RANKS_SIZE], n: usize, k: usize, p: usize) -> usize
     requires { ⌜ (n ≤ maxPoints) × (k < n) × (p < 100) ⌝ }
-    ensures { λ r. ⌜ Next (isOther (viewAt n (now (near .entry)) [] [] (now («by_idx» .entry)) [] []) k) p r ⌝ }
+    ensures { λ r. ⌜ Next (isOther (viewAt n (now (ranks .entry)) [] []) k) p r ⌝ }
 {
     let mut i = p;
     while i < 24 {
-        if is_other(near, by_idx, n, k, i) {
+        if is_other(ranks, n, k, i) {
             return i;
         }
         i += 1;
@@ -134,8 +125,7 @@ fn next_other(
 }
 
 fn is_fourth(
-    near: &[u16; NEAR_SIZE],
-    by_idx: &[u16; MAX_POINTS],
+    ranks: &[u16; RANKS_SIZE],
     n: usize,
     k: usize,
     a: usize,
@@ -144,9 +134,9 @@ fn is_fourth(
     p: usize,
 ) -> bool
     requires { ⌜ (n ≤ maxPoints) × (k < n) × (a < 24) × (b < 24) × (c < 24) × (p < 24) ⌝ }
-    ensures { λ r. ⌜ r ≡ isFourth (viewAt n (now (near .entry)) [] [] (now («by_idx» .entry)) [] []) k a b c p ⌝ }
+    ensures { λ r. ⌜ r ≡ isFourth (viewAt n (now (ranks .entry)) [] []) k a b c p ⌝ }
 {
-    if is_other(near, by_idx, n, k, p) {
+    if is_other(ranks, n, k, p) {
         let e = offset_at(a);
         let f = offset_at(b);
         if on_line(e, f, offset_at(c)) {
@@ -158,21 +148,13 @@ fn is_fourth(
 }
 
 // The first place after c that is not on one line with a, b and c.
-fn next_fourth(
-    near: &[u16; NEAR_SIZE],
-    by_idx: &[u16; MAX_POINTS],
-    n: usize,
-    k: usize,
-    a: usize,
-    b: usize,
-    c: usize,
-) -> usize
+fn next_fourth(ranks: &[u16; RANKS_SIZE], n: usize, k: usize, a: usize, b: usize, c: usize) -> usize
     requires { ⌜ (n ≤ maxPoints) × (k < n) × (a < b) × (b < c) × (c < 100) ⌝ }
-    ensures { λ r. ⌜ Next (isFourth (viewAt n (now (near .entry)) [] [] (now («by_idx» .entry)) [] []) k a b c) (c + 1) r ⌝ }
+    ensures { λ r. ⌜ Next (isFourth (viewAt n (now (ranks .entry)) [] []) k a b c) (c + 1) r ⌝ }
 {
     let mut p = c + 1;
     while p < 24 {
-        if is_fourth(near, by_idx, n, k, a, b, c, p) {
+        if is_fourth(ranks, n, k, a, b, c, p) {
             return p;
         }
         p += 1;
@@ -181,19 +163,14 @@ fn next_fourth(
 }
 
 // The base of rank k.
-pub fn pick_local_h_base(
-    near: &[u16; NEAR_SIZE],
-    by_idx: &[u16; MAX_POINTS],
-    n: usize,
-    k: usize,
-) -> Base
+pub fn pick_local_h_base(ranks: &[u16; RANKS_SIZE], n: usize, k: usize) -> Base
     requires { ⌜ (n ≤ maxPoints) × (k < n) ⌝ }
-    ensures { λ r. ⌜ ((row column : List ℕ) (xs ys : List Float) → r ≡ baseOf (viewAt n (now (near .entry)) row column (now («by_idx» .entry)) xs ys) k) ⌝ }
+    ensures { λ r. ⌜ ((xs ys : List Float) → r ≡ baseOf (viewAt n (now (ranks .entry)) xs ys) k) ⌝ }
 {
-    let a = next_other(near, by_idx, n, k, 0);
-    let b = next_other(near, by_idx, n, k, a + 1);
-    let c = next_other(near, by_idx, n, k, b + 1);
-    let d = next_fourth(near, by_idx, n, k, a, b, c);
+    let a = next_other(ranks, n, k, 0);
+    let b = next_other(ranks, n, k, a + 1);
+    let c = next_other(ranks, n, k, b + 1);
+    let d = next_fourth(ranks, n, k, a, b, c);
     Base {
         a: a,
         b: b,
@@ -202,23 +179,23 @@ pub fn pick_local_h_base(
     }
 }
 
-// b - 8003 as f32.
+// A key's part without its bias, as f32.
 fn coordinate_of(b: u32) -> f32
     requires { ⌜ b < 262144 ⌝ }
-    ensures { λ r. ⌜ r ≡ coordinate b ⌝ }
+    ensures { λ r. ⌜ r ≡ coordinate (pos b -ℤ pos bias) ⌝ }
 {
-    if b < 8003 {
-        return -((8003 - b) as f32);
+    if b < cells::BIAS {
+        return -((cells::BIAS - b) as f32);
     }
-    (b - 8003) as f32
+    (b - cells::BIAS) as f32
 }
 
 fn cell_point(key: u32) -> Point
-    ensures { λ r. ⌜ r ≡ cellPoint key ⌝ }
+    ensures { λ r. ⌜ r ≡ cellPoint (cellOfKey key) ⌝ }
 {
     Point {
-        x: coordinate_of(key / 16384),
-        y: coordinate_of(key % 16384),
+        x: coordinate_of(cells::u_part(key)),
+        y: coordinate_of(cells::v_part(key)),
     }
 }
 
@@ -246,8 +223,8 @@ fn residual_of(
     l: usize,
     m: usize,
 ) -> Residual
-    requires { ⌜ Ranks k i j l m ⌝ }
-    ensures { λ r. ⌜ r ≡ residualOf (viewAt 0 [] [] [] [] (now (x .entry)) (now (y .entry))) (λ (j : ℕ). getD (now (keys .entry)) j 0) k i j l m ⌝ }
+    requires { ⌜ FiveRanks k i j l m ⌝ }
+    ensures { λ r. ⌜ r ≡ residualOf (viewAt 0 [] (now (x .entry)) (now (y .entry))) (cellsAt (now (keys .entry))) k i j l m ⌝ }
 {
     let cells = [
         cell_point(keys[i]),
@@ -267,8 +244,7 @@ fn residual_of(
 
 // The residual of rank k.
 pub fn local_h_residual(
-    near: &[u16; NEAR_SIZE],
-    by_idx: &[u16; MAX_POINTS],
+    ranks: &[u16; RANKS_SIZE],
     keys: &[u32; MAX_POINTS],
     x: &[f32; MAX_POINTS],
     y: &[f32; MAX_POINTS],
@@ -276,14 +252,14 @@ pub fn local_h_residual(
     k: usize,
 ) -> Residual
     requires { ⌜ (n ≤ maxPoints) × (k < n) ⌝ }
-    ensures { λ r. ⌜ ((row column : List ℕ) → r ≡ residualAt (viewAt n (now (near .entry)) row column (now («by_idx» .entry)) (now (x .entry)) (now (y .entry))) (λ (j : ℕ). getD (now (keys .entry)) j 0) k) ⌝ }
+    ensures { λ r. ⌜ r ≡ residualAt (viewAt n (now (ranks .entry)) (now (x .entry)) (now (y .entry))) (cellsAt (now (keys .entry))) k ⌝ }
 {
-    let b = pick_local_h_base(near, by_idx, n, k);
+    let b = pick_local_h_base(ranks, n, k);
     if b.d < 24 {
-        let i = member(near, k, b.a);
-        let j = member(near, k, b.b);
-        let l = member(near, k, b.c);
-        let m = member(near, k, b.d);
+        let i = member(ranks, k, b.a);
+        let j = member(ranks, k, b.b);
+        let l = member(ranks, k, b.c);
+        let m = member(ranks, k, b.d);
         return residual_of(keys, x, y, k, i, j, l, m);
     }
     Residual::NoFit
@@ -341,8 +317,7 @@ fn over_twice(limit: f32, r: Residual) -> u8
 
 // The residual of each rank, and its flags: the tolerance times the scale of the rank's index is the limit.
 pub fn cell_residuals(
-    near: &[u16; NEAR_SIZE],
-    by_idx: &[u16; MAX_POINTS],
+    ranks: &[u16; RANKS_SIZE],
     keys: &[u32; MAX_POINTS],
     x: &[f32; MAX_POINTS],
     y: &[f32; MAX_POINTS],
@@ -351,7 +326,7 @@ pub fn cell_residuals(
     tolerance: f32,
 ) -> Residuals
     requires { ⌜ n ≤ maxPoints ⌝ }
-    ensures { λ r. ⌜ ((row column : List ℕ) → r ≡ cellColumns (viewAt n (now (near .entry)) row column (now («by_idx» .entry)) (now (x .entry)) (now (y .entry))) (λ (j : ℕ). getD (now (keys .entry)) j 0) (λ (j : ℕ). getD (now (scale .entry)) j nan) tolerance) ⌝ }
+    ensures { λ r. ⌜ r ≡ cellColumns (viewAt n (now (ranks .entry)) (now (x .entry)) (now (y .entry))) (cellsAt (now (keys .entry))) (λ (j : ℕ). getD (now (scale .entry)) j nan) tolerance ⌝ }
 {
     let none: f32 = 0.0 / 0.0;
     let mut has = [0u8; MAX_POINTS];
@@ -360,7 +335,7 @@ pub fn cell_residuals(
     let mut high = [0u8; MAX_POINTS];
     let mut k = 0;
     while k < n {
-        let r = local_h_residual(near, by_idx, keys, x, y, n, k);
+        let r = local_h_residual(ranks, keys, x, y, n, k);
         let limit = tolerance * scale[k];
         has[k] = has_value(r);
         value[k] = value_of(r);
@@ -378,8 +353,7 @@ pub fn cell_residuals(
 
 // For each rank what its index has: the residual of the index's last cell that has one, and the flags of any of its cells.
 pub fn index_residuals(
-    near: &[u16; NEAR_SIZE],
-    by_idx: &[u16; MAX_POINTS],
+    ranks: &[u16; RANKS_SIZE],
     keys: &[u32; MAX_POINTS],
     x: &[f32; MAX_POINTS],
     y: &[f32; MAX_POINTS],
@@ -387,21 +361,18 @@ pub fn index_residuals(
     n: usize,
     tolerance: f32,
 ) -> Residuals
-    requires { ⌜ Indexed n (now «by_idx») ⌝ }
-    ensures { λ r. ⌜ ((row column : List ℕ) → r ≡ indexColumns (viewAt n (now (near .entry)) row column (now («by_idx» .entry)) (now (x .entry)) (now (y .entry))) (λ (j : ℕ). getD (now (keys .entry)) j 0) (λ (j : ℕ). getD (now (scale .entry)) j nan) tolerance) ⌝ }
+    requires { ⌜ Ranked n (now ranks) ⌝ }
+    ensures { λ r. ⌜ r ≡ indexColumns (viewAt n (now (ranks .entry)) (now (x .entry)) (now (y .entry))) (cellsAt (now (keys .entry))) (λ (j : ℕ). getD (now (scale .entry)) j nan) tolerance ⌝ }
 {
-    let cells = cell_residuals(near, by_idx, keys, x, y, scale, n, tolerance);
+    let cells = cell_residuals(ranks, keys, x, y, scale, n, tolerance);
     let has = cells.has;
     let value = cells.value;
     let over = cells.over;
     let high = cells.high;
-    let fits = by_index::last_marked(&has, by_idx, n);
-    let overs = by_index::last_marked(&over, by_idx, n);
-    let highs = by_index::last_marked(&high, by_idx, n);
     Residuals {
-        has: by_index::present(&fits, n),
-        value: by_index::values(&fits, &value, n),
-        over: by_index::present(&overs, n),
-        high: by_index::present(&highs, n),
+        has: marks::by_index(ranks, &has, n),
+        value: by_index::values(ranks, &has, &value, n),
+        over: marks::by_index(ranks, &over, n),
+        high: marks::by_index(ranks, &high, n),
     }
 }

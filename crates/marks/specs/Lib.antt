@@ -1,1 +1,4 @@
 pub mod Marks
+pub mod Filters
+pub mod Byte
+pub mod Tally

@@ -1,4 +1,6 @@
-// Marks of points, and the marks of their indices.
+// Marks of points, the marks of their indices, the byte of marks of each point, and the tally.
+pub mod filters;
+
 use view::MAX_POINTS;
 use view::RANKS_SIZE;
 ghost use mathlib.Core.Path.{_≡_};
@@ -10,7 +12,10 @@ ghost use lib.Ieee.{Float};
 ghost use Rattle.folds.specs.Column.{column};
 ghost use Rattle.folds.specs.Marked.{bit, Marked};
 ghost use Rattle.view.specs.View.{maxPoints, viewAt, Ranked};
-ghost use Rattle.marks.specs.Marks.{placeHas, indexMarks};
+ghost use Rattle.marks.specs.Marks.{isSet, placeHas, indexMarks};
+ghost use Rattle.marks.specs.Filters.{filterCount};
+ghost use Rattle.marks.specs.Byte.{withMark, markedBy};
+ghost use Rattle.marks.specs.Tally.{countsOf};
 
 // A mark as a number.
 pub fn bit_of(b: bool) -> u8
@@ -67,4 +72,51 @@ pub fn by_index(ranks: &[u16; RANKS_SIZE], mark: &[u8; MAX_POINTS], n: usize) ->
         k += 1;
     }
     out
+}
+
+fn marked_byte(marks: u8, mark: u8, f: usize) -> u8
+    requires { ⌜ f < filterCount ⌝ }
+    ensures { λ r. ⌜ r ≡ cond (eqb mark 1) (withMark f marks) marks ⌝ }
+{
+    if mark == 1 {
+        return filters::with_mark(marks, f);
+    }
+    marks
+}
+
+// The bytes of marks after filter f has marked the points whose mark is set.
+pub fn marked_by(
+    marks: &[u8; MAX_POINTS],
+    mark: &[u8; MAX_POINTS],
+    f: usize,
+    n: usize,
+) -> [u8; MAX_POINTS]
+    requires { ⌜ (n ≤ maxPoints) × (f < filterCount) ⌝ }
+    ensures { λ r. ⌜ r ≡ markedBy n f (isSet (now (mark .entry))) (now (marks .entry)) ⌝ }
+{
+    let mut out = [0u8; MAX_POINTS];
+    let mut k = 0;
+    while k < n {
+        out[k] = marked_byte(marks[k], mark[k], f);
+        k += 1;
+    }
+    out
+}
+
+// One count for each filter, and one for the points kept.
+pub const COUNTS: usize = filters::FILTERS + 1;
+
+// How many points each filter is the first to mark, and how many are kept.
+pub fn tally(marks: &[u8; MAX_POINTS], n: usize) -> [usize; COUNTS]
+    requires { ⌜ n ≤ maxPoints ⌝ }
+    ensures { λ r. ⌜ r ≡ countsOf n (now (marks .entry)) ⌝ }
+{
+    let mut counts = [0usize; COUNTS];
+    let mut k = 0;
+    while k < n {
+        let f = filters::first_mark(marks[k]);
+        counts[f] += 1;
+        k += 1;
+    }
+    counts
 }

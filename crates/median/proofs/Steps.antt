@@ -12,9 +12,11 @@ use lib.Ieee.{Float, nan, binary32, lt, fits, toBits}
 use lib.Ieee.Positive.{above}
 use Rattle.folds.specs.Below.{tally, tally-turn}
 use Rattle.folds.specs.Lists.{All, all-listed, listed, listed-more, listed-length}
-use Rattle.sort.specs.Sorted.{sort, sort-length, sort-all, sort-map, Agree}
-use Rattle.median.specs.Order.{above-zero}
-use Rattle.median.specs.Bits.{bits-order}
+use Rattle.sort.specs.Sorted.{sort}
+use Rattle.view.specs.View.{maxPoints}
+use Rattle.sort.proofs.Sorted.{sort-length, sort-all, sort-map, Agree}
+use Rattle.float.proofs.Order.{above-zero}
+use Rattle.float.proofs.Bits.{bits-order}
 use Rattle.median.specs.Median.{medianOf}
 use Rattle.median.specs.Packed.{positive, positives, patterns, Put, Packed}
 
@@ -26,7 +28,7 @@ map-snoc : (l : List Float) (x : Float) → patterns (l ++ (x ∷ [])) ≡ patte
 map-snoc [] x = refl
 map-snoc (a ∷ l) x = ap (_∷_ (toBits binary32 a)) (map-snoc l x)
 
-pub packed-none : (v : List Float) (b : List ℕ) → length b ≡ 2048 → Packed v 0 0 b
+pub packed-none : (v : List Float) (b : List ℕ) → length b ≡ maxPoints → Packed v 0 0 b
 unfolding tally positives
 packed-none v b h = record { size = h; count = refl; taken = refl; float = λ j l. absurd (omega arith) }
 

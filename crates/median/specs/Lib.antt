@@ -1,4 +1,2 @@
-pub mod Order
-pub mod Bits
 pub mod Median
 pub mod Packed

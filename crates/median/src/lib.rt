@@ -4,6 +4,7 @@ ghost use mathlib.Core.Path.{_≡_};
 ghost use Prim.Native.Nat.{_≤_, _<_};
 ghost use lib.ListN.{length};
 ghost use Rattle.view.specs.View.{maxPoints};
+ghost use Rattle.float.specs.Constants.{firstNanBits};
 ghost use Rattle.median.specs.Median.{medianOf};
 ghost use Rattle.median.specs.Packed.{positives, Put, Packed};
 
@@ -33,7 +34,7 @@ fn pack(v: &[f32; MAX_POINTS], n: usize, a: &mut [u64; MAX_POINTS]) -> usize
 }
 
 fn narrow(x: u64) -> u32
-    requires { ⌜ x < 2139095041 ⌝ }
+    requires { ⌜ x < firstNanBits ⌝ }
     ensures { λ r. ⌜ r ≡ x ⌝ }
 {
     x as u32

@@ -1,18 +1,20 @@
 // Votes on the orientation of the lattice, and the marks of the indices whose points cast those of the minority.
 use view::MAX_POINTS;
-use view::NEAR_SIZE;
+use view::NEXT_U;
+use view::NEXT_V;
+use view::RANKS_SIZE;
 ghost use mathlib.Core.Path.{_≡_};
-ghost use mathlib.Core.List.{List};
+ghost use mathlib.Core.List.{[]};
 ghost use Prim.Native.Nat.{ℕ, _+_, _*_, _≤_, _<_};
 ghost use lib.Dec.{eqb};
 ghost use lib.ListN.{getD};
 ghost use Rattle.folds.specs.Below.{some, tally};
 ghost use Rattle.folds.specs.Column.{column};
 ghost use Rattle.folds.specs.Marked.{bit, Marked};
-ghost use Rattle.view.specs.View.{maxPoints, viewAt};
+ghost use Rattle.view.specs.View.{maxPoints, viewAt, Ranked};
 ghost use Rattle.orientation.specs.Orientation.{voteBy, cross, voteAt, turned, orientationOf};
 ghost use Rattle.orientation.specs.Voters.{voters, votersAt};
-ghost use Rattle.marks.specs.Arrays.{Ranks, isSet, placedView};
+ghost use Rattle.marks.specs.Marks.{isSet};
 
 fn vote_by(c: f32) -> u8
     ensures { λ r. ⌜ r ≡ voteBy c ⌝ }
@@ -31,20 +33,20 @@ fn cross_of(ax: f32, ay: f32, bx: f32, by: f32) -> f32
 
 // The vote of rank k: 0 for none, 1 and 2 for the two sides.
 fn vote_at(
-    near: &[u16; NEAR_SIZE],
+    ranks: &[u16; RANKS_SIZE],
     x: &[f32; MAX_POINTS],
     y: &[f32; MAX_POINTS],
     n: usize,
     k: usize,
 ) -> u8
     requires { ⌜ (n ≤ maxPoints) × (k < n) ⌝ }
-    ensures { λ r. ⌜ r ≡ voteAt (placedView n (now (near .entry)) (now (x .entry)) (now (y .entry))) k ⌝ }
+    ensures { λ r. ⌜ r ≡ voteAt (viewAt n (now (ranks .entry)) (now (x .entry)) (now (y .entry))) k ⌝ }
 {
-    let a = view::wide(near[25 * k + 17]);
+    let a = view::rank_at(ranks, k, NEXT_U);
     if n <= a {
         return 0;
     }
-    let b = view::wide(near[25 * k + 13]);
+    let b = view::rank_at(ranks, k, NEXT_V);
     if n <= b {
         return 0;
     }
@@ -52,18 +54,18 @@ fn vote_at(
 }
 
 fn votes(
-    near: &[u16; NEAR_SIZE],
+    ranks: &[u16; RANKS_SIZE],
     x: &[f32; MAX_POINTS],
     y: &[f32; MAX_POINTS],
     n: usize,
 ) -> [u8; MAX_POINTS]
     requires { ⌜ n ≤ maxPoints ⌝ }
-    ensures { λ r. ⌜ r ≡ column maxPoints 0 n (voteAt (placedView n (now (near .entry)) (now (x .entry)) (now (y .entry)))) ⌝ }
+    ensures { λ r. ⌜ r ≡ column maxPoints 0 n (voteAt (viewAt n (now (ranks .entry)) (now (x .entry)) (now (y .entry)))) ⌝ }
 {
     let mut out = [0u8; MAX_POINTS];
     let mut k = 0;
     while k < n {
-        out[k] = vote_at(near, x, y, n, k);
+        out[k] = vote_at(ranks, x, y, n, k);
         k += 1;
     }
     out
@@ -85,7 +87,7 @@ fn votes_for(vote: &[u8; MAX_POINTS], n: usize, side: u8) -> usize
 
 // Marks the three points of rank k's vote, if it is for the side.
 fn mark_voters(
-    near: &[u16; NEAR_SIZE],
+    ranks: &[u16; RANKS_SIZE],
     vote: &[u8; MAX_POINTS],
     n: usize,
     side: u8,
@@ -93,25 +95,30 @@ fn mark_voters(
     mark: &mut [u8; MAX_POINTS],
 )
     requires { ⌜ (n ≤ maxPoints) × (k < n) ⌝ }
-    ensures { λ r. ⌜ Marked (voters n (now (near .entry)) (now (vote .entry)) side k) (now (mark .entry)) (now (mark .exit)) ⌝ }
+    ensures { λ r. ⌜ Marked (voters (viewAt n (now (ranks .entry)) [] []) (now (vote .entry)) side k) (now (mark .entry)) (now (mark .exit)) ⌝ }
 {
     if vote[k] == side {
         marks::set_if(true, k, n, mark);
-        marks::set_if(true, view::wide(near[25 * k + 17]), n, mark);
-        marks::set_if(true, view::wide(near[25 * k + 13]), n, mark);
+        marks::set_if(true, view::rank_at(ranks, k, NEXT_U), n, mark);
+        marks::set_if(true, view::rank_at(ranks, k, NEXT_V), n, mark);
         return;
     }
 }
 
 // The members of the side.
-fn members(near: &[u16; NEAR_SIZE], vote: &[u8; MAX_POINTS], n: usize, side: u8) -> [u8; MAX_POINTS]
+fn members(
+    ranks: &[u16; RANKS_SIZE],
+    vote: &[u8; MAX_POINTS],
+    n: usize,
+    side: u8,
+) -> [u8; MAX_POINTS]
     requires { ⌜ n ≤ maxPoints ⌝ }
-    ensures { λ r. ⌜ r ≡ column maxPoints 0 n (λ (m : ℕ). bit (some (λ (k : ℕ). votersAt n (now (near .entry)) (now (vote .entry)) side k m) n)) ⌝ }
+    ensures { λ r. ⌜ r ≡ column maxPoints 0 n (λ (m : ℕ). bit (some (λ (k : ℕ). votersAt (viewAt n (now (ranks .entry)) [] []) (now (vote .entry)) side k m) n)) ⌝ }
 {
     let mut out = [0u8; MAX_POINTS];
     let mut k = 0;
     while k < n {
-        mark_voters(near, vote, n, side, k, &mut out);
+        mark_voters(ranks, vote, n, side, k, &mut out);
         k += 1;
     }
     out
@@ -158,19 +165,18 @@ fn combined(
 
 // The orientation mark of each rank's index.
 pub fn lattice_orientation_drops(
-    near: &[u16; NEAR_SIZE],
-    by_idx: &[u16; MAX_POINTS],
+    ranks: &[u16; RANKS_SIZE],
     x: &[f32; MAX_POINTS],
     y: &[f32; MAX_POINTS],
     n: usize,
 ) -> [u8; MAX_POINTS]
-    requires { ⌜ (n ≤ maxPoints) × Ranks n (now «by_idx») ⌝ }
-    ensures { λ r. ⌜ ((row column : List ℕ) → r ≡ orientationOf (viewAt n (now (near .entry)) row column (now («by_idx» .entry)) (now (x .entry)) (now (y .entry)))) ⌝ }
+    requires { ⌜ Ranked n (now ranks) ⌝ }
+    ensures { λ r. ⌜ r ≡ orientationOf (viewAt n (now (ranks .entry)) (now (x .entry)) (now (y .entry))) ⌝ }
 {
-    let vote = votes(near, x, y, n);
+    let vote = votes(ranks, x, y, n);
     let np = votes_for(&vote, n, 1);
     let nn = votes_for(&vote, n, 2);
-    let positive = marks::by_index(by_idx, &members(near, &vote, n, 1), n);
-    let negative = marks::by_index(by_idx, &members(near, &vote, n, 2), n);
+    let positive = marks::by_index(ranks, &members(ranks, &vote, n, 1), n);
+    let negative = marks::by_index(ranks, &members(ranks, &vote, n, 2), n);
     combined(np, nn, &positive, &negative, n)
 }

@@ -2,38 +2,19 @@
 -- opposite; and labels depend on the survivors and on the neighbours of points alone. Assumes nothing.
 use mathlib.Core.Path.{_≡_, refl, sym, ap, _∙_, fun-ext}
 use mathlib.Core.Bool.{Bool, true}
-use mathlib.Core.List.{List, [], _∷_}
+use mathlib.Core.List.{List}
 use Prim.Native.Nat.{ℕ, _+_, _-_, _*_, _≤_, _<_}
 use native.Mathlib.Nat.{le-antisymm}
-use borrow.Author.Tests.{eqb-true, ltb-true}
-use lib.Dec.{eqb, ltb}
-use lib.ListN.{length}
-use Rattle.folds.specs.Below.{some, some-at, every, every-at, and-under, both-ways}
-use Rattle.view.specs.View.{maxPoints, squareSides}
-use Rattle.patches.specs.Patches.{at, survives, touches, linked, via, labelsBy, labelsOf}
+use borrow.Author.Tests.{eqb-true}
+use lib.Dec.{eqb}
+use lib.ListN.{length, getD}
+use Rattle.folds.specs.Below.{some, some-at, every-at, and-under, both-ways}
+use Rattle.patches.specs.Patches.{survives, touches, linked, via, labelsBy, labelsOf}
 use Rattle.patches.specs.Reach.{Reach, here, step, Mirrored, paired}
-use Rattle.patches.specs.Search.{Fit}
+use Rattle.patches.specs.Search.{Offsets}
 use Rattle.patches.proofs.Surviving.{survives-lt, link-from, link-to, link-side, link-by}
 use Rattle.patches.proofs.Closure.{reach-trans, reach-from, reach-to}
 use Rattle.patches.proofs.Labelling.{joins, label-some}
-
--- the square lattice has each offset's opposite
-pub square-paired : paired squareSides ≡ true
-unfolding paired every some
-square-paired = refl
-
--- and so has the honeycomb, at (1, 0), (0, 1), (-1, 1) and their opposites
-pub hex-paired : paired (17 ∷ 7 ∷ 13 ∷ 11 ∷ 8 ∷ 16 ∷ []) ≡ true
-unfolding paired every some
-hex-paired = refl
-
-small-sides : every (λ (i : ℕ). ltb (at squareSides i) 25) 4 ≡ true
-unfolding every
-small-sides = refl
-
--- what a caller on the square lattice shows
-pub square-fit : (n : ℕ) (sides : List ℕ) → n ≤ maxPoints → sides ≡ squareSides → Fit n sides
-square-fit n sides h e = rw e (record { few = h; offsets = λ i l. ltb-true (at squareSides i) 25 (every-at (λ (i : ℕ). ltb (at squareSides i) 25) 4 small-sides i l) })
 
 module _ (n : ℕ) (near : ℕ → ℕ) (sides dropped : List ℕ) where
   abbrev alive : ℕ → Bool
@@ -43,9 +24,9 @@ module _ (n : ℕ) (near : ℕ → ℕ) (sides dropped : List ℕ) where
   link = linked n near sides dropped
 
   abbrev label : ℕ → ℕ
-  label k = at (labelsOf n near sides dropped) k
+  label k = getD (labelsOf n near sides dropped) k 0
 
-  module _ (fit : Fit n sides) (pairs : paired sides ≡ true) (mirror : Mirrored n near) where
+  module _ (offsets : Offsets sides) (pairs : paired sides ≡ true) (mirror : Mirrored n near) where
     -- ---- shared edges lead both ways
 
     pub link-back : (a b : ℕ) → link a b ≡ true → link b a ≡ true
@@ -54,13 +35,13 @@ module _ (n : ℕ) (near : ℕ → ℕ) (sides dropped : List ℕ) where
         let p = link-from n near sides dropped a b e in
         let q = link-to n near sides dropped a b e in
         let w = link-side n near sides dropped a b e in
-        let o = every-at (λ (i : ℕ). some (λ (j : ℕ). eqb (at sides j) (24 - at sides i)) (length sides)) (length sides) pairs (w .0) (w .1) in
-        let j = some-at (λ (j : ℕ). eqb (at sides j) (24 - at sides (w .0))) (length sides) o in
-        let f = eqb-true (at sides (j .0)) (24 - at sides (w .0)) (j .2) in
+        let o = every-at (λ (i : ℕ). some (λ (j : ℕ). eqb (getD sides j 0) (24 - getD sides i 0)) (length sides)) (length sides) pairs (w .0) (w .1) in
+        let j = some-at (λ (j : ℕ). eqb (getD sides j 0) (24 - getD sides (w .0) 0)) (length sides) o in
+        let f = eqb-true (getD sides (j .0) 0) (24 - getD sides (w .0) 0) (j .2) in
         link-by n near sides dropped b a q p (j .0) (j .1)
-        (ap (λ (d : ℕ). near (25 * b + d)) f ∙ mirror .back a b (at sides (w .0)) (survives-lt n dropped a p) (survives-lt n dropped b q) (fit .offsets (w .0) (w .1)) (w .2))
+        (ap (λ (d : ℕ). near (25 * b + d)) f ∙ mirror .back a b (getD sides (w .0) 0) (survives-lt n dropped a p) (survives-lt n dropped b q) (offsets (w .0) (w .1)) (w .2))
 
-    pub reach-back : {a b : ℕ} → Reach alive link a b → Reach alive link b a
+    reach-back : {a b : ℕ} → Reach alive link a b → Reach alive link b a
     reach-back (here e) = here e
     reach-back {b = c} (step {b} r e) = reach-trans (step (here (link-to n near sides dropped b c e)) (link-back b c e)) (reach-back r)
 

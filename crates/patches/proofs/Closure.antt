@@ -12,16 +12,16 @@ use borrow.Author.Tests.{eq-eqb, eqb-true}
 use lib.Dec.{eqb}
 use Rattle.folds.specs.Below.{or-left, or-right, or-cases, and-left, and-right, and-both, not-true, first, first-hit, first-miss, first-holds, first-before}
 use Rattle.folds.specs.Lists.{listOf, list-at}
-use Rattle.patches.specs.Patches.{test, square, via}
+use Rattle.patches.specs.Patches.{test, testTable, via}
 use Rattle.patches.specs.Reach.{Reach, here, step, Labelled}
 
 pub reach-trans : {alive : ℕ → Bool} {link : ℕ → ℕ → Bool} {a b c : ℕ} → Reach alive link a b → Reach alive link b c → Reach alive link a c
 reach-trans r (here e) = r
 reach-trans r (step q e) = step (reach-trans r q) e
 
-test-square : (n : ℕ) (f : ℕ → ℕ → Bool) (a b : ℕ) → a < n → b < n → test (square n f) a b ≡ f a b
-unfolding square
-test-square n f a b h g = rw (list-at n (λ (i : ℕ). listOf n (f i)) a [] h) (list-at n (f a) b false g)
+test-table : (n : ℕ) (f : ℕ → ℕ → Bool) (a b : ℕ) → a < n → b < n → test (testTable n f) a b ≡ f a b
+unfolding testTable
+test-table n f a b h g = rw (list-at n (λ (i : ℕ). listOf n (f i)) a [] h) (list-at n (f a) b false g)
 
 module _ (n : ℕ) (alive : ℕ → Bool) (link : ℕ → ℕ → Bool) where
   -- by way of ranks below i
@@ -30,11 +30,11 @@ module _ (n : ℕ) (alive : ℕ → Bool) (link : ℕ → ℕ → Bool) where
 
   by-none : (a b : ℕ) → a < n → b < n → by 0 a b ≡ (eqb a b && alive a) || link a b
   unfolding via
-  by-none a b h g = test-square n (λ (a b : ℕ). (eqb a b && alive a) || link a b) a b h g
+  by-none a b h g = test-table n (λ (a b : ℕ). (eqb a b && alive a) || link a b) a b h g
 
   by-more : (i a b : ℕ) → a < n → b < n → by (suc i) a b ≡ by i a b || (by i a i && by i i b)
   unfolding via
-  by-more i a b h g = test-square n (λ (a b : ℕ). by i a b || (by i a i && by i i b)) a b h g
+  by-more i a b h g = test-table n (λ (a b : ℕ). by i a b || (by i a i && by i i b)) a b h g
 
   module _ (i a b : ℕ) (h : a < n) (g : b < n) where
     by-up : by i a b ≡ true → by (suc i) a b ≡ true

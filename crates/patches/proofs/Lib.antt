@@ -3,4 +3,7 @@ pub mod Searching
 pub mod Closure
 pub mod Labelling
 pub mod Agreeing
+pub mod Lattices
 pub mod Gathering
+pub mod Outermost
+pub mod Sheets

@@ -1,3 +1,5 @@
 pub mod Patches
 pub mod Reach
 pub mod Search
+pub mod Boxes
+pub mod Extents

@@ -11,17 +11,13 @@ use Rattle.folds.specs.Lists.{listOf}
 use Rattle.folds.specs.Column.{column}
 use Rattle.view.specs.View.{View, maxPoints}
 
--- what stands at a place of an array
-abbrev pub at : List ℕ → ℕ → ℕ
-at l k = getD l k 0
-
 -- "A survivor is a point whose index gets no mark under these rules other than the component mark."
 abbrev pub survives : ℕ → List ℕ → ℕ → Bool
-survives n dropped k = ltb k n && eqb (at dropped k) 0
+survives n dropped k = ltb k n && eqb (getD dropped k 0) 0
 
 -- "Two cells share an edge if they differ by one in u and agree in v, or the other way round": b is at one of the offsets from a
 abbrev pub touches : (ℕ → ℕ) → List ℕ → ℕ → ℕ → Bool
-touches near sides a b = some (λ (i : ℕ). eqb (near (25 * a + at sides i)) b) (length sides)
+touches near sides a b = some (λ (i : ℕ). eqb (near (25 * a + getD sides i 0)) b) (length sides)
 
 -- a step "over shared edges, survivor to survivor"
 abbrev pub linked : ℕ → (ℕ → ℕ) → List ℕ → List ℕ → ℕ → ℕ → Bool
@@ -33,15 +29,15 @@ linked n near sides dropped a b = survives n dropped a && (survives n dropped b 
 abbrev pub test : List (List Bool) → ℕ → ℕ → Bool
 test m a b = getD (getD m a []) b false
 
-unfoldable pub square : ℕ → (ℕ → ℕ → Bool) → List (List Bool)
+unfoldable pub testTable : ℕ → (ℕ → ℕ → Bool) → List (List Bool)
 unfolding listOf
-square n f = listOf n (λ (a : ℕ). listOf n (f a))
+testTable n f = listOf n (λ (a : ℕ). listOf n (f a))
 
 -- b is reached from the survivor a by way of ranks below i
 unfoldable pub via : ℕ → (ℕ → Bool) → (ℕ → ℕ → Bool) → ℕ → List (List Bool)
-unfolding square
-via n alive link zero = square n (λ (a b : ℕ). (eqb a b && alive a) || link a b)
-via n alive link (suc i) = let m = via n alive link i in square n (λ (a b : ℕ). test m a b || (test m a i && test m i b))
+unfolding testTable
+via n alive link zero = testTable n (λ (a b : ℕ). (eqb a b && alive a) || link a b)
+via n alive link (suc i) = let m = via n alive link i in testTable n (λ (a b : ℕ). test m a b || (test m a i && test m i b))
 
 -- ---- labels
 

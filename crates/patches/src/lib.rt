@@ -1,17 +1,25 @@
 // Patches of surviving points: cells joined by shared edges, over any list of offsets. See specs/Patches.antt.
+pub mod boxes;
+
 ghost use mathlib.Core.Path.{_≡_};
+ghost use mathlib.Core.List.{List};
 ghost use Prim.Native.Nat.{_+_, _≤_, _<_};
-ghost use Rattle.view.specs.View.{maxPoints, squareSides};
-ghost use Rattle.patches.specs.Patches.{at, survives, linked, labelsOf};
-ghost use Rattle.patches.specs.Search.{Fit, Sized, Visit, unlabelled, Search, Advanced};
+ghost use lib.Ieee.{Float};
+ghost use Rattle.view.specs.View.{maxPoints, squareSides, viewAt};
+ghost use Rattle.patches.specs.Patches.{patchLabels};
+ghost use Rattle.patches.specs.Search.{Offsets, startMarks, unlabelled, Worklist, Visit, Advanced};
 use view::MAX_POINTS;
-use view::NEAR_SIZE;
+use view::NEXT_U;
+use view::NEXT_V;
+use view::PREV_U;
+use view::PREV_V;
+use view::RANKS_SIZE;
 
 // The offsets of the square lattice: to u - 1, u + 1, v - 1 and v + 1.
 pub fn square_sides() -> [u8; 4]
     ensures { λ r. ⌜ r ≡ squareSides ⌝ }
 {
-    [7, 17, 11, 13]
+    [PREV_U as u8, NEXT_U as u8, PREV_V as u8, NEXT_V as u8]
 }
 
 fn offset(d: u8) -> usize
@@ -22,30 +30,25 @@ fn offset(d: u8) -> usize
 
 // ---- the search
 
-// Marks rank j, labels it s and puts it on the worklist, if it survives and is not marked.
+// Marks rank j, labels it s and puts it on the worklist, if it has no mark yet.
 fn visit(
-    dropped: &[u8; MAX_POINTS],
-    n: usize,
     s: u16,
     j: usize,
-    seen: &mut [u8; MAX_POINTS],
+    visited: &mut [u8; MAX_POINTS],
     label: &mut [u16; MAX_POINTS],
     queue: &mut [u16; MAX_POINTS],
     tail: usize,
 ) -> usize
-    requires { ⌜ (n ≤ maxPoints) × Sized (now seen) (now label) (now queue) tail ⌝ }
-    ensures { λ r. ⌜ Visit (survives n (now (dropped .entry))) s j (now (seen .entry)) (now (label .entry)) (now (queue .entry)) tail (now (seen .exit)) (now (label .exit)) (now (queue .exit)) r ⌝ }
+    requires { ⌜ Worklist (now visited) (now label) (now queue) tail ⌝ }
+    ensures { λ r. ⌜ Visit s j (now (visited .entry)) (now (label .entry)) (now (queue .entry)) tail (now (visited .exit)) (now (label .exit)) (now (queue .exit)) r ⌝ }
 {
-    if n <= j {
+    if MAX_POINTS <= j {
         return tail;
     }
-    if dropped[j] != 0 {
+    if visited[j] != 0 {
         return tail;
     }
-    if seen[j] != 0 {
-        return tail;
-    }
-    seen[j] = 1;
+    visited[j] = 1;
     label[j] = s;
     queue[tail] = j as u16;
     tail + 1
@@ -53,53 +56,65 @@ fn visit(
 
 // Visits each neighbour of the rank at `head` of the worklist.
 fn expand(
-    near: &[u16; NEAR_SIZE],
-    dropped: &[u8; MAX_POINTS],
+    ranks: &[u16; RANKS_SIZE],
     sides: &[u8],
-    n: usize,
     s: u16,
     head: usize,
-    seen: &mut [u8; MAX_POINTS],
+    visited: &mut [u8; MAX_POINTS],
     label: &mut [u16; MAX_POINTS],
     queue: &mut [u16; MAX_POINTS],
     tail: usize,
 ) -> usize
-    requires { ⌜ Fit n (now sides) × (head < tail) × Search (survives n (now dropped)) (linked n (at (now near)) (now sides) (now dropped)) n s head (now seen) (now label) (now queue) tail ⌝ }
-    ensures { λ r. ⌜ Advanced (survives n (now (dropped .entry))) (linked n (at (now (near .entry))) (now (sides .entry)) (now (dropped .entry))) n s (head + 1) (now (seen .entry)) (now (seen .exit)) (now (label .exit)) (now (queue .exit)) r ⌝ }
+    requires { ⌜ Offsets (now sides) × (head < tail) × Worklist (now visited) (now label) (now queue) tail ⌝ }
+    ensures { λ r. ⌜ Advanced (now (ranks .entry)) (now (sides .entry)) s head (now (visited .entry)) (now (label .entry)) (now (queue .entry)) tail s (head + 1) (now (visited .exit)) (now (label .exit)) (now (queue .exit)) r ⌝ }
 {
     let x = view::wide(queue[head]);
     let mut t = tail;
     let mut d = 0;
     while d < sides.len() {
-        let j = view::wide(near[25 * x + offset(sides[d])]);
-        t = visit(dropped, n, s, j, seen, label, queue, t);
+        let j = view::rank_at(ranks, x, offset(sides[d]));
+        t = visit(s, j, visited, label, queue, t);
         d += 1;
     }
     t
 }
 
-// Marks and labels the whole patch of rank s, if it survives and is not marked.
+// Marks and labels the whole patch of rank s, if it has no mark yet.
 fn fill(
-    near: &[u16; NEAR_SIZE],
-    dropped: &[u8; MAX_POINTS],
+    ranks: &[u16; RANKS_SIZE],
     sides: &[u8],
-    n: usize,
     s: u16,
-    seen: &mut [u8; MAX_POINTS],
+    visited: &mut [u8; MAX_POINTS],
     label: &mut [u16; MAX_POINTS],
     queue: &mut [u16; MAX_POINTS],
     start: usize,
 ) -> usize
-    requires { ⌜ Fit n (now sides) × Search (survives n (now dropped)) (linked n (at (now near)) (now sides) (now dropped)) n s start (now seen) (now label) (now queue) start ⌝ }
-    ensures { λ r. ⌜ Search (survives n (now (dropped .entry))) (linked n (at (now (near .entry))) (now (sides .entry)) (now (dropped .entry))) n (s + 1) r (now (seen .exit)) (now (label .exit)) (now (queue .exit)) r ⌝ }
+    requires { ⌜ Offsets (now sides) × Worklist (now visited) (now label) (now queue) start ⌝ }
+    ensures { λ r. ⌜ Advanced (now (ranks .entry)) (now (sides .entry)) s start (now (visited .entry)) (now (label .entry)) (now (queue .entry)) start (s + 1) r (now (visited .exit)) (now (label .exit)) (now (queue .exit)) r ⌝ }
 {
-    let mut tail = visit(dropped, n, s, view::wide(s), seen, label, queue, start);
+    let mut tail = visit(s, view::wide(s), visited, label, queue, start);
     let mut head = start;
     while head < tail {
-        tail = expand(near, dropped, sides, n, s, head, seen, label, queue, tail);
+        tail = expand(ranks, sides, s, head, visited, label, queue, tail);
         head += 1;
     }
     tail
+}
+
+// ---- labels
+
+// The marks before the search: set at each number that is not the rank of a survivor.
+fn start_marks(dropped: &[u8; MAX_POINTS], n: usize) -> [u8; MAX_POINTS]
+    requires { ⌜ n ≤ maxPoints ⌝ }
+    ensures { λ r. ⌜ r ≡ startMarks n (now (dropped .entry)) ⌝ }
+{
+    let mut visited = [1u8; MAX_POINTS];
+    let mut i: usize = 0;
+    while i < n {
+        visited[i] = marks::bit_of(dropped[i] != 0);
+        i += 1;
+    }
+    visited
 }
 
 // A label of n, none, for each rank.
@@ -119,27 +134,25 @@ fn blank(n: usize) -> [u16; MAX_POINTS]
 
 // The label of each rank: the least rank of its patch; n where it does not survive.
 pub fn labels(
-    near: &[u16; NEAR_SIZE],
+    ranks: &[u16; RANKS_SIZE],
     dropped: &[u8; MAX_POINTS],
     sides: &[u8],
     n: usize,
 ) -> [u16; MAX_POINTS]
-    requires { ⌜ Fit n (now sides) ⌝ }
-    ensures { λ r. ⌜ r ≡ labelsOf n (at (now (near .entry))) (now (sides .entry)) (now (dropped .entry)) ⌝ }
+    requires { ⌜ (n ≤ maxPoints) × Offsets (now sides) ⌝ }
+    ensures { λ r. ⌜ ((xs ys : List Float) → r ≡ patchLabels (viewAt n (now (ranks .entry)) xs ys) (now (sides .entry)) (now (dropped .entry))) ⌝ }
 {
-    let mut seen = [0u8; MAX_POINTS];
+    let mut visited = start_marks(dropped, n);
     let mut queue = [0u16; MAX_POINTS];
     let mut label = blank(n);
     let mut tail: usize = 0;
     let mut i: usize = 0;
     while i < n {
         tail = fill(
-            near,
-            dropped,
+            ranks,
             sides,
-            n,
             i as u16,
-            &mut seen,
+            &mut visited,
             &mut label,
             &mut queue,
             tail,

@@ -1,6 +1,4 @@
 pub mod Records
 pub mod Refusals
-pub mod Rows
-pub mod Neighbours
-pub mod Pairs
+pub mod Entries
 pub mod Table

@@ -1,6 +1,6 @@
 -- The conditions of the numbers 6 to 9 on the points of a file, in the order in which it lists them, and the points in cell order.
 -- Assumes nothing.
-use mathlib.Core.Bool.{Bool, cond, not, _&&_, _||_}
+use mathlib.Core.Bool.{Bool, not, _&&_, _||_}
 use mathlib.Core.List.{List, [], _∷_}
 use Prim.Native.Nat.{ℕ}
 use lib.Dec.{eqb, ltb}
@@ -47,30 +47,14 @@ unfolding pointRefusals
 numberFor ps = numberIn (pointRefusals ps)
 
 -- one point comes before another in cell order (that this is the order by u, then v, is `cells`' key-order)
-abbrev pub ahead : Point → Point → Bool
-ahead p q = ltb (keyOf p) (keyOf q)
+abbrev pub comesBefore : Point → Point → Bool
+comesBefore p q = ltb (keyOf p) (keyOf q)
 
 -- "Rows come in cell order, by u, then v."
 abbrev pub cellOrder : List Point → List Point
-cellOrder ps = sort ahead ps
+cellOrder ps = sort comesBefore ps
 
 -- the points in cell order, and none where a number applies
 unfoldable pub acceptedOf : List Point → List Point
 unfolding pointRefusals
 acceptedOf ps = ruled (λ (k : ℕ). []) (cellOrder ps) (pointRefusals ps)
-
--- ---- how the code goes about it
-
--- the condition of number 7 on one point, or that of number 6
-abbrev pub off : Bool → Point → Bool
-off byLimit p = cond byLimit (offLimit p) (offRange p)
-
--- Pairs are found by a key, of which the neighbours in its order are compared.
-
--- the key: the index, or the cell
-abbrev pub entryOf : Bool → Point → ℕ
-entryOf byIndex p = cond byIndex (p .index) (keyOf p)
-
--- two points with one key that may stand together: of one index where their positions are the same, of one cell never
-abbrev pub together : Bool → Point → Point → Bool
-together byIndex p q = byIndex && samePosition p q

@@ -3,25 +3,24 @@ use view::MAX_POINTS;
 ghost use mathlib.Core.Path.{_≡_};
 ghost use mathlib.Core.List.{[]};
 ghost use mathlib.Core.Bool.{true, false};
-ghost use Prim.Native.Nat.{ℕ, _+_, _-_, _*_, _/_, _%_, _≤_, _<_};
+ghost use Prim.Native.Nat.{ℕ, _+_, _*_, _/_, _%_, _≤_, _<_};
 ghost use lib.ListN.{length, getD};
 ghost use lib.Ieee.{nan};
 ghost use Rattle.folds.specs.Among.{anyIn};
-ghost use Rattle.folds.specs.Below.{some};
 ghost use Rattle.folds.specs.Column.{column};
 ghost use Rattle.view.specs.View.{maxPoints};
 ghost use Rattle.sheet_file.specs.Refusals.{floatAt};
 ghost use Rattle.sheet_file.specs.Limit.{outside};
-ghost use Rattle.points.specs.Records.{pointAt, pointsIn, Room};
-ghost use Rattle.points.specs.Refusals.{offRange, offLimit, samePosition, numberFor, cellOrder, acceptedOf, off, entryOf};
-ghost use Rattle.points.specs.Rows.{packedOf, rowsOf, pointOf, rowsClash, Placed};
-ghost use Rattle.points.specs.Table.{Tabled, Accepted};
+ghost use Rattle.points.specs.Records.{pointIn, pointsIn, PointsFit};
+ghost use Rattle.points.specs.Refusals.{offRange, offLimit, samePosition, numberFor, cellOrder, acceptedOf};
+ghost use Rattle.points.specs.Entries.{offBy, keyBy, packedOf, entriesOf, entryPoint, Placed, entriesClash, neighboursClash};
+ghost use Rattle.points.specs.Table.{Tabled, WithinLimits};
 
 // ---- number 6
 
 fn is_off_range(file: &[u8], at: usize) -> bool
     requires { ⌜ at + 20 ≤ length (now file) ⌝ }
-    ensures { λ r. ⌜ r ≡ offRange (pointAt (now (file .entry)) at) ⌝ }
+    ensures { λ r. ⌜ r ≡ offRange (pointIn (now (file .entry)) at) ⌝ }
 {
     if cells::in_range(sheet_file::u32_at(file, at)) {
         return !cells::in_range(sheet_file::u32_at(file, at + 4));
@@ -33,7 +32,7 @@ fn is_off_range(file: &[u8], at: usize) -> bool
 
 fn is_off_limit(file: &[u8], at: usize) -> bool
     requires { ⌜ at + 20 ≤ length (now file) ⌝ }
-    ensures { λ r. ⌜ r ≡ offLimit (pointAt (now (file .entry)) at) ⌝ }
+    ensures { λ r. ⌜ r ≡ offLimit (pointIn (now (file .entry)) at) ⌝ }
 {
     if sheet_file::is_outside(file, at + 12) {
         return true;
@@ -44,7 +43,7 @@ fn is_off_limit(file: &[u8], at: usize) -> bool
 // Whether the point at `at` has the fault of number 7, or of number 6.
 fn is_off(file: &[u8], at: usize, by_limit: bool) -> bool
     requires { ⌜ at + 20 ≤ length (now file) ⌝ }
-    ensures { λ r. ⌜ r ≡ off «by_limit» (pointAt (now (file .entry)) at) ⌝ }
+    ensures { λ r. ⌜ r ≡ offBy «by_limit» (pointIn (now (file .entry)) at) ⌝ }
 {
     if by_limit {
         return is_off_limit(file, at);
@@ -53,8 +52,8 @@ fn is_off(file: &[u8], at: usize, by_limit: bool) -> bool
 }
 
 fn some_off(file: &[u8], at: usize, n: usize, by_limit: bool) -> bool
-    requires { ⌜ Room (now file) at n ⌝ }
-    ensures { λ r. ⌜ r ≡ anyIn (off «by_limit») (pointsIn (now (file .entry)) at n) ⌝ }
+    requires { ⌜ PointsFit (now file) at n ⌝ }
+    ensures { λ r. ⌜ r ≡ anyIn (offBy «by_limit») (pointsIn (now (file .entry)) at n) ⌝ }
 {
     let mut i = 0;
     while i < n {
@@ -69,9 +68,9 @@ fn some_off(file: &[u8], at: usize, n: usize, by_limit: bool) -> bool
 // ---- the points by cell, and by index
 
 // The key of the point at `at`: its index, or its cell's key.
-fn entry_at(file: &[u8], at: usize, by_index: bool) -> u64
+fn key_at(file: &[u8], at: usize, by_index: bool) -> u64
     requires { ⌜ at + 20 ≤ length (now file) ⌝ }
-    ensures { λ r. ⌜ (r ≡ entryOf «by_index» (pointAt (now (file .entry)) at)) × (r < 0x1_0000_0000_0000) ⌝ }
+    ensures { λ r. ⌜ (r ≡ keyBy «by_index» (pointIn (now (file .entry)) at)) × (r < 0x1_0000_0000_0000) ⌝ }
 {
     if by_index {
         return sheet_file::u32_at(file, at + 8) as u64;
@@ -84,22 +83,22 @@ fn entry_at(file: &[u8], at: usize, by_index: bool) -> u64
 
 // The key and the place of each point.
 fn packed(file: &[u8], at: usize, n: usize, by_index: bool) -> [u64; MAX_POINTS]
-    requires { ⌜ Room (now file) at n ⌝ }
+    requires { ⌜ PointsFit (now file) at n ⌝ }
     ensures { λ r. ⌜ r ≡ packedOf (now (file .entry)) at n «by_index» ⌝ }
 {
     let mut out = [0u64; MAX_POINTS];
     let mut i: usize = 0;
     while i < n {
-        out[i] = entry_at(file, at + 20 * i, by_index) * 4096 + (i as u64);
+        out[i] = key_at(file, at + 20 * i, by_index) * 4096 + (i as u64);
         i += 1;
     }
     out
 }
 
 // The same in the order of the key.
-fn rows(file: &[u8], at: usize, n: usize, by_index: bool) -> [u64; MAX_POINTS]
-    requires { ⌜ Room (now file) at n ⌝ }
-    ensures { λ r. ⌜ r ≡ rowsOf (now (file .entry)) at n «by_index» ⌝ }
+fn entries(file: &[u8], at: usize, n: usize, by_index: bool) -> [u64; MAX_POINTS]
+    requires { ⌜ PointsFit (now file) at n ⌝ }
+    ensures { λ r. ⌜ r ≡ entriesOf (now (file .entry)) at n «by_index» ⌝ }
 {
     let mut out = packed(file, at, n, by_index);
     sort::sort(&mut out, n);
@@ -110,7 +109,7 @@ fn rows(file: &[u8], at: usize, n: usize, by_index: bool) -> [u64; MAX_POINTS]
 
 fn same_position(file: &[u8], a: usize, b: usize) -> bool
     requires { ⌜ (a + 20 ≤ length (now file)) × (b + 20 ≤ length (now file)) ⌝ }
-    ensures { λ r. ⌜ r ≡ samePosition (pointAt (now (file .entry)) a) (pointAt (now (file .entry)) b) ⌝ }
+    ensures { λ r. ⌜ r ≡ samePosition (pointIn (now (file .entry)) a) (pointIn (now (file .entry)) b) ⌝ }
 {
     if sheet_file::u32_at(file, a + 12) == sheet_file::u32_at(file, b + 12) {
         return sheet_file::u32_at(file, a + 16) == sheet_file::u32_at(file, b + 16);
@@ -118,10 +117,10 @@ fn same_position(file: &[u8], a: usize, b: usize) -> bool
     false
 }
 
-// Whether two rows have one key and their points may not stand together.
-fn rows_clash(file: &[u8], at: usize, by_index: bool, a: u64, b: u64) -> bool
+// Whether two entries have one key and their points may not stand together.
+fn entries_clash(file: &[u8], at: usize, by_index: bool, a: u64, b: u64) -> bool
     requires { ⌜ (at + 20 * (a % 4096) + 20 ≤ length (now file)) × (at + 20 * (b % 4096) + 20 ≤ length (now file)) ⌝ }
-    ensures { λ r. ⌜ r ≡ rowsClash (now (file .entry)) at «by_index» a b ⌝ }
+    ensures { λ r. ⌜ r ≡ entriesClash (now (file .entry)) at «by_index» a b ⌝ }
 {
     if a / 4096 == b / 4096 {
         if by_index {
@@ -134,15 +133,15 @@ fn rows_clash(file: &[u8], at: usize, by_index: bool, a: u64, b: u64) -> bool
     false
 }
 
-// Whether two neighbouring rows do.
-fn some_clash(file: &[u8], at: usize, n: usize, by_index: bool, rows: &[u64; MAX_POINTS]) -> bool
-    requires { ⌜ Room (now file) at n ⌝ }
-    requires { ⌜ Placed (now rows) n ⌝ }
-    ensures { λ r. ⌜ r ≡ some (λ (i : ℕ). rowsClash (now (file .entry)) at «by_index» (getD (now (rows .entry)) i 0) (getD (now (rows .entry)) (i + 1) 0)) (n - 1) ⌝ }
+// Whether two neighbouring entries do.
+fn some_clash(file: &[u8], at: usize, n: usize, by_index: bool, entries: &[u64; MAX_POINTS]) -> bool
+    requires { ⌜ PointsFit (now file) at n ⌝ }
+    requires { ⌜ Placed (now entries) n ⌝ }
+    ensures { λ r. ⌜ r ≡ neighboursClash (now (file .entry)) at n «by_index» (now (entries .entry)) ⌝ }
 {
     let mut i = 0;
     while i + 1 < n {
-        if rows_clash(file, at, by_index, rows[i], rows[i + 1]) {
+        if entries_clash(file, at, by_index, entries[i], entries[i + 1]) {
             return true;
         }
         i += 1;
@@ -153,30 +152,30 @@ fn some_clash(file: &[u8], at: usize, n: usize, by_index: bool, rows: &[u64; MAX
 // ---- the points in cell order
 
 // The keys of the cells.
-fn keys(rows: &[u64; MAX_POINTS], n: usize) -> [u32; MAX_POINTS]
+fn keys(entries: &[u64; MAX_POINTS], n: usize) -> [u32; MAX_POINTS]
     requires { ⌜ n ≤ maxPoints ⌝ }
-    requires { ⌜ ((k : ℕ) → k < n → getD (now rows) k 0 / 4096 < 0x1_0000_0000) ⌝ }
-    ensures { λ r. ⌜ r ≡ column maxPoints 0 n (λ (k : ℕ). getD (now (rows .entry)) k 0 / 4096) ⌝ }
+    requires { ⌜ ((k : ℕ) → k < n → getD (now entries) k 0 / 4096 < 0x1_0000_0000) ⌝ }
+    ensures { λ r. ⌜ r ≡ column maxPoints 0 n (λ (k : ℕ). getD (now (entries .entry)) k 0 / 4096) ⌝ }
 {
     let mut out = [0u32; MAX_POINTS];
     let mut i: usize = 0;
     while i < n {
-        out[i] = (rows[i] / 4096) as u32;
+        out[i] = (entries[i] / 4096) as u32;
         i += 1;
     }
     out
 }
 
 // The indices.
-fn indices(file: &[u8], at: usize, n: usize, rows: &[u64; MAX_POINTS]) -> [u32; MAX_POINTS]
-    requires { ⌜ Room (now file) at n ⌝ }
-    requires { ⌜ Placed (now rows) n ⌝ }
-    ensures { λ r. ⌜ r ≡ column maxPoints 0 n (λ (k : ℕ). pointOf (now (file .entry)) at (getD (now (rows .entry)) k 0) .index) ⌝ }
+fn indices(file: &[u8], at: usize, n: usize, entries: &[u64; MAX_POINTS]) -> [u32; MAX_POINTS]
+    requires { ⌜ PointsFit (now file) at n ⌝ }
+    requires { ⌜ Placed (now entries) n ⌝ }
+    ensures { λ r. ⌜ r ≡ column maxPoints 0 n (λ (k : ℕ). entryPoint (now (file .entry)) at (getD (now (entries .entry)) k 0) .index) ⌝ }
 {
     let mut out = [0u32; MAX_POINTS];
     let mut i: usize = 0;
     while i < n {
-        let p = (rows[i] % 4096) as usize;
+        let p = (entries[i] % 4096) as usize;
         out[i] = sheet_file::u32_at(file, at + 20 * p + 8);
         i += 1;
     }
@@ -189,18 +188,18 @@ fn coordinates(
     at: usize,
     field: usize,
     n: usize,
-    rows: &[u64; MAX_POINTS],
+    entries: &[u64; MAX_POINTS],
 ) -> [f32; MAX_POINTS]
-    requires { ⌜ Room (now file) at n × (field ≤ 16) ⌝ }
-    requires { ⌜ Placed (now rows) n ⌝ }
+    requires { ⌜ PointsFit (now file) at n × (field ≤ 16) ⌝ }
+    requires { ⌜ Placed (now entries) n ⌝ }
     requires { ⌜ ((i : ℕ) → i < n → outside (floatAt (now file) (at + 20 * i + field)) ≡ false) ⌝ }
-    ensures { λ r. ⌜ r ≡ column maxPoints nan n (λ (k : ℕ). floatAt (now (file .entry)) (at + 20 * (getD (now (rows .entry)) k 0 % 4096) + field)) ⌝ }
+    ensures { λ r. ⌜ r ≡ column maxPoints nan n (λ (k : ℕ). floatAt (now (file .entry)) (at + 20 * (getD (now (entries .entry)) k 0 % 4096) + field)) ⌝ }
 {
     let none: f32 = 0.0 / 0.0;
     let mut out = [none; MAX_POINTS];
     let mut i: usize = 0;
     while i < n {
-        let p = (rows[i] % 4096) as usize;
+        let p = (entries[i] % 4096) as usize;
         out[i] = sheet_file::float_at(file, at + 20 * p + field);
         i += 1;
     }
@@ -230,22 +229,22 @@ pub fn refused(number: u8) -> Table
     }
 }
 
-fn accepted(file: &[u8], at: usize, n: usize, rows: &[u64; MAX_POINTS]) -> Table
-    requires { ⌜ Accepted (now file) at n (now rows) ⌝ }
+fn accepted(file: &[u8], at: usize, n: usize, entries: &[u64; MAX_POINTS]) -> Table
+    requires { ⌜ WithinLimits (now file) at n (now entries) ⌝ }
     ensures { λ r. ⌜ Tabled 0 (cellOrder (pointsIn (now (file .entry)) at n)) r ⌝ }
 {
     Table {
         number: 0,
-        keys: keys(rows, n),
-        idx: indices(file, at, n, rows),
-        x: coordinates(file, at, 12, n, rows),
-        y: coordinates(file, at, 16, n, rows),
+        keys: keys(entries, n),
+        idx: indices(file, at, n, entries),
+        x: coordinates(file, at, 12, n, entries),
+        y: coordinates(file, at, 16, n, entries),
     }
 }
 
 // The n points of a file that begin at `at`.
 pub fn read(file: &[u8], at: usize, n: usize) -> Table
-    requires { ⌜ Room (now file) at n ⌝ }
+    requires { ⌜ PointsFit (now file) at n ⌝ }
     ensures { λ r. ⌜ Tabled (numberFor (pointsIn (now (file .entry)) at n)) (acceptedOf (pointsIn (now (file .entry)) at n)) r ⌝ }
 {
     if some_off(file, at, n, false) {
@@ -254,11 +253,11 @@ pub fn read(file: &[u8], at: usize, n: usize) -> Table
     if some_off(file, at, n, true) {
         return refused(7);
     }
-    let by_cell = rows(file, at, n, false);
+    let by_cell = entries(file, at, n, false);
     if some_clash(file, at, n, false, &by_cell) {
         return refused(8);
     }
-    let by_index = rows(file, at, n, true);
+    let by_index = entries(file, at, n, true);
     if some_clash(file, at, n, true, &by_index) {
         return refused(9);
     }

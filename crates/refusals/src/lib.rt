@@ -1,1 +1,1 @@
-// Ordered lists of refusals, and the laws of the first that holds: see specs/. There is no code here.
+// Ordered lists of refusals (specs/) and the laws of the first that holds (proofs/). There is no code here.

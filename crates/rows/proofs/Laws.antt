@@ -1,6 +1,5 @@
 -- What the code has read and stored, as the definitions have it. Assumes nothing.
 use mathlib.Core.Path.{_≡_, refl, sym, ap, _∙_}
-use mathlib.Core.Bool.{Bool, cond}
 use mathlib.Core.List.{List, [], _∷_, _++_}
 use Prim.Native.Nat.{ℕ, suc, _+_, _*_, _/_, _%_, _≤_, _<_}
 use native.Mathlib.Omega.{arith}
@@ -9,31 +8,23 @@ use native.Mathlib.Nat.{add-zero}
 use lib.ListN.{length, getD, set}
 use lib.Seq.{sets}
 use Rattle.folds.specs.Column.{Filling, fill-more}
+use Rattle.folds.specs.Marked.{bit}
 use mathlib.Core.Option.{Option}
-use lib.Ieee.{Float, nan}
+use lib.Ieee.{Float}
 use Rattle.edge_shape.specs.declared.Measure.{Measure}
 use Rattle.edge_shape.specs.declared.Measure.the-variants.{Absent, Held}
-use Rattle.edge_shape.specs.Given.{Counted}
-use Rattle.edge_shape.specs.declared.Figures.{Figures}
-use Rattle.edge_shape.specs.Figures.{reasonNumber, noFigures}
-use Rattle.rows.specs.Rows.{littleEndian, bitsOf, isPresent, cosineOf, ratioOf, residualOf, floatsOf, presence, Shown, rowOf, shownAt, rowByte}
+use Rattle.edge_shape.specs.Figures.{reasonNumber}
+use Rattle.rows.specs.Rows.{littleEndian, bitsOf, isPresent, cosineOf, ratioOf, floatsOf, presence, rowOf, rowSize, rowByte}
+use Rattle.judged.specs.Shown.{Shown}
 
 -- a measure has both floats or none
 both : (m : Measure) → isPresent (ratioOf m) ≡ isPresent (cosineOf m)
 both Absent = refl
 both (Held c q) = refl
 
-pub presence-is : (x : Option Float) (m o : Measure) {a b c : ℕ} → Counted (isPresent x) a → Counted (isPresent (cosineOf m)) b → Counted (isPresent (cosineOf o)) c
+pub presence-is : (x : Option Float) (m o : Measure) {a b c : ℕ} → a ≡ bit (isPresent x) → b ≡ bit (isPresent (cosineOf m)) → c ≡ bit (isPresent (cosineOf o))
     → a + 6 * b + 24 * c ≡ presence (floatsOf x m o)
-presence-is x m o r s t = rw (both m, both o) (omega (arith, r .is, s .is, t .is))
-
--- what the row of rank k shows, from what the code has read
-pub shown-is : (marks has : List ℕ) (value : List Float) (gated : Bool) (byIdx : List ℕ) (figures : List Figures) (boundary : List ℕ) (k : ℕ) {r b : ℕ} {f : Figures}
-    → r ≡ getD byIdx k 0 → f ≡ cond gated (getD figures r noFigures) noFigures → b ≡ cond gated (getD boundary r 0) 0
-    → _≡_ {A = Shown} (record { marks = getD marks k 0; residual = residualOf (getD has k 0) (getD value k nan); figures = f; boundary = b })
-    (shownAt marks has value gated byIdx figures boundary k)
-unfolding shownAt
-shown-is marks has value gated byIdx figures boundary k er ef eb = rw (← er, ← ef, ← eb)
+presence-is x m o r s t = rw (both m, both o) (omega arith)
 
 -- ---- a row put into the rows
 
@@ -82,21 +73,21 @@ fill-sets l₀ f i l (a ∷ s) h e r =
     let more : Filling l₀ 0 f (suc i) _ = rw (add-one i) at (fill-more l₀ 0 f a (omega arith) (e 0 (omega arith) ∙ ap f z) r) in
     rw w (fill-sets l₀ f (suc i) _ s (omega arith) (λ j g. let v : i + suc j ≡ suc i + j = omega arith in e (suc j) (omega arith) ∙ ap f v) more)
 
-pub row-length : (s : Shown) → length (rowOf s) ≡ 28
+pub row-length : (s : Shown) → length (rowOf s) ≡ rowSize
 unfolding rowOf
 row-length s = refl
 
-pub row-byte : (shown : ℕ → Shown) (k j : ℕ) → j < 28 → rowByte shown (28 * k + j) ≡ getD (rowOf (shown k)) j 0
+pub row-byte : (shown : ℕ → Shown) (k j : ℕ) → j < rowSize → rowByte shown (rowSize * k + j) ≡ getD (rowOf (shown k)) j 0
 unfolding rowByte
 row-byte shown k j h =
-    let d : (28 * k + j) / 28 ≡ k = omega arith in
-    let m : (28 * k + j) % 28 ≡ j = omega arith in
+    let d : (rowSize * k + j) / rowSize ≡ k = omega arith in
+    let m : (rowSize * k + j) % rowSize ≡ j = omega arith in
     rw (d, m)
 
 -- one row more
-pub fill-row : (l₀ : List ℕ) (shown : ℕ → Shown) (k : ℕ) {s : Shown} {l m : List ℕ} → s ≡ shown k → m ≡ sets l (28 * k) (rowOf s) → 28 * k + 28 ≤ length l₀
-    → Filling l₀ 0 (rowByte shown) (28 * k) l → Filling l₀ 0 (rowByte shown) (28 * (k + 1)) m
+pub fill-row : (l₀ : List ℕ) (shown : ℕ → Shown) (k : ℕ) {s : Shown} {l m : List ℕ} → s ≡ shown k → m ≡ sets l (rowSize * k) (rowOf s) → rowSize * k + rowSize ≤ length l₀
+    → Filling l₀ 0 (rowByte shown) (rowSize * k) l → Filling l₀ 0 (rowByte shown) (rowSize * (k + 1)) m
 fill-row l₀ shown k {s} {l} e q h r =
     let n = row-length (shown k) in
-    let w : 28 * (k + 1) ≡ 28 * k + length (rowOf (shown k)) = omega arith in
-    rw (q, e, w) (fill-sets l₀ (rowByte shown) (28 * k) l (rowOf (shown k)) (omega arith) (λ j g. sym (row-byte shown k j (omega arith))) r)
+    let w : rowSize * (k + 1) ≡ rowSize * k + length (rowOf (shown k)) = omega arith in
+    rw (q, e, w) (fill-sets l₀ (rowByte shown) (rowSize * k) l (rowOf (shown k)) (omega arith) (λ j g. sym (row-byte shown k j (omega arith))) r)

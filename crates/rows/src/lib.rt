@@ -1,19 +1,15 @@
 // Rows: what is shown of each point, 28 bytes in cell order.
 use edge_shape::Figures;
 use edge_shape::Measure;
-use edge_shape::Reason;
-use view::MAX_POINTS;
+use judged::Judged;
 ghost use mathlib.Core.Path.{_≡_};
-ghost use mathlib.Core.Bool.{cond};
 ghost use Prim.Native.Nat.{_+_, _*_, _≤_};
 ghost use lib.ListN.{length};
 ghost use lib.Seq.{sets};
-ghost use Rattle.folds.specs.Column.{overlaid};
 ghost use Rattle.view.specs.View.{maxPoints};
-ghost use Rattle.marks.specs.Arrays.{Ranks};
-ghost use Rattle.edge_shape.specs.Figures.{noFigures};
-ghost use Rattle.edge_shape.specs.Given.{Counted};
-ghost use Rattle.rows.specs.Rows.{littleEndian, bitsOf, isPresent, residualOf, cosineOf, ratioOf, floatsOf, presence, rowOf, shownAt, rowByte};
+ghost use Rattle.folds.specs.Marked.{bit};
+ghost use Rattle.judged.specs.Shown.{residualOf, shownAt};
+ghost use Rattle.rows.specs.Rows.{littleEndian, bitsOf, isPresent, cosineOf, ratioOf, floatsOf, presence, rowOf, rowSize, rowsOver};
 
 // The bytes of a row.
 pub const ROW_SIZE: usize = 28;
@@ -61,7 +57,7 @@ fn ratio_bits(m: Measure) -> u32
 
 // 1 if there is a residual, else 0.
 fn residual_count(has: u8, value: f32) -> u8
-    ensures { λ r. ⌜ Counted (isPresent (residualOf has value)) r ⌝ }
+    ensures { λ r. ⌜ (r ≡ bit (isPresent (residualOf has value))) × (r ≤ 1) ⌝ }
 {
     if has == 1 {
         return 1;
@@ -71,7 +67,7 @@ fn residual_count(has: u8, value: f32) -> u8
 
 // 1 if there are a cosine and a ratio, else 0.
 fn measure_count(m: Measure) -> u8
-    ensures { λ r. ⌜ Counted (isPresent (cosineOf m)) r ⌝ }
+    ensures { λ r. ⌜ (r ≡ bit (isPresent (cosineOf m))) × (r ≤ 1) ⌝ }
 {
     match m {
         Measure::Absent => 0,
@@ -86,36 +82,9 @@ fn present(has: u8, value: f32, continuation: Measure, cells: Measure) -> u8
     residual_count(has, value) + 6 * measure_count(continuation) + 24 * measure_count(cells)
 }
 
-// The figures to show: none without the gate.
-fn gated_figures(gated: bool, f: Figures) -> Figures
-    ensures { λ r. ⌜ r ≡ cond gated f noFigures ⌝ }
-{
-    if gated {
-        return f;
-    }
-    Figures {
-        degree: 0,
-        adjacent: 0,
-        valid: 0,
-        continuation: Measure::Absent,
-        cells: Measure::Absent,
-        reason: Reason::NoReason,
-    }
-}
-
-// The byte to show: zero without the gate.
-fn gated_byte(gated: bool, b: u8) -> u8
-    ensures { λ r. ⌜ r ≡ cond gated b 0 ⌝ }
-{
-    if gated {
-        return b;
-    }
-    0
-}
-
 // Puts the row that shows these into the rows, from a place on.
 fn put_row(marks: u8, has: u8, value: f32, f: Figures, boundary: u8, rows: &mut [u8], at: usize)
-    requires { ⌜ at + 28 ≤ length (now rows) ⌝ }
+    requires { ⌜ at + rowSize ≤ length (now rows) ⌝ }
     ensures { λ r. ⌜ now (rows .exit) ≡ sets (now (rows .entry)) at (rowOf (record { marks = marks; residual = residualOf has value; figures = f; boundary = boundary })) ⌝ }
 {
     let continuation = f.continuation;
@@ -138,28 +107,23 @@ fn put_row(marks: u8, has: u8, value: f32, f: Figures, boundary: u8, rows: &mut 
     put_word(ratio_bits(cells), rows, at + 24);
 }
 
-// Writes the rows of ranks 0 to n - 1. `marks` and `value` are by rank what the index holds, and so is `has`: 1 where there is a residual.
-// `figures` and `boundary` are each rank's own; a row shows those at the rank that `by_idx` names, if the sheet is gated.
-pub fn write_rows(
-    marks: &[u8; MAX_POINTS],
-    has: &[u8; MAX_POINTS],
-    value: &[f32; MAX_POINTS],
-    gated: bool,
-    by_idx: &[u16; MAX_POINTS],
-    figures: [Figures; MAX_POINTS],
-    boundary: &[u8; MAX_POINTS],
-    n: usize,
-    rows: &mut [u8],
-)
-    requires { ⌜ (n ≤ maxPoints) × (28 * n ≤ length (now rows)) × Ranks n (now «by_idx») ⌝ }
-    ensures { λ r. ⌜ now (rows .exit) ≡ overlaid (28 * n) (rowByte (shownAt (now (marks .entry)) (now (has .entry)) (now (value .entry)) gated (now («by_idx» .entry)) figures (now (boundary .entry)))) (now (rows .entry)) ⌝ }
+// Writes the rows of ranks 0 to n - 1 of a judged sheet.
+pub fn write_rows(j: Judged, n: usize, rows: &mut [u8])
+    requires { ⌜ (n ≤ maxPoints) × (rowSize * n ≤ length (now rows)) ⌝ }
+    ensures { λ r. ⌜ now (rows .exit) ≡ rowsOver n (shownAt j) (now (rows .entry)) ⌝ }
 {
     let mut k: usize = 0;
     while k < n {
-        let r = view::wide(by_idx[k]);
-        let f = gated_figures(gated, figures[r]);
-        let b = gated_byte(gated, boundary[r]);
-        put_row(marks[k], has[k], value[k], f, b, rows, ROW_SIZE * k);
+        let f = j.figures[k];
+        put_row(
+            j.marks[k],
+            j.has[k],
+            j.value[k],
+            f,
+            j.boundary[k],
+            rows,
+            ROW_SIZE * k,
+        );
         k += 1;
     }
 }

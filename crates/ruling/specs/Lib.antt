@@ -1,10 +1,6 @@
 pub mod Ruling
-pub mod Bounds
 pub mod Sheet
-pub mod Parts
 pub mod Header
-pub mod Numbered
-pub mod Standing
 pub mod Order
 pub mod Offset
 pub mod Switches

@@ -14,21 +14,21 @@ use Rattle.ruling.specs.Ruling.{Ruling, refused, accepted}
 use Rattle.ruling.specs.declared.Sheet.{Sheet}
 
 -- the number of a ruling; 0 is none
-abbrev pub numberOf : Ruling → ℕ
-numberOf (refused k) = k
-numberOf (accepted w ps) = 0
+abbrev pub numberBy : Ruling → ℕ
+numberBy (refused k) = k
+numberBy (accepted s ps) = 0
 
 -- the settings; of a refused file, the defaults for cell size 0
 abbrev pub settingsBy : Ruling → Settings
 settingsBy (refused k) = defaultsFor zeroF Off
-settingsBy (accepted w ps) = w
+settingsBy (accepted s ps) = s
 
 -- the points in cell order; of a refused file, none
 abbrev pub pointsBy : Ruling → List Point
 pointsBy (refused k) = []
-pointsBy (accepted w ps) = ps
+pointsBy (accepted s ps) = ps
 
 pub record Ruled (x : Ruling) (r : Sheet) : Type 0 where
   pub settings-are : r .settings ≡ settingsBy x
   pub count-is : r .count ≡ length (pointsBy x)
-  pub table-is : Tabled (numberOf x) (pointsBy x) (r .table)
+  pub table-is : Tabled (numberBy x) (pointsBy x) (r .table)

@@ -4,7 +4,7 @@ use sheet_file::EdgeGate;
 use sheet_file::Header;
 use sheet_file::Reading;
 use sheet_file::Settings;
-ghost use Rattle.points.specs.Records.{pointsIn, Room};
+ghost use Rattle.points.specs.Records.{pointsIn, PointsFit};
 ghost use Rattle.points.specs.Table.{Tabled};
 ghost use Rattle.ruling.specs.Ruling.{refused, rulingFor, rulingOf};
 ghost use Rattle.ruling.specs.Sheet.{Ruled};
@@ -29,7 +29,7 @@ fn refused_with(table: Table) -> Sheet
 }
 
 fn read_points(file: &[u8], h: Header) -> Sheet
-    requires { ⌜ Room (now file) (h .points) (h .count) ⌝ }
+    requires { ⌜ PointsFit (now file) (h .points) (h .count) ⌝ }
     ensures { λ r. ⌜ Ruled (rulingFor (h .settings) (pointsIn (now (file .entry)) (h .points) (h .count))) r ⌝ }
 {
     let at = h.points;

@@ -16,16 +16,16 @@ use Rattle.sheet_file.specs.declared.Layout.{Layout}
 abbrev pub Inside : List Float → Type 0
 Inside l = All (λ (x : Float). outside x ≡ false) l
 
-module _ (s : List ℕ) (f : Layout) (h : badFloat s f ≡ false) where
-  parts : (anyIn outside (settingsFloats s (f .full)) ≡ false) × (f .gated && anyIn outside (gateFloats s (gateStart (f .full))) ≡ false)
+module _ (file : List ℕ) (f : Layout) (h : badFloat file f ≡ false) where
+  parts : (anyIn outside (settingsFloats file (f .full)) ≡ false) × (f .gated && anyIn outside (gateFloats file (gateStart (f .full))) ≡ false)
   unfolding badFloat
-  parts = or-none (anyIn outside (settingsFloats s (f .full))) (f .gated && anyIn outside (gateFloats s (gateStart (f .full)))) h
+  parts = or-none (anyIn outside (settingsFloats file (f .full))) (f .gated && anyIn outside (gateFloats file (gateStart (f .full)))) h
 
-  pub settings-inside : Inside (settingsFloats s (f .full))
-  settings-inside = none-in outside (settingsFloats s (f .full)) (parts .0)
+  pub settings-inside : Inside (settingsFloats file (f .full))
+  settings-inside = none-in outside (settingsFloats file (f .full)) (parts .0)
 
-  pub full-inside : f .full ≡ true → Inside (floatAt s 3 ∷ floatAt s 7 ∷ floatAt s 13 ∷ floatAt s 18 ∷ [])
+  pub full-inside : f .full ≡ true → Inside (floatAt file 3 ∷ floatAt file 7 ∷ floatAt file 13 ∷ floatAt file 18 ∷ [])
   full-inside t = rw t at settings-inside
 
-  pub gate-inside : f .gated ≡ true → anyIn outside (gateFloats s (gateStart (f .full))) ≡ false
+  pub gate-inside : f .gated ≡ true → anyIn outside (gateFloats file (gateStart (f .full))) ≡ false
   gate-inside t = rw t at (parts .1)

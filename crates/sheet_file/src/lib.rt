@@ -6,8 +6,8 @@ ghost use Prim.Native.Nat.{_+_, _≤_, _<_};
 ghost use lib.ListN.{length};
 ghost use Rattle.folds.specs.Among.{anyIn};
 ghost use Rattle.sheet_file.specs.Bytes.{le16, le32};
-ghost use Rattle.sheet_file.specs.Limit.{bounded, outside};
-ghost use Rattle.sheet_file.specs.Frame.{fieldAt, pointsFrom, gateFrom, framingOf, gateStart, Held};
+ghost use Rattle.sheet_file.specs.Limit.{outside};
+ghost use Rattle.sheet_file.specs.Frame.{fieldAt, endFrom, pointsFrom, gateFrom, framingOf, gateStart, Held};
 ghost use Rattle.sheet_file.specs.Refusals.{floatAt, defaultsFor, gateIn, edgeShapeOf, settingsOf, noFlag, badFlag, settingsFloats, gateFloats, badFloat, readingIn, readingOf};
 
 // ---- numbers in the file
@@ -43,19 +43,13 @@ pub fn u32_at(file: &[u8], at: usize) -> u32
         + 16777216 * wide(file[at + 3])
 }
 
-// Whether the pattern is that of a float which is finite and at most 16,384 in magnitude.
-pub fn is_bounded(bits: u32) -> bool
-    ensures { λ r. ⌜ r ≡ bounded bits ⌝ }
-{
-    bits % 0x8000_0000 <= 0x4680_0000
-}
-
-// Whether the float in the four bytes from `at` on is not finite or exceeds 16,384 in magnitude.
+// Whether the float in the four bytes from `at` on is not finite or exceeds 16,384 in magnitude. The highest bit of a pattern is the
+// sign, and 0x46800000 is the pattern of 16,384.
 pub fn is_outside(file: &[u8], at: usize) -> bool
     requires { ⌜ at + 4 ≤ length (now file) ⌝ }
     ensures { λ r. ⌜ r ≡ outside (floatAt (now (file .entry)) at) ⌝ }
 {
-    !is_bounded(u32_at(file, at))
+    0x4680_0000 < u32_at(file, at) % 0x8000_0000
 }
 
 // The f32 in the four bytes from `at` on, which is finite and at most 16,384 in magnitude.
@@ -159,7 +153,17 @@ fn field_at(file: &[u8], at: usize, tag: u8, len: usize) -> bool
     false
 }
 
-// Tag 3 from `at` to the end of the file.
+// The end of the file, which the last field must reach: it ends at `at`.
+fn end_from(file: &[u8], at: usize, f: Layout) -> Framing
+    ensures { λ r. ⌜ r ≡ endFrom (now (file .entry)) at f ⌝ }
+{
+    if at == file.len() {
+        return Framing::Framed(f);
+    }
+    Framing::Misframed
+}
+
+// Tag 3, whose length stands in its own two bytes, and then the end of the file.
 fn points_from(file: &[u8], at: usize, full: bool, gated: bool) -> Framing
     requires { ⌜ at ≤ length (now file) ⌝ }
     ensures { λ r. ⌜ r ≡ pointsFrom (now (file .entry)) at full gated ⌝ }
@@ -167,15 +171,16 @@ fn points_from(file: &[u8], at: usize, full: bool, gated: bool) -> Framing
     if file.len() - at < 3 {
         return Framing::Misframed;
     }
-    let n = file.len() - (at + 3);
+    let n = view::wide(u16_at(file, at + 1));
     if field_at(file, at, 3, n) {
         if n % 20 == 0 {
-            return Framing::Framed(Layout {
+            let f = Layout {
                 full,
                 gated,
                 points: at + 3,
                 count: n / 20,
-            });
+            };
+            return end_from(file, at + 3 + n, f);
         }
         return Framing::Misframed;
     }

@@ -8,7 +8,7 @@ use Rattle.view.specs.View.{maxPoints}
 use Rattle.sheet_file.specs.Bytes.{Bytes}
 use Rattle.ruling.specs.Ruling.{Ruling, refused, accepted, rulingOf}
 use Rattle.ruling.specs.Sheet.{Ruled}
-use Rattle.ruling.specs.Standing.{accepted-order}
+use Rattle.ruling.proofs.Standing.{accepted-order}
 use Rattle.ruling.specs.declared.Sheet.{Sheet}
 use Rattle.cells.specs.Points.{keysOf}
 use Rattle.grid.specs.Views.{viewOf}

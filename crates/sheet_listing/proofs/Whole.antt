@@ -17,8 +17,9 @@ use Rattle.cells.proofs.Keys.{key-small}
 use Rattle.grid.specs.Views.{viewOf}
 use Rattle.sheet_file.specs.Bytes.{Bytes}
 use Rattle.sheet_file.specs.declared.Settings.{Settings}
-use Rattle.ruling.specs.Ruling.{Ruling, refused, accepted, rulingOf, is-given}
-use Rattle.ruling.specs.Standing.{sound, accepted-order}
+use Rattle.ruling.specs.Ruling.{Ruling, refused, accepted, rulingOf}
+use Rattle.ruling.proofs.Given.{is-given}
+use Rattle.ruling.proofs.Standing.{sound, accepted-order}
 use Rattle.kept.specs.Answer.{rowsAfter}
 use Rattle.kept.specs.Marks.{countIn}
 use Rattle.kept.specs.Patch.{roots, count-on, count-off}

@@ -8,8 +8,8 @@ use lib.Dec.{leb}
 use lib.ListN.{length, take}
 use borrow.Author.Tests.{leb-true}
 use Rattle.sheet_file.specs.Bytes.{Bytes}
-use Rattle.sheet_file.specs.Longest.{longest}
-use Rattle.ruling.specs.Bounds.{cut-ruling}
+use Rattle.sheet_file.specs.Grammar.{longest}
+use Rattle.ruling.proofs.Bounds.{cut-ruling}
 use Rattle.kept.specs.Answer.{rowsAfter}
 use Rattle.text.specs.Answer.{Shows}
 use Rattle.text.specs.declared.Written.{Written}

@@ -4,7 +4,7 @@ use text::Written;
 use view::MAX_POINTS;
 ghost use mathlib.Core.Path.{_≡_};
 ghost use Prim.Native.Nat.{_+_};
-ghost use Rattle.sheet_file.specs.Longest.{longest};
+ghost use Rattle.sheet_file.specs.Grammar.{longest};
 ghost use Rattle.text.specs.Answer.{Shows};
 ghost use Rattle.sheet_listing.specs.Text.{textOf};
 

@@ -1,17 +1,14 @@
 -- The local step of an index and its scale: the formulas of `local_step_per_corner` in step.rs and of `scale_at` in mod.rs, with their
 -- operations in their order. Assumes nothing.
 use mathlib.Core.Bool.{Bool, cond, _&&_}
-use mathlib.Core.List.{List, []}
-use mathlib.Core.Path.{_≡_, refl}
 use Prim.Native.Nat.{ℕ}
-use lib.ListN.{getD}
 use lib.Dec.{eqb}
 use lib.Ieee.{Float, ofBits, lt, add, sub, mul}
 use lib.Ieee.Scale.{finite}
 use Rattle.float.specs.Constants.{zero, half}
 use Rattle.float.specs.Scalar.{normOf}
 use Rattle.folds.specs.Arith.{_⊕_, _⊖_, _⊗_}
-use Rattle.view.specs.View.{View, viewAt, rankAt, present, nextU, prevU, nextV, prevV}
+use Rattle.view.specs.View.{View, rankAt, present, nextU, prevU, nextV, prevV}
 use Rattle.step.specs.declared.Step.{Step}
 use Rattle.step.specs.declared.Step.the-variants.{Of, Absent}
 
@@ -54,11 +51,6 @@ stepAt w aware m = cond (aware && eqb (w .byIdx m) m) (localStep w m) zero
 
 -- "Scale is the cell size, or with the step flag the local step where it is finite and positive": the scale of rank k's index, where
 -- `steps` has the steps of the indices at their places
-unfoldable pub scaleAt : (ℕ → ℕ) → (ℕ → Float) → Float → ℕ → Float
+unfoldable pub scaleAt : View → (ℕ → Float) → Float → ℕ → Float
 unfolding lt ofBits
-scaleAt byIdx steps cell k = let s = steps (byIdx k) in cond (lt zero s) s cell
-
--- neither the lines nor the indices count for the local step
-pub step-of : (n : ℕ) (near row column byIdx : List ℕ) (xs ys : List Float) (aware : Bool) (m : ℕ) → stepAt (viewAt n near row column byIdx xs ys) aware m ≡ cond (aware && eqb (getD byIdx m 0) m) (localStep (viewAt n near [] [] [] xs ys) m) zero
-unfolding stepAt
-step-of n near row column byIdx xs ys aware m = refl
+scaleAt w steps size k = let s = steps (w .byIdx k) in cond (lt zero s) s size

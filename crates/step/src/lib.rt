@@ -4,19 +4,18 @@ ghost use mathlib.Core.Bool.{_&&_};
 ghost use mathlib.Core.List.{List, []};
 ghost use Prim.Native.Nat.{ℕ, _≤_, _<_};
 ghost use lib.ListN.{getD};
-ghost use lib.Ieee.{nan, lt};
+ghost use lib.Ieee.{Float, nan, lt};
 ghost use lib.Ieee.Scale.{finite};
 ghost use Rattle.float.specs.Constants.{zero};
 ghost use Rattle.folds.specs.Below.{tally};
 ghost use Rattle.folds.specs.Column.{column};
 ghost use Rattle.folds.specs.Marked.{bit};
-ghost use Rattle.view.specs.View.{maxPoints, viewAt};
+ghost use Rattle.view.specs.View.{maxPoints, viewAt, Ranked};
 ghost use Rattle.step.specs.Step.{between, axisStep, meanStep, keptStep, localStep, stepAt, scaleAt};
 ghost use Rattle.step.specs.Deviation.{isOutside, deviates};
 use view::MAX_POINTS;
-use view::NEAR_SIZE;
+use view::RANKS_SIZE;
 use view::rank_at;
-use view::wide;
 
 // A step, or none.
 pub enum Step {
@@ -34,7 +33,7 @@ fn between(x: &[f32; MAX_POINTS], y: &[f32; MAX_POINTS], p: usize, q: usize) -> 
 
 // The step of rank m along the axis with the neighbours at the two offsets.
 fn axis_step(
-    near: &[u16; NEAR_SIZE],
+    ranks: &[u16; RANKS_SIZE],
     x: &[f32; MAX_POINTS],
     y: &[f32; MAX_POINTS],
     n: usize,
@@ -43,10 +42,10 @@ fn axis_step(
     after: usize,
 ) -> Step
     requires { ⌜ (n ≤ maxPoints) × (m < maxPoints) × (before < 25) × (after < 25) ⌝ }
-    ensures { λ r. ⌜ r ≡ axisStep (viewAt n (now (near .entry)) [] [] [] (now (x .entry)) (now (y .entry))) before after m ⌝ }
+    ensures { λ r. ⌜ r ≡ axisStep (viewAt n (now (ranks .entry)) (now (x .entry)) (now (y .entry))) before after m ⌝ }
 {
-    let l = rank_at(near, m, before);
-    let r = rank_at(near, m, after);
+    let l = rank_at(ranks, m, before);
+    let r = rank_at(ranks, m, after);
     if l < n {
         if r < n {
             return Step::Of(between(x, y, l, r) * 0.5);
@@ -91,24 +90,23 @@ fn kept_step(a: Step) -> f32
 }
 
 fn local_step(
-    near: &[u16; NEAR_SIZE],
+    ranks: &[u16; RANKS_SIZE],
     x: &[f32; MAX_POINTS],
     y: &[f32; MAX_POINTS],
     n: usize,
     m: usize,
 ) -> f32
     requires { ⌜ (n ≤ maxPoints) × (m < maxPoints) ⌝ }
-    ensures { λ r. ⌜ r ≡ localStep (viewAt n (now (near .entry)) [] [] [] (now (x .entry)) (now (y .entry))) m ⌝ }
+    ensures { λ r. ⌜ r ≡ localStep (viewAt n (now (ranks .entry)) (now (x .entry)) (now (y .entry))) m ⌝ }
 {
-    let u = axis_step(near, x, y, n, m, 7, 17);
-    let v = axis_step(near, x, y, n, m, 11, 13);
+    let u = axis_step(ranks, x, y, n, m, view::PREV_U, view::NEXT_U);
+    let v = axis_step(ranks, x, y, n, m, view::PREV_V, view::NEXT_V);
     kept_step(mean_step(u, v))
 }
 
 // The step at place m, or 0.
 fn step_at(
-    near: &[u16; NEAR_SIZE],
-    by_idx: &[u16; MAX_POINTS],
+    ranks: &[u16; RANKS_SIZE],
     x: &[f32; MAX_POINTS],
     y: &[f32; MAX_POINTS],
     n: usize,
@@ -116,11 +114,11 @@ fn step_at(
     m: usize,
 ) -> f32
     requires { ⌜ (n ≤ maxPoints) × (m < maxPoints) ⌝ }
-    ensures { λ r. ⌜ r ≡ stepAt (viewAt n (now (near .entry)) [] [] (now («by_idx» .entry)) (now (x .entry)) (now (y .entry))) aware m ⌝ }
+    ensures { λ r. ⌜ r ≡ stepAt (viewAt n (now (ranks .entry)) (now (x .entry)) (now (y .entry))) aware m ⌝ }
 {
     if aware {
-        if wide(by_idx[m]) == m {
-            return local_step(near, x, y, n, m);
+        if view::index_of(ranks, m) == m {
+            return local_step(ranks, x, y, n, m);
         }
     }
     0.0
@@ -128,50 +126,55 @@ fn step_at(
 
 // The step of each index, at the last of its ranks; 0 where there is none, and everywhere without the step flag.
 pub fn steps(
-    near: &[u16; NEAR_SIZE],
-    by_idx: &[u16; MAX_POINTS],
+    ranks: &[u16; RANKS_SIZE],
     x: &[f32; MAX_POINTS],
     y: &[f32; MAX_POINTS],
     n: usize,
     aware: bool,
 ) -> [f32; MAX_POINTS]
     requires { ⌜ n ≤ maxPoints ⌝ }
-    ensures { λ r. ⌜ ((row col : List ℕ) → r ≡ column maxPoints nan n (stepAt (viewAt n (now (near .entry)) row col (now («by_idx» .entry)) (now (x .entry)) (now (y .entry))) aware)) ⌝ }
+    ensures { λ r. ⌜ r ≡ column maxPoints nan n (stepAt (viewAt n (now (ranks .entry)) (now (x .entry)) (now (y .entry))) aware) ⌝ }
 {
     let none: f32 = 0.0 / 0.0;
     let mut out = [none; MAX_POINTS];
     let mut m: usize = 0;
     while m < n {
-        out[m] = step_at(near, by_idx, x, y, n, aware, m);
+        out[m] = step_at(ranks, x, y, n, aware, m);
         m += 1;
     }
     out
 }
 
 // The scale of rank k's index, from the steps of the indices.
-fn scale_at(by_idx: &[u16; MAX_POINTS], steps: &[f32; MAX_POINTS], cell: f32, k: usize) -> f32
-    requires { ⌜ (k < maxPoints) × (getD (now «by_idx») k 0 < maxPoints) ⌝ }
-    ensures { λ r. ⌜ r ≡ scaleAt (λ (j : ℕ). getD (now («by_idx» .entry)) j 0) (λ (m : ℕ). getD (now (steps .entry)) m nan) cell k ⌝ }
-{
-    let s = steps[wide(by_idx[k])];
-    if 0.0 < s { s } else { cell }
-}
-
-// The scale of each rank's index.
-pub fn scales(
-    by_idx: &[u16; MAX_POINTS],
+fn scale_at(
+    ranks: &[u16; RANKS_SIZE],
     steps: &[f32; MAX_POINTS],
     n: usize,
-    cell: f32,
+    size: f32,
+    k: usize,
+) -> f32
+    requires { ⌜ Ranked n (now ranks) × (k < n) ⌝ }
+    ensures { λ r. ⌜ r ≡ scaleAt (viewAt n (now (ranks .entry)) [] []) (λ (m : ℕ). getD (now (steps .entry)) m nan) size k ⌝ }
+{
+    let s = steps[view::index_of(ranks, k)];
+    if 0.0 < s { s } else { size }
+}
+
+// The scale of each rank's index; `size` is the cell size.
+pub fn scales(
+    ranks: &[u16; RANKS_SIZE],
+    steps: &[f32; MAX_POINTS],
+    n: usize,
+    size: f32,
 ) -> [f32; MAX_POINTS]
-    requires { ⌜ (n ≤ maxPoints) × ((k : ℕ) → k < n → getD (now «by_idx») k 0 < maxPoints) ⌝ }
-    ensures { λ r. ⌜ r ≡ column maxPoints nan n (scaleAt (λ (j : ℕ). getD (now («by_idx» .entry)) j 0) (λ (m : ℕ). getD (now (steps .entry)) m nan) cell) ⌝ }
+    requires { ⌜ Ranked n (now ranks) ⌝ }
+    ensures { λ r. ⌜ ((xs ys : List Float) → r ≡ column maxPoints nan n (scaleAt (viewAt n (now (ranks .entry)) xs ys) (λ (m : ℕ). getD (now (steps .entry)) m nan) size)) ⌝ }
 {
     let none: f32 = 0.0 / 0.0;
     let mut out = [none; MAX_POINTS];
     let mut k: usize = 0;
     while k < n {
-        out[k] = scale_at(by_idx, steps, cell, k);
+        out[k] = scale_at(ranks, steps, n, size, k);
         k += 1;
     }
     out

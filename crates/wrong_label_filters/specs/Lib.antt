@@ -1,2 +1,2 @@
 pub mod WrongLabel
-pub mod Ready
+pub mod EdgesReady

@@ -7,7 +7,7 @@ outliers-requires : tie.Need-outliers-requires
 outliers-requires c κs = c .pre .few
 
 returns : tie.Need-returns
-returns c = let o = c .before .before .before .before in let s = o .before in let a = s .args in by-rank (a .n) (a .near .now) (a .by-idx .now) (a .flags .now) (a .over .now) (a .high .now) (a .deviates .now) (s .pre .few) (s .pre .ranks) (o .outliers .ensures) (c .before .before .mark-all-blamed .ensures) (c .spread .ensures)
+returns c = let o = c .before .before .before .before in let s = o .before in let a = s .args in by-rank (a .n) (a .ranks .now) (a .flags .now) (a .over .now) (a .high .now) (a .deviates .now) (s .pre) (o .outliers .ensures) (c .before .before .mark-all-blamed .ensures) (c .spread .ensures)
 
 pub marks-spec : {M : Type 1} → statement M
 marks-spec =

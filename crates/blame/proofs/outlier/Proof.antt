@@ -1,4 +1,4 @@
-use Rattle.blame.specs.Marks.{isSet}
+use Rattle.marks.specs.Marks.{isSet}
 use lib.ListN.{getD}
 use Rattle.blame.proofs.Blamed.{no-flag, two-flags, one-flag}
 use Rattle.folds.specs.Marked.{bit}

@@ -12,11 +12,15 @@ sweep-requires c κs = let p = c .before .before .before .before .pre in sweepab
 
 returns : tie.Need-returns
 unfolding limitOf
-returns c = let p = c .before .before .before .before .before in marked-as _ _ (λ m l. swept _ (p .args .x .now) (p .args .y .now) (p .args .n) (p .pre .0) (c .before .before .before .order-of .ensures) (p .pre .2) (p .args .cell) m (c .before .before .before .before .if1 .taken)) (c .sweep .ensures)
+returns c =
+    let o = c .before .before .before in
+    let p = o .before .before in
+    let g = p .args in
+    λ ranks. marked-as _ _ (λ m l. swept _ (g .x .now) (g .y .now) (g .n) (p .pre .0) (o .order-of .ensures) (p .pre .2) ranks (g .cell) m (o .before .if1 .taken)) (c .sweep .ensures)
 
 returns-2 : tie.Need-returns-2
 unfolding closeMark
-returns-2 c = marked-none _ _ (λ m. rw (c .if1 .left) (and-false (ltb m (c .before .args .n))))
+returns-2 c = λ ranks. marked-none _ _ (λ m. rw (c .if1 .left) (and-false (ltb m (c .before .args .n))))
 
 pub mark-close-spec : {M : Type 1} → statement M
 mark-close-spec =

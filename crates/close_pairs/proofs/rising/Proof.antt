@@ -1,5 +1,5 @@
-use Rattle.median.specs.Bits.{bits-top, no-nan}
-use Rattle.median.specs.Order.{above-zero}
+use Rattle.float.proofs.Bits.{bits-top, above-no-nan}
+use Rattle.float.proofs.Order.{above-zero}
 use Rattle.close_pairs.specs.Keys.{risingOf}
 use Rattle.close_pairs.proofs.KeyOrder.{below-zero}
 use lib.Dec.{T}
@@ -21,7 +21,7 @@ down-top : (c : tie.Then2) → toBits binary32 (neg (c .before .before .args .x)
 down-top c = bits-top (neg (c .before .before .args .x)) (below-zero (c .before .before .args .x) (c .if2 .taken)) (neg-fits binary32 (c .before .before .args .x) (f32-is (c .before .before)))
 
 float-to-bits-result : tie.Need-float-to-bits-result
-float-to-bits-result c = no-nan (c .before .args .x) (above-zero (c .before .args .x) (c .if1 .taken))
+float-to-bits-result c = above-no-nan (c .before .args .x) (above-zero (c .before .args .x) (c .if1 .taken))
 
 cast-result : tie.Need-cast-result
 cast-result c = omega (arith, up-top c)
@@ -34,7 +34,7 @@ unfolding risingOf
 returns c = record { is = rw (c .if1 .taken); small = omega (arith, up-top c); number = record { is-finite = c .before .pre; is-f32 = f32-is (c .before) } }
 
 float-to-bits-result-2 : tie.Need-float-to-bits-result-2
-float-to-bits-result-2 c = no-nan (neg (c .before .before .args .x)) (below-zero (c .before .before .args .x) (c .if2 .taken))
+float-to-bits-result-2 c = above-no-nan (neg (c .before .before .args .x)) (below-zero (c .before .before .args .x) (c .if2 .taken))
 
 cast-result-2 : tie.Need-cast-result-2
 cast-result-2 c = omega (arith, down-top c)

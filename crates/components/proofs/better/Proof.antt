@@ -1,6 +1,5 @@
 -- `components::better` meets its contract. Assumes nothing.
 use mathlib.Core.Path.{refl}
-use Prim.Native.Nat.{_-_}
 use borrow.Author.Tests.{lt-ltb, le-ltb}
 use Rattle.components.proofs.better.Statement.{statement}
 use Rattle.components.proofs.better.Tie as tie

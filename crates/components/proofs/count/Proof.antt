@@ -4,14 +4,14 @@ use Prim.Native.Nat.{ℕ, _-_, _≤_, zero-le}
 use native.Mathlib.Omega.{arith}
 use borrow.Author.Needs.{needs}
 use lib.Dec.{eqb}
+use lib.ListN.{getD}
 use Rattle.folds.specs.Below.{tally, tally-none, tally-le, tally-turn}
-use Rattle.patches.specs.Patches.{at}
-use Rattle.components.specs.Components.{countOf}
+use Rattle.components.specs.Components.{patchCount}
 use Rattle.components.proofs.count.Statement.{statement}
 use Rattle.components.proofs.count.Tie as tie
 
 abbrev Inv-loop : tie.InvT-loop
-Inv-loop label n r₀ i₀ r i = (i ≤ n) × (r ≡ tally (λ (k : ℕ). eqb (at label k) k) i)
+Inv-loop label n r₀ i₀ r i = (i ≤ n) × (r ≡ tally (λ (k : ℕ). eqb (getD label k 0) k) i)
 
 abbrev μ-loop : tie.MeasureT-loop
 μ-loop label n r₀ i₀ r i = n - i
@@ -22,7 +22,7 @@ loop-holds c = (zero-le, sym (tally-none _))
 one-more-requires : tie.Need-one-more-requires Inv-loop μ-loop
 one-more-requires c κs =
     let l = c .before .before .before in
-    omega (arith, l .loop .inv .1, tally-le (λ (k : ℕ). eqb (at (l .before .args .label .now) k) k) (l .loop .i))
+    omega (arith, l .loop .inv .1, tally-le (λ (k : ℕ). eqb (getD (l .before .args .label .now) k 0) k) (l .loop .i))
 
 loop-again : tie.Need-loop-again Inv-loop μ-loop
 loop-again c =
@@ -30,7 +30,7 @@ loop-again c =
     (omega arith, tally-turn _ (l .loop .i) (c .one-more .ensures) (ap (λ (v : ℕ). eqb v (l .loop .i)) (c .before .wide .ensures)) (l .loop .inv .1))
 
 returns : tie.Need-returns Inv-loop μ-loop
-unfolding countOf
+unfolding patchCount
 returns c = let e : c .before .loop .i ≡ c .before .before .args .n = omega arith in rw e at (c .before .loop .inv .1)
 
 pub count-spec : {M : Type 1} → statement M

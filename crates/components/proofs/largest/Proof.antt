@@ -4,7 +4,6 @@ use Prim.Native.Nat.{_-_, _≤_, _<_, zero-le}
 use native.Mathlib.Omega.{arith}
 use borrow.Author.Needs.{needs}
 use Rattle.view.specs.View.{maxPoints}
-use Rattle.patches.specs.Patches.{at}
 use Rattle.components.specs.Components.{largestAt}
 use Rattle.components.proofs.Tallies.{largest-none, largest-more, largest-le}
 use Rattle.components.proofs.largest.Statement.{statement}

@@ -1,6 +1,5 @@
 -- `components::other` meets its contract. Assumes nothing.
 use mathlib.Core.Path.{refl}
-use Prim.Native.Nat.{_-_}
 use borrow.Author.Tests.{lt-ltb, le-ltb, eq-eqb, ne-eqb}
 use Rattle.components.proofs.other.Statement.{statement}
 use Rattle.components.proofs.other.Tie as tie

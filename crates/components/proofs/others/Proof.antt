@@ -9,16 +9,15 @@ use lib.ListN.{replicate, length-replicate}
 use Rattle.view.specs.View.{maxPoints}
 use Rattle.folds.specs.Column.{Filling, fill-start, fill-more, filled}
 use Rattle.folds.specs.Marked.{bit}
-use Rattle.patches.specs.Patches.{at}
-use Rattle.components.specs.Components.{isOther, othersBy}
+use Rattle.components.specs.Components.{inOtherPatch, othersBy}
 use Rattle.components.proofs.others.Statement.{statement}
 use Rattle.components.proofs.others.Tie as tie
 
 abbrev Inv-loop : tie.InvT-loop
-Inv-loop label n w out₀ i₀ out i = (i ≤ n) × Filling (replicate maxPoints 0) 0 (λ (k : ℕ). bit (isOther n label w k)) i out
+Inv-loop label n win out₀ i₀ out i = (i ≤ n) × Filling (replicate maxPoints 0) 0 (λ (k : ℕ). bit (inOtherPatch n label win k)) i out
 
 abbrev μ-loop : tie.MeasureT-loop
-μ-loop label n w out₀ i₀ out i = n - i
+μ-loop label n win out₀ i₀ out i = n - i
 
 loop-holds : tie.Need-loop-holds Inv-loop μ-loop
 loop-holds c = (zero-le, fill-start _ _ _)
@@ -27,7 +26,7 @@ loop-again : tie.Need-loop-again Inv-loop μ-loop
 loop-again c =
     let l = c .before .before .before .before in
     let a = l .before .args in
-    (omega arith, fill-more _ _ _ _ (omega (arith, length-replicate {A = ℕ} maxPoints 0)) (c .other .ensures ∙ ap (λ (v : ℕ). bit (ltb v (a .n) && not (eqb v (a .w)))) (c .before .wide .ensures)) (l .loop .inv .1))
+    (omega arith, fill-more _ _ _ _ (omega (arith, length-replicate {A = ℕ} maxPoints 0)) (c .other .ensures ∙ ap (λ (v : ℕ). bit (ltb v (a .n) && not (eqb v (a .win)))) (c .before .wide .ensures)) (l .loop .inv .1))
 
 returns : tie.Need-returns Inv-loop μ-loop
 unfolding othersBy

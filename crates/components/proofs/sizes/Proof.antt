@@ -3,40 +3,44 @@ use mathlib.Core.Path.{_≡_}
 use Prim.Native.Nat.{ℕ, _-_, _≤_, zero-le}
 use native.Mathlib.Omega.{arith}
 use borrow.Author.Needs.{needs}
-use borrow.Author.Tests.{lt-ltb, le-ltb}
-use lib.ListN.{replicate, length-replicate}
+use lib.ListN.{getD, length-replicate}
 use Rattle.folds.specs.Column.{replicate-at}
+use Rattle.folds.specs.Scattered.{oneMore, counted-le}
 use Rattle.view.specs.View.{maxPoints}
-use Rattle.folds.specs.Scattered.{Scattered, oneMore, scattered-none, scattered-put, scattered-skip, counted-le}
-use Rattle.patches.specs.Patches.{at}
-use Rattle.patches.proofs.Gathering.{labelled}
+use Rattle.patches.proofs.Gathering.{AtLabels, labels-none, labels-put, labels-skip}
 use Rattle.components.proofs.Tallies.{sizes-are}
 use Rattle.components.proofs.sizes.Statement.{statement}
 use Rattle.components.proofs.sizes.Tie as tie
 
 abbrev Inv-loop : tie.InvT-loop
-Inv-loop label n size₀ i₀ size i = (i ≤ n) × Scattered 0 (at label) (labelled n label) oneMore (replicate maxPoints 0) i size
+Inv-loop label n size₀ i₀ size i = (i ≤ n) × AtLabels label n oneMore i size
 
 abbrev μ-loop : tie.MeasureT-loop
 μ-loop label n size₀ i₀ size i = n - i
 
 loop-holds : tie.Need-loop-holds Inv-loop μ-loop
-loop-holds c = (zero-le, scattered-none _ _ _ _ _)
+loop-holds c = (zero-le, labels-none (c .args .label .now) (c .args .n) oneMore)
 
 add-size : tie.Need-add-size Inv-loop μ-loop
 add-size c =
     let l = c .before .before .before .before in
-    omega (arith, counted-le (at (l .before .args .label .now)) _ _ (l .loop .i) (c .before .wide .result) _ (omega (arith, length-replicate {A = ℕ} maxPoints 0)) (l .loop .inv .1), replicate-at {A = ℕ} maxPoints 0 (c .before .wide .result))
+    let v = c .before .wide .result in
+    let room = length-replicate {A = ℕ} maxPoints 0 in
+    omega (arith, counted-le (λ (k : ℕ). getD (l .before .args .label .now) k 0) _ _ (l .loop .i) v _ (omega arith) (l .loop .inv .1), replicate-at {A = ℕ} maxPoints 0 v)
 
 loop-again : tie.Need-loop-again Inv-loop μ-loop
 loop-again c =
-    let l = c .before .before .before .before in
-    (omega arith, scattered-put _ _ _ _ _ (l .loop .i) (c .before .wide .result) _ (omega (arith, length-replicate {A = ℕ} maxPoints 0)) (c .before .wide .ensures) (lt-ltb (at (l .before .args .label .now) (l .loop .i)) (l .before .args .n) (omega (arith, c .if1 .taken, c .before .wide .ensures))) (l .loop .inv .1))
+    let w = c .before in
+    let l = w .before .before .before in
+    let a = l .before .args in
+    (omega arith, labels-put (a .label .now) (a .n) oneMore (l .loop .i) (w .wide .result) (l .before .pre) (w .wide .ensures) (c .if1 .taken) (l .loop .inv .1))
 
 loop-again-2 : tie.Need-loop-again-2 Inv-loop μ-loop
 loop-again-2 c =
-    let l = c .before .before .before .before in
-    (omega arith, scattered-skip _ _ _ _ _ (l .loop .i) _ (le-ltb (at (l .before .args .label .now) (l .loop .i)) (l .before .args .n) (omega (arith, c .if1 .left, c .before .wide .ensures))) (l .loop .inv .1))
+    let w = c .before in
+    let l = w .before .before .before in
+    let a = l .before .args in
+    (omega arith, labels-skip (a .label .now) (a .n) oneMore (l .loop .i) (w .wide .result) (w .wide .ensures) (c .if1 .left) (l .loop .inv .1))
 
 returns : tie.Need-returns Inv-loop μ-loop
 returns c =

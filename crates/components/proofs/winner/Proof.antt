@@ -1,6 +1,6 @@
 -- `components::winner` meets its contract. Assumes nothing.
 use mathlib.Core.Path.{ap, _∙_}
-use Prim.Native.Nat.{ℕ, _-_}
+use Prim.Native.Nat.{ℕ}
 use borrow.Author.Needs.{needs}
 use mathlib.Core.List.{List}
 use Rattle.components.specs.Components.{largestAt, winnerOf}

@@ -1,41 +1,47 @@
-use Rattle.edge_shape.specs.Figures.{figuresAt, noFigures}
-use Rattle.edge_shape.specs.Given.{seen}
-use Rattle.view.specs.View.{maxPoints}
+use Rattle.edge_shape.specs.Figures.{figuresAt, noFigures, indexFigures}
+use Rattle.view.specs.View.{View, maxPoints, viewAt}
 use Rattle.folds.specs.Column.{Filling, fill-start, fill-more, filled}
 use lib.ListN.{replicate, length-replicate}
 use mathlib.Core.Path.{_≡_}
 use native.Mathlib.Omega.{arith}
-use Prim.Native.Nat.{_≤_, _-_}
+use Prim.Native.Nat.{ℕ, _≤_, _-_}
 use borrow.Author.Needs.{needs}
 use Rattle.edge_shape.proofs.evaluate_edge_shape.Statement.{statement}
 use Rattle.edge_shape.proofs.evaluate_edge_shape.Tie as tie
 
 abbrev Inv-loop : tie.InvT-loop
-Inv-loop g x y near len-u len-v n out₀ k₀ out k = (k ≤ n) × Filling (replicate maxPoints noFigures) noFigures (figuresAt g (seen n near x y)) k out
+Inv-loop g ranks x y edges n out₀ k₀ out k =
+    let w : View = viewAt n ranks x y in (k ≤ n) × Filling (replicate maxPoints noFigures) noFigures (λ (j : ℕ). figuresAt g w (w .byIdx j)) k out
 
 abbrev μ-loop : tie.MeasureT-loop
-μ-loop g x y near len-u len-v n out₀ k₀ out k = n - k
+μ-loop g ranks x y edges n out₀ k₀ out k = n - k
 
 loop-holds : tie.Need-loop-holds Inv-loop μ-loop
-loop-holds c = (omega arith, fill-start _ _ _)
+loop-holds c = (omega arith, rw (c .no-figures .ensures) (fill-start _ _ _))
+
+index-of-requires : tie.Need-index-of-requires Inv-loop μ-loop
+index-of-requires c κs = omega (arith, c .before .before .before .pre .ranked .few)
 
 figures-at-requires : tie.Need-figures-at-requires Inv-loop μ-loop
-figures-at-requires c κs = (c .before .before .pre, c .loop-test .taken)
+figures-at-requires c κs = let h = c .before .before in let s = h .before .before in
+    (s .pre, rw (c .index-of .ensures) (s .pre .ranked .indices (h .loop .k) (c .before .loop-test .taken)))
 
 mul-out : tie.Need-mul-out Inv-loop μ-loop
-mul-out c = omega (arith, c .before .before .before .pre .few)
+mul-out c = omega (arith, c .before .before .before .before .before .pre .ranked .few)
 
 array-set-from-out : tie.Need-array-set-from-out Inv-loop μ-loop
-array-set-from-out c = omega (arith, c .before .before .before .pre .few)
+array-set-from-out c = omega (arith, c .before .before .before .before .before .pre .ranked .few)
 
 loop-again : tie.Need-loop-again Inv-loop μ-loop
-loop-again c = (omega arith, fill-more _ _ _ _ (rw (length-replicate maxPoints noFigures) (omega (arith, c .before .before .before .pre .few))) (c .figures-at .ensures) (c .before .before .loop .inv .1))
+loop-again c = let h = c .before .before .before in let s = h .before .before in
+    (omega arith, fill-more _ _ _ _ (rw (length-replicate maxPoints noFigures) (omega (arith, s .pre .ranked .few))) (rw (← c .before .index-of .ensures) (c .figures-at .ensures)) (h .loop .inv .1))
 
 returns : tie.Need-returns Inv-loop μ-loop
-returns c = let e : c .before .loop .k ≡ c .before .before .args .n = omega arith in filled _ (c .before .before .pre .few) (rw e at (c .before .loop .inv .1))
+unfolding indexFigures
+returns c = let s = c .before .before .before in let e : c .before .loop .k ≡ s .args .n = omega arith in filled _ (s .pre .ranked .few) (rw e at (c .before .loop .inv .1))
 
 pub evaluate-edge-shape-spec : {M : Type 1} → statement M
 evaluate-edge-shape-spec =
     tie.close
-    (tie.spec Inv-loop μ-loop loop-holds figures-at-requires mul-out array-set-from-out (λ c. search needs) (λ c. search needs) loop-again
-    returns)
+    (tie.spec Inv-loop μ-loop (λ c κs. search needs) loop-holds index-of-requires figures-at-requires mul-out array-set-from-out
+    (λ c. search needs) (λ c. search needs) loop-again returns)

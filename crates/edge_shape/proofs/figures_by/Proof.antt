@@ -1,5 +1,5 @@
 use native.Mathlib.Omega.{arith}
-use Rattle.edge_shape.specs.Given.{figures-by-step}
+use Rattle.edge_shape.proofs.Laws.{figures-by-step}
 use borrow.Author.Needs.{needs}
 use Rattle.edge_shape.proofs.figures_by.Statement.{statement}
 use Rattle.edge_shape.proofs.figures_by.Tie as tie

@@ -1,5 +1,5 @@
 use native.Mathlib.Omega.{arith}
-use Rattle.edge_shape.specs.Given.{reason-step}
+use Rattle.edge_shape.proofs.Laws.{reason-step}
 use borrow.Author.Tests.{lt-ltb, le-ltb, eq-eqb, ne-eqb}
 use borrow.Author.Needs.{needs}
 use Rattle.edge_shape.proofs.first_reason.Statement.{statement}

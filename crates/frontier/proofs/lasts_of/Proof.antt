@@ -1,40 +1,52 @@
-use Prim.Native.Nat.{ℕ, _-_, _≤_, _<_}
+use Prim.Native.Nat.{_-_, _≤_, _<_}
 use mathlib.Core.Path.{_≡_}
+use mathlib.Core.List.{[]}
 use native.Mathlib.Omega.{arith}
-use lib.ListN.{getD, replicate, length-replicate}
-use Rattle.folds.specs.Column.{Filling, fill-start, fill-more, filled}
-use Rattle.view.specs.View.{maxPoints}
-use Rattle.frontier.specs.Lasts.{lastIn, Lasts}
 use borrow.Author.Needs.{needs}
+use Rattle.view.specs.View.{viewAt}
+use Rattle.frontier.specs.Lasts.{lineAt, Lasts}
+use Rattle.frontier.proofs.Laws.{line-below, lasts-none, lasts-more}
 use Rattle.frontier.proofs.lasts_of.Statement.{statement}
 use Rattle.frontier.proofs.lasts_of.Tie as tie
 
 abbrev Inv-loop : tie.InvT-loop
-Inv-loop line n held out₀ k₀ out k = (k ≤ n) × Filling (replicate maxPoints 0) 0 (λ (j : ℕ). lastIn line n (getD line j 0)) k out × Lasts line n held
+Inv-loop ranks n way lasts₀ k₀ lasts k = (k ≤ n) × Lasts (lineAt (viewAt n ranks [] []) way) k lasts
 
 abbrev μ-loop : tie.MeasureT-loop
-μ-loop line n held out₀ k₀ out k = n - k
+μ-loop ranks n way lasts₀ k₀ lasts k = n - k
 
-inside : (c : tie.After-wide Inv-loop μ-loop) → c .wide .result < 2048
-inside c = omega (arith, c .wide .ensures, c .before .before .before .before .before .pre .1 (c .before .before .before .loop .k) (c .before .before .loop-test .taken))
+inside : (c : tie.After-line-of Inv-loop μ-loop) → c .line-of .result < 2048
+inside c =
+    let i = c .before .before .before .before in
+    let a = i .args in
+    omega (arith, c .line-of .ensures, i .pre .few, line-below (a .n) (a .ranks .now) (a .way) (c .before .before .before .loop .k) (i .pre) (c .before .before .loop-test .taken))
 
 loop-holds : tie.Need-loop-holds Inv-loop μ-loop
-loop-holds c = (omega arith, fill-start (replicate maxPoints 0) 0 _, c .held-lasts .ensures)
+loop-holds c = (omega arith, lasts-none _)
 
-mul-out : tie.Need-mul-out Inv-loop μ-loop
-mul-out c = omega (arith, inside c)
+mul-lasts : tie.Need-mul-lasts Inv-loop μ-loop
+mul-lasts c = omega (arith, inside c)
 
-array-read-out : tie.Need-array-read-out Inv-loop μ-loop
-array-read-out c = omega (arith, inside c, c .before .before .before .loop .inv .2 .size)
+array-write-lasts : tie.Need-array-write-lasts Inv-loop μ-loop
+array-write-lasts c = omega (arith, inside c)
 
 loop-again : tie.Need-loop-again Inv-loop μ-loop
-loop-again c = let l = c .before .before .before .loop in (omega arith, fill-more (replicate maxPoints 0) 0 _ _ (omega (arith, length-replicate {A = ℕ} maxPoints 0)) (rw (← c .wide .ensures) (l .inv .2 .at (c .wide .result) (inside c))) (l .inv .1), l .inv .2)
+loop-again c =
+    let l = c .before .before .before .loop in
+    let a = c .before .before .before .before .args in
+    (omega arith, lasts-more (lineAt (viewAt (a .n) (a .ranks .now) [] []) (a .way)) (l .k) _ _ (c .line-of .ensures) (c .before .narrow .ensures) (inside c) (l .inv .1))
 
 returns : tie.Need-returns Inv-loop μ-loop
-returns c = let h : c .before .loop .k ≡ c .before .before .before .args .n = omega arith in filled _ (omega arith) (rw h at (c .before .loop .inv .1))
+returns c = let h : c .before .loop .k ≡ c .before .before .args .n = omega arith in rw h at (c .before .loop .inv .1)
+
+narrow-requires : tie.Need-narrow-requires Inv-loop μ-loop
+narrow-requires c κs = omega (arith, c .before .before .pre .few)
+
+line-of-requires : tie.Need-line-of-requires Inv-loop μ-loop
+line-of-requires c κs = omega (arith, c .before .before .before .pre .few)
 
 pub lasts-of-spec : {M : Type 1} → statement M
 lasts-of-spec =
     tie.close
-    (tie.spec Inv-loop μ-loop (λ c κs. search needs) loop-holds (λ c. search needs) (λ c. search needs) (λ c κs. search needs) mul-out
-    array-read-out (λ c. search needs) (λ c. search needs) (λ c. search needs) (λ c. search needs) loop-again returns)
+    (tie.spec Inv-loop μ-loop loop-holds narrow-requires line-of-requires mul-lasts array-write-lasts (λ c. search needs) (λ c. search needs)
+    loop-again returns)

@@ -1,10 +1,12 @@
-use Rattle.lines.proofs.Walking.{chain-onward, chain-linked}
+use Rattle.lines.proofs.Walking.{line-below, chain-onward, chain-linked}
 use Rattle.lines.proofs.Marking.{Lines, lines-none, lines-more, lines-column}
 use Rattle.folds.specs.Below.{first, first-le}
 use Rattle.folds.specs.Lists.{Gathered}
-use Rattle.lines.specs.Flags.{ruleBy, isOn}
-use Rattle.lines.specs.Lines.{Chained, lineAt}
-use Rattle.view.specs.View.{maxPoints}
+use Rattle.lines.specs.Flags.{ruleBy, lineOf, isOn}
+use Rattle.lines.specs.Lines.{Chained}
+use Rattle.view.specs.View.{maxPoints, viewAt}
+use mathlib.Core.List.{List, []}
+use mathlib.Core.Bool.{Bool}
 use lib.ListN.{length, replicate, length-replicate}
 use native.Mathlib.Omega.{arith}
 use mathlib.Core.Path.{_≡_, refl, sym, _∙_}
@@ -13,22 +15,25 @@ use borrow.Author.Needs.{needs}
 use Rattle.lines.proofs.flagged.Statement.{statement}
 use Rattle.lines.proofs.flagged.Tie as tie
 
+abbrev lineBy : ℕ → List ℕ → Bool → ℕ → ℕ
+lineBy n ranks rows = lineOf (viewAt n ranks [] []) rows
+
 abbrev Inv-loop : tie.InvT-loop
-Inv-loop line x y scale n tolerance minimum head next l₀ out₀ number₀ l out number = (number ≤ n) × Chained n line 0 head next × (length l ≡ maxPoints) × Lines (ruleBy x y scale tolerance) minimum (lineAt line) n number (replicate maxPoints 0) out
+Inv-loop ranks rows x y scale n tolerance minimum head next l₀ out₀ number₀ l out number = (number ≤ n) × Chained n (lineBy n ranks rows) 0 head next × (length l ≡ maxPoints) × Lines (ruleBy x y scale tolerance) minimum (lineBy n ranks rows) n number (replicate maxPoints 0) out
 
 abbrev μ-loop : tie.MeasureT-loop
-μ-loop line x y scale n tolerance minimum head next l₀ out₀ number₀ l out number = n - number
+μ-loop ranks rows x y scale n tolerance minimum head next l₀ out₀ number₀ l out number = n - number
 
 -- the first rank of the line
-from-is : (c : tie.After-wide Inv-loop μ-loop) → let h = c .before .before in c .wide .result ≡ first (isOn (lineAt (h .before .before .before .args .line .now)) (h .loop .number)) 0 (h .before .before .before .args .n)
+from-is : (c : tie.After-wide Inv-loop μ-loop) → let h = c .before .before in let a = h .before .before .before .args in c .wide .result ≡ first (isOn (lineBy (a .n) (a .ranks .now) (a .rows)) (h .loop .number)) 0 (a .n)
 from-is c = let h = c .before .before in c .wide .ensures ∙ h .loop .inv .1 .heads (h .loop .number) (omega (arith, h .before .before .before .pre))
 
 -- the members of the line
-gathered : (c : tie.After-members Inv-loop μ-loop) → let h = c .before .before .before .before .before in let a = h .before .before .before .args in Gathered (isOn (lineAt (a .line .now)) (h .loop .number)) (a .n) (c .members .last .1 .1 .1 .0) (c .members .result)
+gathered : (c : tie.After-members Inv-loop μ-loop) → let h = c .before .before .before .before .before in let a = h .before .before .before .args in Gathered (isOn (lineBy (a .n) (a .ranks .now) (a .rows)) (h .loop .number)) (a .n) (c .members .last .1 .1 .1 .0) (c .members .result)
 gathered c =
     let h = c .before .before .before .before .before in
     let a = h .before .before .before .args in
-    c .members .ensures .1 (isOn (lineAt (a .line .now)) (h .loop .number)) (chain-linked (a .n) (a .line .now) (h .loop .number) (h .loop .inv .1)) (sym (from-is (c .before .before .before)))
+    c .members .ensures .1 (isOn (lineBy (a .n) (a .ranks .now) (a .rows)) (h .loop .number)) (chain-linked (a .n) (lineBy (a .n) (a .ranks .now) (a .rows)) (h .loop .number) (h .loop .inv .1)) (sym (from-is (c .before .before .before)))
 
 cast-head : tie.Need-cast-head Inv-loop μ-loop
 cast-head c = omega (arith, c .pre .few)
@@ -46,8 +51,8 @@ array-read-wide : tie.Need-array-read-wide Inv-loop μ-loop
 array-read-wide c = omega (arith, c .before .before .before .before .pre .few, c .before .loop .inv .1 .head-size)
 
 members-requires : tie.Need-members-requires Inv-loop μ-loop
-members-requires c κs = let w = c .before .before in let h = w .before .before in let s = h .before .before .before in
-    (s .pre .few, chain-onward (s .args .n) (s .args .line .now) (h .loop .inv .1), rw (from-is w) (first-le (isOn (lineAt (s .args .line .now)) (h .loop .number)) 0 (s .args .n) (omega arith)), h .loop .inv .2)
+members-requires c κs = let w = c .before .before in let h = w .before .before in let s = h .before .before .before in let a = s .args in let line = lineBy (a .n) (a .ranks .now) (a .rows) in
+    (s .pre .few, chain-onward (a .n) line (h .loop .inv .1), rw (from-is w) (first-le (isOn line (h .loop .number)) 0 (a .n) (omega arith)), h .loop .inv .2)
 
 mark-flagged-requires : tie.Need-mark-flagged-requires Inv-loop μ-loop
 mark-flagged-requires c κs = let m = c .before .before in let h = m .before .before .before .before .before in let s = h .before .before .before in let g = gathered m in
@@ -59,7 +64,7 @@ loop-again c = let m = c .before .before .before in let h = m .before .before .b
 
 returns : tie.Need-returns Inv-loop μ-loop
 returns c = let h = c .before in let s = h .before .before .before in let e : h .loop .number ≡ s .args .n = omega arith in
-    lines-column _ _ _ _ maxPoints (s .pre .few) (s .pre .ranks) (rw e at (h .loop .inv .3))
+    lines-column _ _ _ _ maxPoints (s .pre .few) (line-below (s .pre) (s .args .rows)) (rw e at (h .loop .inv .3))
 
 pub flagged-spec : {M : Type 1} → statement M
 flagged-spec =

@@ -1,9 +1,9 @@
-use Rattle.lines.specs.Flags.{ruleBy}
-use Rattle.lines.specs.Lines.{lineAt}
+use Rattle.lines.specs.Flags.{ruleBy, lineOf}
 use Rattle.lines.proofs.Marking.{line-counts}
 use Rattle.folds.specs.Column.{replicate-at}
 use Rattle.folds.specs.Scattered.{counted-le}
-use Rattle.view.specs.View.{maxPoints}
+use Rattle.view.specs.View.{maxPoints, viewAt}
+use mathlib.Core.Bool.{true, false}
 use lib.ListN.{length-replicate}
 use native.Mathlib.Omega.{arith}
 use mathlib.Core.Path.{_∙_}
@@ -14,15 +14,17 @@ use Rattle.lines.proofs.line_flags.Tie as tie
 
 count-requires : tie.Need-count-requires
 count-requires c κs = let s = c .before .before .before .before in
-    (s .pre .rows .few, length-replicate {A = ℕ} maxPoints 0, λ m l. omega (arith, replicate-at {A = ℕ} maxPoints 0 m))
+    (s .pre, length-replicate {A = ℕ} maxPoints 0, λ m l. omega (arith, replicate-at {A = ℕ} maxPoints 0 m))
 
 count-requires-2 : tie.Need-count-requires-2
 count-requires-2 c κs = let s = c .before .before .before .before .before .before .before in let d = c .before .before .count .ensures in
-    (s .pre .rows .few, d .size ∙ length-replicate {A = ℕ} maxPoints 0, λ m l. omega (arith, counted-le _ _ _ (s .args .n) m _ (omega (arith, length-replicate {A = ℕ} maxPoints 0)) d, replicate-at {A = ℕ} maxPoints 0 m, s .pre .rows .few))
+    (s .pre, d .size ∙ length-replicate {A = ℕ} maxPoints 0, λ m l. omega (arith, counted-le _ _ _ (s .args .n) m _ (omega (arith, length-replicate {A = ℕ} maxPoints 0)) d, replicate-at {A = ℕ} maxPoints 0 m, s .pre .few))
 
 returns : tie.Need-returns
-returns c near = let f = c .before .before .before .before .before .before in let a = f .before .before .args in
-    line-counts (a .by-idx .now) (ruleBy (a .x .now) (a .y .now) (a .scale .now) (a .tolerance)) (a .minimum) (lineAt (a .row .now)) (lineAt (a .column .now)) maxPoints (a .n) (f .before .before .pre .rows .few) (f .before .flagged .ensures) (f .flagged2 .ensures) (c .before .before .before .count .ensures) (c .count2 .ensures)
+returns c = let f = c .before .before .before .before .before .before in let s = f .before .before in let a = s .args in
+    let w = viewAt (a .n) (a .ranks .now) (a .x .now) (a .y .now) in
+    line-counts (w .byIdx) maxPoints (a .n) (s .pre .few) (s .pre .indices) (ruleBy (a .x .now) (a .y .now) (a .scale .now) (a .tolerance)) (a .minimum) (lineOf w true) (lineOf w false)
+    (f .before .flagged .ensures) (f .flagged2 .ensures) (c .before .before .before .count .ensures) (c .count2 .ensures)
 
 pub line-flags-spec : {M : Type 1} → statement M
 line-flags-spec =

@@ -8,7 +8,11 @@ use Rattle.listing.proofs.put_tally.Tie as tie
 returns : tie.Need-returns
 unfolding tallyText
 returns c =
-    stored-then (stored-then (stored-then (c .before .before .before .before .before .before .before .before .before .before .before .before .before .before .before .put-text .ensures) (c .before .before .before .before .before .before .before .before .before .before .put-decimal .ensures)) (c .before .before .before .before .before .before .put-counts .ensures)) (c .before .before .put-byte .ensures)
+    let d = c .before .before in
+    let b = d .before .before .before .before in
+    let a = b .before .before .before .before in
+    let start = a .before .before .before .before .before in
+    stored-then (stored-then (stored-then (start .put-text .ensures) (a .put-decimal .ensures)) (b .put-counts .ensures)) (d .put-byte .ensures)
 
 pub put-tally-spec : {M : Type 1} → statement M
 put-tally-spec =

@@ -8,7 +8,11 @@ use Rattle.listing.proofs.write_listing.Tie as tie
 returns : tie.Need-returns
 unfolding listingOf
 returns c =
-    shows (stored-then (stored-then (c .before .before .before .before .before .before .before .before .before .before .before .before .before .put-head .ensures) (c .before .before .before .before .before .before .before .before .before .put-lines .ensures)) (rw (c .before .before .before .before .before .before .tally .ensures) at (c .before .before .before .put-tally .ensures))) (c .answer .ensures)
+    let e = c .before .before .before in
+    let counts = e .before .before .before in
+    let b = counts .before .before .before .before .before in
+    let a = b .before .before .before .before in
+    shows (stored-then (stored-then (a .put-head .ensures) (b .put-lines .ensures)) (rw (counts .tally .ensures) at (e .put-tally .ensures))) (c .answer .ensures)
 
 pub write-listing-spec : {M : Type 1} → statement M
 write-listing-spec =

@@ -1,5 +1,5 @@
 use Prim.Native.Nat.{ℕ, _-_, _≤_}
-use mathlib.Core.List.{List, []}
+use mathlib.Core.List.{List}
 use mathlib.Core.Path.{_≡_, _∙_, ap}
 use native.Mathlib.Omega.{arith}
 use lib.ListN.{getD, length-replicate, replicate}
@@ -7,6 +7,7 @@ use lib.Ieee.{Float, nan, div, ofBits}
 use Rattle.folds.specs.Arith.{_⊗_}
 use Rattle.folds.specs.Column.{column, Filling, fill-start, fill-more, filled}
 use Rattle.folds.specs.Marked.{bit}
+use Rattle.cells.specs.Cell.{Cell, cellsAt}
 use Rattle.view.specs.View.{View, viewAt, maxPoints}
 use Rattle.local_h.specs.declared.Residual.{Residual}
 use Rattle.local_h.specs.declared.Residuals.{Residuals}
@@ -17,30 +18,30 @@ use Rattle.local_h.proofs.cell_residuals.Statement.{statement}
 use Rattle.local_h.proofs.cell_residuals.Tie as tie
 
 -- the four columns up to rank k
-record Cells (w : View) (key : ℕ → ℕ) (scale : ℕ → Float) (tolerance : Float) (k : ℕ) (has : List ℕ) (value : List Float) (over high : List ℕ) : Type 0 where
+record CellsUpTo (w : View) (cell : ℕ → Cell) (scale : ℕ → Float) (tolerance : Float) (k : ℕ) (has : List ℕ) (value : List Float) (over high : List ℕ) : Type 0 where
   few : k ≤ w .count
-  hases : Filling (replicate maxPoints 0) 0 (λ (j : ℕ). bit (hasValue (residualAt w key j))) k has
-  values : Filling (replicate maxPoints nan) nan (λ (j : ℕ). valueOf (residualAt w key j)) k value
-  overs : Filling (replicate maxPoints 0) 0 (λ (j : ℕ). bit (overAt w key scale tolerance j)) k over
-  highs : Filling (replicate maxPoints 0) 0 (λ (j : ℕ). bit (highAt w key scale tolerance j)) k high
+  hases : Filling (replicate maxPoints 0) 0 (λ (j : ℕ). bit (hasValue (residualAt w cell j))) k has
+  values : Filling (replicate maxPoints nan) nan (λ (j : ℕ). valueOf (residualAt w cell j)) k value
+  overs : Filling (replicate maxPoints 0) 0 (λ (j : ℕ). bit (overAt w cell scale tolerance j)) k over
+  highs : Filling (replicate maxPoints 0) 0 (λ (j : ℕ). bit (highAt w cell scale tolerance j)) k high
 
-all-of : (w : View) (key : ℕ → ℕ) (scale : ℕ → Float) (tolerance : Float) (k : ℕ) (has : List ℕ) (value : List Float) (over high : List ℕ)
-    → w .count ≤ maxPoints → k ≡ w .count → Cells w key scale tolerance k has value over high
-    → _≡_ {A = Residuals} (record { has = has; value = value; over = over; high = high }) (cellColumns w key scale tolerance)
+all-of : (w : View) (cell : ℕ → Cell) (scale : ℕ → Float) (tolerance : Float) (k : ℕ) (has : List ℕ) (value : List Float) (over high : List ℕ)
+    → w .count ≤ maxPoints → k ≡ w .count → CellsUpTo w cell scale tolerance k has value over high
+    → _≡_ {A = Residuals} (record { has = has; value = value; over = over; high = high }) (cellColumns w cell scale tolerance)
 unfolding cellColumns
-all-of w key scale tolerance k has value over high l e f =
+all-of w cell scale tolerance k has value over high l e f =
     rw (filled (w .count) l (rw e at (f .hases)), filled (w .count) l (rw e at (f .values)), filled (w .count) l (rw e at (f .overs)), filled (w .count) l (rw e at (f .highs)))
 
 abbrev Inv-loop : tie.InvT-loop
-Inv-loop near by-idx keys x y scale n tolerance none has₀ value₀ over₀ high₀ k₀ has value over high k =
-    (row column : List ℕ) → Cells (viewAt n near row column by-idx x y) (λ (j : ℕ). getD keys j 0) (λ (j : ℕ). getD scale j nan) tolerance k has value over high
+Inv-loop ranks keys x y scale n tolerance none has₀ value₀ over₀ high₀ k₀ has value over high k =
+    CellsUpTo (viewAt n ranks x y) (cellsAt keys) (λ (j : ℕ). getD scale j nan) tolerance k has value over high
 
 abbrev μ-loop : tie.MeasureT-loop
-μ-loop near by-idx keys x y scale n tolerance none has₀ value₀ over₀ high₀ k₀ has value over high k = n - k
+μ-loop ranks keys x y scale n tolerance none has₀ value₀ over₀ high₀ k₀ has value over high k = n - k
 
 loop-holds : tie.Need-loop-holds Inv-loop μ-loop
 unfolding div ofBits
-loop-holds c = λ row column. record {
+loop-holds c = record {
   few = omega arith;
   hases = fill-start (replicate maxPoints 0) 0 _;
   values = fill-start (replicate maxPoints nan) nan _;
@@ -49,21 +50,21 @@ loop-holds c = λ row column. record {
 }
 
 loop-again : tie.Need-loop-again Inv-loop μ-loop
-loop-again c = λ row column.
+loop-again c =
     let h = c .before .before .before .before .before in
-    let f = h .before .before .loop .inv row column in
+    let f = h .before .before .loop .inv in
     let n = length-replicate {A = ℕ} maxPoints 0 in
     let m = length-replicate {A = Float} maxPoints nan in
     record {
       few = omega arith;
-      hases = fill-more (replicate maxPoints 0) 0 _ _ (omega arith) (rw (← h .local-h-residual .ensures row column) (c .before .before .before .has-value .ensures)) (f .hases);
-      values = fill-more (replicate maxPoints nan) nan _ _ (omega arith) (rw (← h .local-h-residual .ensures row column) (c .before .before .value-of .ensures)) (f .values);
-      overs = fill-more (replicate maxPoints 0) 0 _ _ (omega arith) (rw (← h .local-h-residual .ensures row column) (c .before .over-tolerance .ensures)) (f .overs);
-      highs = fill-more (replicate maxPoints 0) 0 _ _ (omega arith) (rw (← h .local-h-residual .ensures row column) (c .over-twice .ensures)) (f .highs);
+      hases = fill-more (replicate maxPoints 0) 0 _ _ (omega arith) (rw (← h .local-h-residual .ensures) (c .before .before .before .has-value .ensures)) (f .hases);
+      values = fill-more (replicate maxPoints nan) nan _ _ (omega arith) (rw (← h .local-h-residual .ensures) (c .before .before .value-of .ensures)) (f .values);
+      overs = fill-more (replicate maxPoints 0) 0 _ _ (omega arith) (rw (← h .local-h-residual .ensures) (c .before .over-tolerance .ensures)) (f .overs);
+      highs = fill-more (replicate maxPoints 0) 0 _ _ (omega arith) (rw (← h .local-h-residual .ensures) (c .over-twice .ensures)) (f .highs);
     }
 
 returns : tie.Need-returns Inv-loop μ-loop
-returns c = λ row column. let f = c .before .loop .inv row column in all-of _ _ _ _ _ _ _ _ _ (omega arith) (omega arith) f
+returns c = let f = c .before .loop .inv in all-of _ _ _ _ _ _ _ _ _ (omega arith) (omega arith) f
 
 pub cell-residuals-spec : {M : Type 1} → statement M
 cell-residuals-spec =

@@ -1,16 +1,15 @@
 use mathlib.Core.Path.{_∙_}
-use Prim.Native.Nat.{ℕ}
-use lib.ListN.{getD}
 use native.Mathlib.Omega.{arith}
 use mathlib.Core.List.{[]}
+use Rattle.cells.specs.Cell.{cellsAt}
 use Rattle.view.specs.View.{viewAt}
 use Rattle.local_h.proofs.Bases.{Four, four-of, other-rank, fitted, unfitted}
 use borrow.Author.Needs.{needs}
 use Rattle.local_h.proofs.local_h_residual.Statement.{statement}
 use Rattle.local_h.proofs.local_h_residual.Tie as tie
 
-four : (c : tie.Then1) → let a = c .before .before .before .args in Four (viewAt (a .n) (a .near .now) [] [] (a .by-idx .now) [] []) (a .k) (c .before .before .pick-local-h-base .result)
-four c = four-of _ _ _ (c .before .before .pick-local-h-base .ensures [] [] [] []) (c .if1 .taken)
+four : (c : tie.Then1) → let a = c .before .before .before .args in Four (viewAt (a .n) (a .ranks .now) [] []) (a .k) (c .before .before .pick-local-h-base .result)
+four c = four-of _ _ _ (c .before .before .pick-local-h-base .ensures [] []) (c .if1 .taken)
 
 member-requires : tie.Need-member-requires
 member-requires c κs = let f = four c in (omega arith, omega (arith, f .first-second, f .second-third, f .third-fourth))
@@ -33,16 +32,16 @@ residual-of-requires c κs =
     }
 
 returns : tie.Need-returns
-returns c = λ row column.
+returns c =
     let h = c .before .before .before .before in
     let a = h .before .before .before .before .args in
     c .residual-of .ensures
-    ∙ fitted (a .n) (a .near .now) row column (a .by-idx .now) (a .x .now) (a .y .now) (λ (j : ℕ). getD (a .keys .now) j 0) (a .k) _ (h .before .before .before .pick-local-h-base .ensures row column (a .x .now) (a .y .now)) (h .before .if1 .taken) (h .member .ensures) (c .before .before .before .member2 .ensures) (c .before .before .member3 .ensures) (c .before .member4 .ensures)
+    ∙ fitted (a .n) (a .ranks .now) (a .x .now) (a .y .now) (cellsAt (a .keys .now)) (a .k) _ (h .before .before .before .pick-local-h-base .ensures (a .x .now) (a .y .now)) (h .before .if1 .taken) (h .member .ensures) (c .before .before .before .member2 .ensures) (c .before .before .member3 .ensures) (c .before .member4 .ensures)
 
 returns-2 : tie.Need-returns-2
-returns-2 c = λ row column.
+returns-2 c =
     let a = c .before .before .before .args in
-    unfitted (a .n) (a .near .now) row column (a .by-idx .now) (a .x .now) (a .y .now) (λ (j : ℕ). getD (a .keys .now) j 0) (a .k) _ (c .before .before .pick-local-h-base .ensures row column (a .x .now) (a .y .now)) (c .if1 .left)
+    unfitted (a .n) (a .ranks .now) (a .x .now) (a .y .now) (cellsAt (a .keys .now)) (a .k) _ (c .before .before .pick-local-h-base .ensures (a .x .now) (a .y .now)) (c .if1 .left)
 
 pub local-h-residual-spec : {M : Type 1} → statement M
 local-h-residual-spec =

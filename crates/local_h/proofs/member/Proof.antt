@@ -3,8 +3,8 @@ use Rattle.local_h.proofs.member.Statement.{statement}
 use Rattle.local_h.proofs.member.Tie as tie
 
 returns : tie.Need-returns
-returns c = rw (← c .before .before .offset-at .ensures .0) (c .wide .ensures)
+returns c = rw (← c .before .offset-at .ensures .0) (c .rank-at .ensures)
 
 pub member-spec : {M : Type 1} → statement M
 member-spec = tie.close
-    (tie.spec (λ c. search needs) (λ c κs. search needs) (λ c. search needs) (λ c. search needs) (λ c. search needs) (λ c κs. search needs) returns)
+    (tie.spec (λ c κs. search needs) (λ c κs. search needs) returns)

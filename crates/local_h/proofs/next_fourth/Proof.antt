@@ -9,10 +9,10 @@ use Rattle.local_h.proofs.next_fourth.Statement.{statement}
 use Rattle.local_h.proofs.next_fourth.Tie as tie
 
 abbrev Inv-loop : tie.InvT-loop
-Inv-loop near byIdx n k a b c p₀ p = Searching (isFourth (viewAt n near [] [] byIdx [] []) k a b c) (c + 1) p
+Inv-loop ranks n k a b c p₀ p = Searching (isFourth (viewAt n ranks [] []) k a b c) (c + 1) p
 
 abbrev μ-loop : tie.MeasureT-loop
-μ-loop near byIdx n k a b c p₀ p = 24 - p
+μ-loop ranks n k a b c p₀ p = 24 - p
 
 loop-holds : tie.Need-loop-holds Inv-loop μ-loop
 loop-holds c = search-start _ _

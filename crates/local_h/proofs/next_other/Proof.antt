@@ -9,10 +9,10 @@ use Rattle.local_h.proofs.next_other.Statement.{statement}
 use Rattle.local_h.proofs.next_other.Tie as tie
 
 abbrev Inv-loop : tie.InvT-loop
-Inv-loop near byIdx n k p i₀ i = Searching (isOther (viewAt n near [] [] byIdx [] []) k) p i
+Inv-loop ranks n k p i₀ i = Searching (isOther (viewAt n ranks [] []) k) p i
 
 abbrev μ-loop : tie.MeasureT-loop
-μ-loop near byIdx n k p i₀ i = 24 - i
+μ-loop ranks n k p i₀ i = 24 - i
 
 loop-holds : tie.Need-loop-holds Inv-loop μ-loop
 loop-holds c = search-start _ _

@@ -5,7 +5,7 @@ use Rattle.local_h.proofs.pick_local_h_base.Tie as tie
 
 returns : tie.Need-returns
 unfolding baseOf isOther isFourth
-returns c = λ row column xs ys. rw (c .next-fourth .ensures .is, c .before .next-other3 .ensures .is, c .before .before .next-other2 .ensures .is, c .before .before .before .next-other .ensures .is)
+returns c = λ xs ys. rw (c .next-fourth .ensures .is, c .before .next-other3 .ensures .is, c .before .before .next-other2 .ensures .is, c .before .before .before .next-other .ensures .is)
 
 pub pick-local-h-base-spec : {M : Type 1} → statement M
 pick-local-h-base-spec =

@@ -1,6 +1,7 @@
 use Rattle.median.proofs.Steps.{Ok, value, value-ok}
 use Rattle.median.specs.Packed.{positive, positives}
-use Rattle.median.specs.Bits.{bits-top, below-nan}
+use Rattle.float.proofs.Nan.{no-nan-pattern}
+use Rattle.float.proofs.Bits.{bits-top}
 use Rattle.median.specs.Median.{medianOf}
 use Rattle.folds.specs.Below.{tally-le}
 use Rattle.folds.specs.Lists.{listed-length}
@@ -12,11 +13,12 @@ use Prim.Native.Nat.{_/_, _≤_}
 use mathlib.Core.List.{List, [], _∷_}
 use mathlib.Core.Path.{_≡_, refl, sym, ap, _∙_}
 use Rattle.sort.specs.Sorted.{sort}
+use Rattle.view.specs.View.{maxPoints}
 use borrow.Author.Needs.{needs}
 use Rattle.median.proofs.middle.Statement.{statement}
 use Rattle.median.proofs.middle.Tie as tie
 
-few : (c : tie.After-pack) → c .pack .result ≤ 2048
+few : (c : tie.After-pack) → c .pack .result ≤ maxPoints
 few c = omega (arith, c .pack .ensures .count, tally-le (positive (c .before .before .args .v .now)) (c .before .before .args .n))
 
 module _ (c : tie.After-sort) where
@@ -49,7 +51,9 @@ narrow-requires : tie.Need-narrow-requires
 narrow-requires c κs = rw (found c) (bits-top _ (found-ok c .0) (found-ok c .1))
 
 float-from-bits-result : tie.Need-float-from-bits-result
-float-from-bits-result c = below-nan (c .narrow .result) (rw (c .narrow .ensures, found (c .before)) (bits-top _ (found-ok (c .before) .0) (found-ok (c .before) .1)))
+float-from-bits-result c =
+    let b = c .before in
+    no-nan-pattern (c .narrow .result) (omega (arith, c .narrow .ensures, found b, bits-top _ (found-ok b .0) (found-ok b .1)))
 
 returns-2 : tie.Need-returns-2
 returns-2 c = ap (ofBits binary32) (c .narrow .ensures ∙ found (c .before)) ∙ ofBits-toBits binary32 _ (found-ok (c .before) .1)

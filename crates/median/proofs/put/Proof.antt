@@ -1,5 +1,5 @@
-use Rattle.median.specs.Bits.{bits-top, no-nan}
-use Rattle.median.specs.Order.{above-zero}
+use Rattle.float.proofs.Bits.{bits-top, above-no-nan}
+use Rattle.float.proofs.Order.{above-zero}
 use lib.ListN.{length-set}
 use lib.Seq.{take-suc-set}
 use lib.Dec.{T}
@@ -11,7 +11,7 @@ use Rattle.median.proofs.put.Statement.{statement}
 use Rattle.median.proofs.put.Tie as tie
 
 float-to-bits-a : tie.Need-float-to-bits-a
-float-to-bits-a c = no-nan (c .before .args .x) (above-zero (c .before .args .x) (c .if1 .taken))
+float-to-bits-a c = above-no-nan (c .before .args .x) (above-zero (c .before .args .x) (c .if1 .taken))
 
 cast-a : tie.Need-cast-a
 cast-a c = omega (arith, bits-top (c .before .args .x) (above-zero (c .before .args .x) (c .if1 .taken)) (subst T (sym (c .before .good .0 .1)) tt))

@@ -5,7 +5,7 @@ use lib.ListN.{replicate, length-replicate}
 use Rattle.folds.specs.Column.{Filling, fill-start, fill-more, filled}
 use Rattle.folds.specs.Marked.{bit}
 use Rattle.view.specs.View.{maxPoints}
-use Rattle.marks.specs.Arrays.{isSet}
+use Rattle.marks.specs.Marks.{isSet}
 use Rattle.orientation.specs.Orientation.{turned}
 use borrow.Author.Needs.{needs}
 use Rattle.orientation.proofs.combined.Statement.{statement}

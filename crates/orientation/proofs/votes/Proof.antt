@@ -3,18 +3,17 @@ use mathlib.Core.Path.{_≡_}
 use native.Mathlib.Omega.{arith}
 use lib.ListN.{replicate, length-replicate}
 use Rattle.folds.specs.Column.{Filling, fill-start, fill-more, filled}
-use Rattle.view.specs.View.{maxPoints}
-use Rattle.marks.specs.Arrays.{placedView}
+use Rattle.view.specs.View.{maxPoints, viewAt}
 use Rattle.orientation.specs.Orientation.{voteAt}
 use borrow.Author.Needs.{needs}
 use Rattle.orientation.proofs.votes.Statement.{statement}
 use Rattle.orientation.proofs.votes.Tie as tie
 
 abbrev Inv-loop : tie.InvT-loop
-Inv-loop near x y n out₀ k₀ out k = (k ≤ n) × Filling (replicate maxPoints 0) 0 (voteAt (placedView n near x y)) k out
+Inv-loop ranks x y n out₀ k₀ out k = (k ≤ n) × Filling (replicate maxPoints 0) 0 (voteAt (viewAt n ranks x y)) k out
 
 abbrev μ-loop : tie.MeasureT-loop
-μ-loop near x y n out₀ k₀ out k = n - k
+μ-loop ranks x y n out₀ k₀ out k = n - k
 
 loop-holds : tie.Need-loop-holds Inv-loop μ-loop
 loop-holds c = (omega arith, fill-start (replicate maxPoints 0) 0 _)

@@ -1,30 +1,23 @@
--- `patches::expand` meets its contract. The state of the search is kept by each visit; each neighbour in a direction below d that survives is marked. Assumes nothing.
-use mathlib.Core.Path.{refl, ap, _∙_}
-use mathlib.Core.List.{List}
+-- `patches::expand` meets its contract: each visit keeps the state of the search, and marks the neighbour at one offset more. Assumes nothing.
+use mathlib.Core.Path.{ap, _∙_}
 use Prim.Native.Nat.{ℕ, _+_, _*_, _-_, _≤_, _<_}
 use native.Mathlib.Omega.{arith}
 use borrow.Author.Needs.{needs}
-use lib.ListN.{length}
-use Rattle.patches.specs.Patches.{at, survives, linked}
+use lib.ListN.{length, getD}
 use Rattle.view.specs.View.{maxPoints}
-use Rattle.patches.proofs.Surviving.{survives-lt, link-to, link-side, link-by}
-use Rattle.patches.proofs.Searching.{marked-le, Expanding, expand-start, expand-more, expand-end}
+use Rattle.patches.proofs.Searching.{list-few, Expanding, expand-start, expand-more, expand-end}
 use Rattle.patches.proofs.expand.Statement.{statement}
 use Rattle.patches.proofs.expand.Tie as tie
 
--- the rank at the i-th offset from x
-abbrev side : (near sides : List ℕ) (x i : ℕ) → ℕ
-side near sides x i = at near (25 * x + at sides i)
-
 abbrev Inv-loop : tie.InvT-loop
-Inv-loop near dropped sides n s head seen₀ label₀ queue₀ tail x t₀ d₀ seen label queue t d =
-    (d ≤ length sides) × (x < maxPoints) × Expanding (survives n dropped) (linked n (at near) sides dropped) n s head x (side near sides x) seen₀ seen label queue t d
+Inv-loop ranks sides s head visited₀ label₀ queue₀ tail x t₀ d₀ visited label queue t d =
+    (d ≤ length sides) × (x < maxPoints) × Expanding ranks sides s head x visited₀ label₀ queue₀ tail visited label queue t d
 
 abbrev μ-loop : tie.MeasureT-loop
-μ-loop near dropped sides n s head seen₀ label₀ queue₀ tail x t₀ d₀ seen label queue t d = length sides - d
+μ-loop ranks sides s head visited₀ label₀ queue₀ tail x t₀ d₀ visited label queue t d = length sides - d
 
 room : (c : tie.Start Inv-loop μ-loop) → c .args .head < maxPoints
-room c = let z = c .pre .2 .sized in omega (arith, c .pre .1, z .room, marked-le (c .args .seen .now), z .marks)
+room c = omega (arith, c .pre .1, list-few (c .pre .2))
 
 mul-wide : tie.Need-mul-wide Inv-loop μ-loop
 mul-wide c = omega (arith, room (c .before))
@@ -35,55 +28,29 @@ element-copy-out-wide c = room (c .before)
 loop-holds : tie.Need-loop-holds Inv-loop μ-loop
 loop-holds c =
     let b = c .before .before .before in
-    let a = b .args in
-    let e = b .pre .2 .entered (a .head) (b .pre .1) in
-    (omega arith, omega (arith, survives-lt (a .n) (a .dropped .now) (at (a .queue .now) (a .head)) e, b .pre .0 .few, c .wide .ensures), expand-start _ (b .pre .2) (b .pre .1) (c .wide .ensures))
+    (omega arith, omega (arith, b .pre .2 .ranks (b .args .head) (b .pre .1), c .wide .ensures), expand-start (b .pre .2) (b .pre .1) (c .wide .ensures))
 
-small : (c : tie.After-offset Inv-loop μ-loop) → c .offset .result < 25
-small c =
+rank-at-requires : tie.Need-rank-at-requires Inv-loop μ-loop
+rank-at-requires c κs =
     let l = c .before .before .before in
-    let b = l .before .before .before .before in
-    omega (arith, c .offset .ensures, b .pre .0 .offsets (l .loop .d) (omega arith))
-
-add-wide : tie.Need-add-wide Inv-loop μ-loop
-add-wide c = omega (arith, small c)
-
-mul-wide-3 : tie.Need-mul-wide-3 Inv-loop μ-loop
-mul-wide-3 c = omega (arith, small c)
-
-element-copy-out-wide-2 : tie.Need-element-copy-out-wide-2 Inv-loop μ-loop
-element-copy-out-wide-2 c = omega (arith, small c)
+    (l .loop .inv .1, omega (arith, c .offset .ensures, l .before .before .before .before .pre .0 (l .loop .d) (omega arith)))
 
 visit-requires : tie.Need-visit-requires Inv-loop μ-loop
-visit-requires c κs =
-    let l = c .before .before .before .before .before .before .before .before in
-    (l .before .before .before .before .pre .0 .few, l .loop .inv .2 .search .sized)
+visit-requires c κs = let l = c .before .before .before .before .before .before .before in l .loop .inv .2 .so-far .list
 
 loop-again : tie.Need-loop-again Inv-loop μ-loop
 loop-again c =
     let w = c .before .before .before .before in
-    let l = w .before .before .before .before .before in
-    let b = l .before .before .before .before in
-    let a = b .args in (
-      omega arith,
-      l .loop .inv .1,
-      expand-more _ (λ k e. omega (arith, survives-lt (a .n) (a .dropped .now) k e, b .pre .0 .few))
-          (λ p q. link-by (a .n) (at (a .near .now)) (a .sides .now) (a .dropped .now) _ _ p q (l .loop .d) (omega arith) refl)
-          (w .wide2 .ensures ∙ ap (λ (o : ℕ). at (a .near .now) (25 * l .before .wide .result + o)) (w .before .before .offset .ensures))
-          (l .loop .inv .2) (c .visit .ensures),
-    )
+    let l = w .before .before .before .before in
+    let a = l .before .before .before .before .args in
+    let same = w .rank-at .ensures ∙ ap (λ (o : ℕ). getD (a .ranks .now) (25 * l .before .wide .result + o) 0) (w .before .offset .ensures) in
+    (omega arith, l .loop .inv .1, expand-more (l .loop .inv .2) (omega arith) same (c .visit .ensures))
 
 returns : tie.Need-returns Inv-loop μ-loop
-returns c =
-    let l = c .before in
-    let a = l .before .before .before .before .args in
-    expand-end _ (l .loop .inv .2)
-    (λ j e. let w = link-side (a .n) (at (a .near .now)) (a .sides .now) (a .dropped .now) (l .before .wide .result) j e in
-    (link-to (a .n) (at (a .near .now)) (a .sides .now) (a .dropped .now) (l .before .wide .result) j e, (w .0, omega (arith, w .1), w .2)))
+returns c = expand-end (c .before .loop .inv .2) (c .loop-test .left)
 
 pub expand-spec : {M : Type 1} → statement M
 expand-spec =
     tie.close
-    (tie.spec Inv-loop μ-loop mul-wide element-copy-out-wide (λ c κs. search needs) loop-holds (λ c. search needs) (λ c. search needs)
-    (λ c κs. search needs) add-wide mul-wide-3 element-copy-out-wide-2 (λ c κs. search needs) visit-requires (λ c. search needs)
-    (λ c. search needs) loop-again returns)
+    (tie.spec Inv-loop μ-loop mul-wide element-copy-out-wide (λ c κs. search needs) loop-holds (λ c. search needs) (λ c κs. search needs)
+    rank-at-requires visit-requires (λ c. search needs) (λ c. search needs) loop-again returns)

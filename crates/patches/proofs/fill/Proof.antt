@@ -1,43 +1,33 @@
 -- `patches::fill` meets its contract. The worklist is searched to its end. Assumes nothing.
-use mathlib.Core.Path.{_≡_}
-use mathlib.Core.Bool.{true}
 use Prim.Native.Nat.{_-_, _<_}
 use native.Mathlib.Omega.{arith}
 use borrow.Author.Needs.{needs}
 use Rattle.view.specs.View.{maxPoints}
-use Rattle.patches.specs.Patches.{at, survives, linked}
-use Rattle.patches.specs.Search.{Seen, Search}
-use Rattle.patches.proofs.Surviving.{survives-lt}
-use Rattle.patches.proofs.Searching.{marked-le, search-start, search-end}
+use Rattle.patches.specs.Search.{Advanced}
+use Rattle.patches.proofs.Searching.{list-few, visit-list, advance-none, advance-then, fill-end}
 use Rattle.patches.proofs.fill.Statement.{statement}
 use Rattle.patches.proofs.fill.Tie as tie
 
 abbrev Inv-loop : tie.InvT-loop
-Inv-loop near dropped sides n s seen₀ label₀ queue₀ start tail₀ head₀ seen label queue tail head =
-    Search (survives n dropped) (linked n (at near) sides dropped) n s head seen label queue tail × (survives n dropped s ≡ true → Seen seen s)
+Inv-loop ranks sides s visited₀ label₀ queue₀ start tail₀ head₀ visited label queue tail head =
+    Advanced ranks sides s head₀ visited₀ label₀ queue₀ tail₀ s head visited label queue tail
 
 abbrev μ-loop : tie.MeasureT-loop
-μ-loop near dropped sides n s seen₀ label₀ queue₀ start tail₀ head₀ seen label queue tail head = maxPoints - head
+μ-loop ranks sides s visited₀ label₀ queue₀ start tail₀ head₀ visited label queue tail head = maxPoints - head
 
 visit-requires : tie.Need-visit-requires Inv-loop μ-loop
-visit-requires c κs = let p = c .before .before .before .before .before .pre in (p .0 .few, p .1 .sized)
+visit-requires c κs = c .before .before .before .before .before .pre .1
 
 loop-holds : tie.Need-loop-holds Inv-loop μ-loop
-loop-holds c =
-    let w = c .before .before .before .before in
-    let b = w .before .before in
-    let a = b .args in
-    search-start (λ k e. omega (arith, survives-lt (a .n) (a .dropped .now) k e, b .pre .0 .few)) (w .wide .ensures) (b .pre .1) (c .visit .ensures)
+loop-holds c = let b = c .before .before .before .before .before .before in advance-none (visit-list (b .pre .1) (c .visit .ensures))
 
 expand-requires : tie.Need-expand-requires Inv-loop μ-loop
 expand-requires c κs =
     let l = c .before .before .before .before in
-    (l .before .before .before .before .before .before .before .pre .0, c .before .before .before .loop-test .taken, l .loop .inv .0)
+    (l .before .before .before .before .before .before .before .pre .0, c .before .before .before .loop-test .taken, l .loop .inv .list)
 
 room : (c : tie.In-loop Inv-loop μ-loop) → c .before .loop .head < maxPoints
-room c =
-    let z = c .before .loop .inv .0 .sized in
-    omega (arith, c .loop-test .taken, z .room, marked-le (c .before .loop .seen), z .marks)
+room c = omega (arith, c .loop-test .taken, list-few (c .before .loop .inv .list))
 
 add-head : tie.Need-add-head Inv-loop μ-loop
 add-head c = omega (arith, room (c .before .before .before .before))
@@ -46,13 +36,13 @@ loop-less : tie.Need-loop-less Inv-loop μ-loop
 loop-less c = omega (arith, room (c .before .before .before .before))
 
 loop-again : tie.Need-loop-again Inv-loop μ-loop
-loop-again c =
-    let l = c .before .before .before .before .before in
-    let e = c .expand .ensures in
-    (e .search, λ a. e .kept (l .before .before .before .before .before .before .before .args .s) (l .loop .inv .1 a))
+loop-again c = advance-then (c .before .before .before .before .before .loop .inv) (c .expand .ensures)
 
 returns : tie.Need-returns Inv-loop μ-loop
-returns c = let i = c .before .loop .inv in search-end (i .0) (c .loop-test .left) (i .1)
+returns c =
+    let v = c .before .before in
+    let w = v .before .before .before .before in
+    fill-end (w .wide .ensures) (w .before .before .pre .1) (v .visit .ensures) (c .before .loop .inv) (c .loop-test .left)
 
 pub fill-spec : {M : Type 1} → statement M
 fill-spec =

@@ -1,6 +1,6 @@
 -- `points::accepted` meets its contract: each column is that of the points in cell order. Assumes nothing.
-use Rattle.points.specs.Table.{key-fits, x-inside, y-inside, key-column, index-column, x-column, y-column}
-use Rattle.points.specs.Rows.{rows-placed}
+use Rattle.points.proofs.Columns.{key-fits, x-inside, y-inside, key-column, index-column, x-column, y-column}
+use Rattle.points.proofs.Ordering.{entries-placed}
 use mathlib.Core.Path.{refl, _∙_}
 use borrow.Author.Needs.{needs}
 use Rattle.points.proofs.accepted.Statement.{statement}
@@ -10,13 +10,13 @@ keys-requires : tie.Need-keys-requires
 keys-requires c κs = (c .before .pre .room .few, key-fits _ _ _ _ (c .before .pre))
 
 indices-requires : tie.Need-indices-requires
-indices-requires c κs = (c .before .before .pre .room, rw (c .before .before .pre .ordered) (rows-placed _ _ _ _ (c .before .before .pre .room .few)))
+indices-requires c κs = (c .before .before .pre .room, rw (c .before .before .pre .ordered) (entries-placed _ _ _ _ (c .before .before .pre .room .few)))
 
 coordinates-requires : tie.Need-coordinates-requires
-coordinates-requires c κs = ((c .before .before .before .pre .room, search needs), (rw (c .before .before .before .pre .ordered) (rows-placed _ _ _ _ (c .before .before .before .pre .room .few)), x-inside _ _ _ _ (c .before .before .before .pre)))
+coordinates-requires c κs = ((c .before .before .before .pre .room, search needs), (rw (c .before .before .before .pre .ordered) (entries-placed _ _ _ _ (c .before .before .before .pre .room .few)), x-inside _ _ _ _ (c .before .before .before .pre)))
 
 coordinates-requires-2 : tie.Need-coordinates-requires-2
-coordinates-requires-2 c κs = ((c .before .before .before .before .pre .room, search needs), (rw (c .before .before .before .before .pre .ordered) (rows-placed _ _ _ _ (c .before .before .before .before .pre .room .few)), y-inside _ _ _ _ (c .before .before .before .before .pre)))
+coordinates-requires-2 c κs = ((c .before .before .before .before .pre .room, search needs), (rw (c .before .before .before .before .pre .ordered) (entries-placed _ _ _ _ (c .before .before .before .before .pre .room .few)), y-inside _ _ _ _ (c .before .before .before .before .pre)))
 
 returns : tie.Need-returns
 returns c = let h = c .before .before .before .before .before .pre in

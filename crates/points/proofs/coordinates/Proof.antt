@@ -11,10 +11,10 @@ use Rattle.points.proofs.coordinates.Statement.{statement}
 use Rattle.points.proofs.coordinates.Tie as tie
 
 abbrev Inv-loop : tie.InvT-loop
-Inv-loop file at field n rows none out₀ i₀ out i = (i ≤ n) × Filling out₀ nan (λ (k : ℕ). floatAt file (at + 20 * (getD rows k 0 % 4096) + field)) i out
+Inv-loop file at field n entries none out₀ i₀ out i = (i ≤ n) × Filling out₀ nan (λ (k : ℕ). floatAt file (at + 20 * (getD entries k 0 % 4096) + field)) i out
 
 abbrev μ-loop : tie.MeasureT-loop
-μ-loop file at field n rows none out₀ i₀ out i = n - i
+μ-loop file at field n entries none out₀ i₀ out i = n - i
 
 loop-holds : tie.Need-loop-holds Inv-loop μ-loop
 loop-holds c = (search needs, fill-start _ nan _)

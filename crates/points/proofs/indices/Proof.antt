@@ -1,5 +1,5 @@
 -- `points::indices` meets its contract: the column is filled from its front. Assumes nothing.
-use Rattle.points.specs.Rows.{pointOf}
+use Rattle.points.specs.Entries.{entryPoint}
 use Rattle.folds.specs.Column.{Filling, fill-start, fill-more, filled}
 use native.Mathlib.Omega.{arith}
 use lib.ListN.{getD, length-replicate}
@@ -10,10 +10,10 @@ use Rattle.points.proofs.indices.Statement.{statement}
 use Rattle.points.proofs.indices.Tie as tie
 
 abbrev Inv-loop : tie.InvT-loop
-Inv-loop file at n rows out₀ i₀ out i = (i ≤ n) × Filling out₀ 0 (λ (k : ℕ). pointOf file at (getD rows k 0) .index) i out
+Inv-loop file at n entries out₀ i₀ out i = (i ≤ n) × Filling out₀ 0 (λ (k : ℕ). entryPoint file at (getD entries k 0) .index) i out
 
 abbrev μ-loop : tie.MeasureT-loop
-μ-loop file at n rows out₀ i₀ out i = n - i
+μ-loop file at n entries out₀ i₀ out i = n - i
 
 loop-holds : tie.Need-loop-holds Inv-loop μ-loop
 loop-holds c = (search needs, fill-start _ 0 _)

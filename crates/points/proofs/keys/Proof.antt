@@ -9,10 +9,10 @@ use Rattle.points.proofs.keys.Statement.{statement}
 use Rattle.points.proofs.keys.Tie as tie
 
 abbrev Inv-loop : tie.InvT-loop
-Inv-loop rows n out₀ i₀ out i = (i ≤ n) × Filling out₀ 0 (λ (k : ℕ). getD rows k 0 / 4096) i out
+Inv-loop entries n out₀ i₀ out i = (i ≤ n) × Filling out₀ 0 (λ (k : ℕ). getD entries k 0 / 4096) i out
 
 abbrev μ-loop : tie.MeasureT-loop
-μ-loop rows n out₀ i₀ out i = n - i
+μ-loop entries n out₀ i₀ out i = n - i
 
 loop-holds : tie.Need-loop-holds Inv-loop μ-loop
 loop-holds c = (search needs, fill-start _ 0 _)

@@ -1,5 +1,5 @@
 -- `points::packed` meets its contract: the column is filled from its front. Assumes nothing.
-use Rattle.points.specs.Rows.{entriesOf, packedOf}
+use Rattle.points.specs.Entries.{ithKey, packedOf}
 use Rattle.sort.specs.Packed.{packed}
 use Rattle.folds.specs.Column.{Filling, fill-start, fill-more, filled}
 use native.Mathlib.Omega.{arith}
@@ -11,7 +11,7 @@ use Rattle.points.proofs.packed.Statement.{statement}
 use Rattle.points.proofs.packed.Tie as tie
 
 abbrev Inv-loop : tie.InvT-loop
-Inv-loop file at n by-index out₀ i₀ out i = (i ≤ n) × Filling out₀ 0 (packed (entriesOf file at by-index)) i out
+Inv-loop file at n by-index out₀ i₀ out i = (i ≤ n) × Filling out₀ 0 (packed (ithKey file at by-index)) i out
 
 abbrev μ-loop : tie.MeasureT-loop
 μ-loop file at n by-index out₀ i₀ out i = n - i
@@ -19,11 +19,11 @@ abbrev μ-loop : tie.MeasureT-loop
 loop-holds : tie.Need-loop-holds Inv-loop μ-loop
 loop-holds c = (search needs, fill-start _ 0 _)
 
-entry-at-requires : tie.Need-entry-at-requires Inv-loop μ-loop
-entry-at-requires c κs = omega (arith, c .before .before .before .pre .fit)
+key-at-requires : tie.Need-key-at-requires Inv-loop μ-loop
+key-at-requires c κs = omega (arith, c .before .before .before .pre .fit)
 
 loop-again : tie.Need-loop-again Inv-loop μ-loop
-loop-again c = (omega arith, fill-more _ 0 _ _ (simp length-replicate (omega (arith, c .before .before .before .before .pre .few))) (rw (c .entry-at .ensures .0)) (c .before .before .loop .inv .1))
+loop-again c = (omega arith, fill-more _ 0 _ _ (simp length-replicate (omega (arith, c .before .before .before .before .pre .few))) (rw (c .key-at .ensures .0)) (c .before .before .loop .inv .1))
 
 returns : tie.Need-returns Inv-loop μ-loop
 unfolding packedOf
@@ -32,5 +32,5 @@ returns c = let a = c .before .before .before .args in let e : c .before .loop .
 pub packed-spec : {M : Type 1} → statement M
 packed-spec =
     tie.close
-    (tie.spec Inv-loop μ-loop loop-holds (λ c. search needs) (λ c. search needs) entry-at-requires (λ c. search needs) (λ c. search needs)
+    (tie.spec Inv-loop μ-loop loop-holds (λ c. search needs) (λ c. search needs) key-at-requires (λ c. search needs) (λ c. search needs)
     (λ c. search needs) (λ c. search needs) (λ c. search needs) (λ c. search needs) loop-again returns)

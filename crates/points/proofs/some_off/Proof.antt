@@ -1,6 +1,6 @@
 -- `points::some_off` meets its contract: no point passed has the fault. Assumes nothing.
-use Rattle.points.specs.Refusals.{off}
-use Rattle.points.specs.Records.{recordOf, pointsIn}
+use Rattle.points.specs.Entries.{offBy}
+use Rattle.points.specs.Records.{ithPoint, pointsIn}
 use Rattle.folds.specs.Among.{anyIn, any-list}
 use Rattle.folds.specs.Below.{some, some-none, some-more, some-yes}
 use native.Mathlib.Omega.{arith}
@@ -13,12 +13,12 @@ use borrow.Author.Needs.{needs}
 use Rattle.points.proofs.some_off.Statement.{statement}
 use Rattle.points.proofs.some_off.Tie as tie
 
-listed : (s : List ℕ) (at n : ℕ) (b : Bool) → anyIn (off b) (pointsIn s at n) ≡ some (λ (k : ℕ). off b (recordOf s at k)) n
+listed : (s : List ℕ) (at n : ℕ) (b : Bool) → anyIn (offBy b) (pointsIn s at n) ≡ some (λ (k : ℕ). offBy b (ithPoint s at k)) n
 unfolding pointsIn
-listed s at n b = any-list (recordOf s at) n (off b)
+listed s at n b = any-list (ithPoint s at) n (offBy b)
 
 abbrev Inv-loop : tie.InvT-loop
-Inv-loop file at n by-limit i₀ i = (i ≤ n) × (some (λ (k : ℕ). off by-limit (recordOf file at k)) i ≡ false)
+Inv-loop file at n by-limit i₀ i = (i ≤ n) × (some (λ (k : ℕ). offBy by-limit (ithPoint file at k)) i ≡ false)
 
 abbrev μ-loop : tie.MeasureT-loop
 μ-loop file at n by-limit i₀ i = n - i

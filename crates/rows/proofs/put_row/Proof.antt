@@ -1,7 +1,7 @@
 use mathlib.Core.Path.{_≡_, _∙_}
 use native.Mathlib.Omega.{arith}
 use lib.ListN.{length, length-set}
-use Rattle.rows.specs.Rows.{residualOf}
+use Rattle.judged.specs.Shown.{residualOf}
 use Rattle.rows.proofs.Laws.{row-put}
 use borrow.Author.Needs.{needs}
 use Rattle.rows.proofs.put_row.Statement.{statement}

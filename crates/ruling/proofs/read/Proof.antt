@@ -1,5 +1,5 @@
 -- `ruling::read` meets its contract: the header, and then its points. Assumes nothing.
-use Rattle.ruling.specs.Parts.{in-parts, header-room}
+use Rattle.ruling.proofs.Parts.{in-parts, header-room}
 use mathlib.Core.Path.{refl, sym, _∙_}
 use borrow.Author.Needs.{needs}
 use Rattle.ruling.proofs.read.Statement.{statement}

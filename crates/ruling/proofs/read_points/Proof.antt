@@ -1,10 +1,12 @@
 -- `ruling::read_points` meets its contract: by the number of the table. Assumes nothing.
-use Rattle.ruling.specs.Parts.{by-table}
+use Rattle.ruling.proofs.Parts.{by-table}
 use Rattle.ruling.specs.Sheet.{Ruled}
 use Rattle.ruling.specs.Ruling.{refused, rulingFor}
 use Rattle.sheet_file.specs.declared.Settings.{Settings}
 use Rattle.points.specs.declared.Table.{Table}
-use Rattle.points.specs.Table.{Tabled, points-length, accepted-is}
+use Rattle.points.specs.Table.{Tabled}
+use Rattle.points.proofs.Columns.{points-length}
+use Rattle.points.proofs.Rulings.{accepted-is}
 use Rattle.points.specs.Refusals.{numberFor, cellOrder, acceptedOf}
 use Rattle.cells.specs.Points.{Point}
 use borrow.Author.Tests.{ne-eqb}
@@ -16,17 +18,17 @@ use borrow.Author.Needs.{needs}
 use Rattle.ruling.proofs.read_points.Statement.{statement}
 use Rattle.ruling.proofs.read_points.Tie as tie
 
-module _ (w : Settings) (ps : List Point) (t : Table) (h : Tabled (numberFor ps) (acceptedOf ps) t) where
-  taken : t .number ≡ 0 → (n : ℕ) → n ≡ length (cellOrder ps) → Ruled (rulingFor w ps) (record { settings = w; count = n; table = t })
+module _ (s : Settings) (ps : List Point) (t : Table) (h : Tabled (numberFor ps) (acceptedOf ps) t) where
+  taken : t .number ≡ 0 → (n : ℕ) → n ≡ length (cellOrder ps) → Ruled (rulingFor s ps) (record { settings = s; count = n; table = t })
   taken z n e =
       let k : numberFor ps ≡ 0 = sym (h .number-is) ∙ z in
-      rw (← by-table w ps, k) (record { settings-are = refl; count-is = e; table-is = rw (← accepted-is ps, k) at h })
+      rw (← by-table s ps, k) (record { settings-are = refl; count-is = e; table-is = rw (← accepted-is ps, k) at h })
 
   no-points : (t .number ≡ 0 → ⊥) → Tabled (t .number) [] t
   no-points f = rw (← accepted-is ps, ← h .number-is, ne-eqb (t .number) 0 f) at h
 
-  left : (t .number ≡ 0 → ⊥) → rulingFor w ps ≡ refused (t .number)
-  left f = sym (by-table w ps) ∙ rw (← h .number-is, ne-eqb (t .number) 0 f)
+  left : (t .number ≡ 0 → ⊥) → rulingFor s ps ≡ refused (t .number)
+  left f = sym (by-table s ps) ∙ rw (← h .number-is, ne-eqb (t .number) 0 f)
 
 returns : tie.Need-returns
 returns c = taken _ _ _ (c .before .before .read .ensures) (c .if1 .taken) _ (sym (points-length _ _ _ (c .before .before .before .before .before .pre .few)))

@@ -1,5 +1,5 @@
 -- `sheet_file::float_at` meets its contract: a float inside the limit has no NaN's pattern. Assumes nothing.
-use Rattle.sheet_file.specs.Value.{inside-no-nan}
+use Rattle.sheet_file.proofs.Value.{inside-no-nan}
 use borrow.Author.Needs.{needs}
 use Rattle.sheet_file.proofs.float_at.Statement.{statement}
 use Rattle.sheet_file.proofs.float_at.Tie as tie

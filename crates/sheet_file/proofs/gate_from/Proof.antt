@@ -1,5 +1,6 @@
 -- `sheet_file::gate_from` meets its contract: with tag 2 or without it. Assumes nothing.
-use Rattle.sheet_file.specs.Frame.{gateFrom, field-held}
+use Rattle.sheet_file.specs.Frame.{gateFrom}
+use Rattle.sheet_file.proofs.Fields.{field-in}
 use mathlib.Core.Path.{sym, _∙_}
 use native.Mathlib.Omega.{arith}
 use borrow.Author.Needs.{needs}
@@ -7,7 +8,7 @@ use Rattle.sheet_file.proofs.gate_from.Statement.{statement}
 use Rattle.sheet_file.proofs.gate_from.Tie as tie
 
 points-from-requires : tie.Need-points-from-requires
-points-from-requires c κs = omega (arith, field-held _ _ _ _ (sym (c .before .field-at .ensures) ∙ c .if1 .taken))
+points-from-requires c κs = omega (arith, field-in _ _ _ _ (sym (c .before .field-at .ensures) ∙ c .if1 .taken) .fits)
 
 returns : tie.Need-returns
 unfolding gateFrom

@@ -1,8 +1,10 @@
--- `sheet_file::points_from` meets its contract: the length that reaches the end of the file is the one that the field must have. Assumes nothing.
-use Rattle.sheet_file.specs.Frame.{fieldAt, pointsFrom}
+-- `sheet_file::points_from` meets its contract: each test of the code is one of the definition. Assumes nothing.
+use Rattle.sheet_file.specs.Frame.{fieldAt, endFrom, pointsFrom}
+use Rattle.sheet_file.specs.Bytes.{le16}
 use denote.Ref.{now}
 use lib.ListN.{length}
-use Prim.Native.Nat.{_+_, _-_}
+use Prim.Native.Nat.{_+_}
+use mathlib.Core.Path.{sym, _∙_}
 use native.Mathlib.Omega.{arith}
 use borrow.Author.Tests.{lt-leb, eq-eqb, ne-eqb}
 use borrow.Author.Needs.{needs}
@@ -11,22 +13,28 @@ use Rattle.sheet_file.proofs.points_from.Tie as tie
 
 returns : tie.Need-returns
 unfolding pointsFrom fieldAt
-returns c = let a = c .before .before .args in let n = length (now (a .file)) - (a .at + 3) in rw (lt-leb (a .at + 3 + n) (length (now (a .file))) (omega arith))
+returns c = let a = c .before .before .args in rw (lt-leb (a .at + 3 + le16 (now (a .file)) (a .at + 1)) (length (now (a .file))) (omega arith))
 
 returns-2 : tie.Need-returns-2
 unfolding pointsFrom
-returns-2 c = rw (← c .before .before .field-at .ensures, c .before .if2 .taken, eq-eqb _ _ (c .if3 .taken))
+returns-2 c =
+    let p = c .before .before .before in
+    rw (← p .before .before .u16-at .ensures, ← p .before .wide .ensures, ← p .field-at .ensures, c .before .before .if2 .taken, eq-eqb _ _ (c .before .if3 .taken)) (c .end-from .ensures)
 
 returns-3 : tie.Need-returns-3
 unfolding pointsFrom
-returns-3 c = rw (← c .before .before .field-at .ensures, c .before .if2 .taken, ne-eqb _ _ (c .if3 .left))
+returns-3 c =
+    let p = c .before .before in
+    rw (← p .before .before .u16-at .ensures, ← p .before .wide .ensures, ← p .field-at .ensures, c .before .if2 .taken, ne-eqb _ _ (c .if3 .left))
 
 returns-4 : tie.Need-returns-4
 unfolding pointsFrom
-returns-4 c = rw (← c .before .field-at .ensures, c .if2 .left)
+returns-4 c =
+    let p = c .before in
+    rw (← p .before .before .u16-at .ensures, ← p .before .wide .ensures, ← p .field-at .ensures, c .if2 .left)
 
 pub points-from-spec : {M : Type 1} → statement M
 points-from-spec =
     tie.close
-    (tie.spec (λ c. search needs) returns (λ c. search needs) (λ c. search needs) (λ c κs. search needs) (λ c. search needs) returns-2
-    returns-3 returns-4)
+    (tie.spec (λ c. search needs) returns (λ c. search needs) (λ c κs. search needs) (λ c κs. search needs) (λ c κs. search needs)
+    (λ c. search needs) (λ c. search needs) (λ c. search needs) (λ c κs. search needs) returns-2 returns-3 returns-4)

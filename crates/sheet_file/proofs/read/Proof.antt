@@ -1,6 +1,6 @@
 -- `sheet_file::read` meets its contract: number 1, or the rest. Assumes nothing.
 use Rattle.sheet_file.specs.Refusals.{readingOf}
-use Rattle.sheet_file.specs.Frame.{framed-held}
+use Rattle.sheet_file.proofs.Fields.{framed-held}
 use mathlib.Core.Path.{sym, _∙_}
 use borrow.Author.Needs.{needs}
 use Rattle.sheet_file.proofs.read.Statement.{statement}

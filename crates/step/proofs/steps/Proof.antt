@@ -1,21 +1,20 @@
-use mathlib.Core.List.{[]}
-use Rattle.step.specs.Step.{stepAt, step-of}
+use Rattle.step.specs.Step.{stepAt}
 use lib.Ieee.{Float, nan, div, ofBits}
 use lib.ListN.{replicate, length-replicate}
-use Rattle.folds.specs.Column.{Filling, fill-start, fill-more, filled, column-ext}
+use Rattle.folds.specs.Column.{Filling, fill-start, fill-more, filled}
 use Rattle.view.specs.View.{maxPoints, viewAt}
 use native.Mathlib.Omega.{arith}
-use mathlib.Core.Path.{_≡_, sym, _∙_}
+use mathlib.Core.Path.{_≡_}
 use Prim.Native.Nat.{_≤_, _-_}
 use borrow.Author.Needs.{needs}
 use Rattle.step.proofs.steps.Statement.{statement}
 use Rattle.step.proofs.steps.Tie as tie
 
 abbrev Inv-loop : tie.InvT-loop
-Inv-loop near by-idx x y n aware none out₀ m₀ out m = (m ≤ n) × Filling (replicate maxPoints nan) nan (stepAt (viewAt n near [] [] by-idx x y) aware) m out
+Inv-loop ranks x y n aware none out₀ m₀ out m = (m ≤ n) × Filling (replicate maxPoints nan) nan (stepAt (viewAt n ranks x y) aware) m out
 
 abbrev μ-loop : tie.MeasureT-loop
-μ-loop near by-idx x y n aware none out₀ m₀ out m = n - m
+μ-loop ranks x y n aware none out₀ m₀ out m = n - m
 
 loop-holds : tie.Need-loop-holds Inv-loop μ-loop
 unfolding div ofBits
@@ -25,12 +24,7 @@ loop-again : tie.Need-loop-again Inv-loop μ-loop
 loop-again c = (omega arith, fill-more (replicate maxPoints nan) nan _ _ (omega (arith, length-replicate {A = Float} maxPoints nan)) (c .step-at .ensures) (c .before .before .loop .inv .1))
 
 returns : tie.Need-returns Inv-loop μ-loop
-returns c row col =
-    let h : c .before .loop .m ≡ c .before .before .args .n = omega arith in
-    let a = c .before .before .args in
-    filled _ (omega arith) (rw h at (c .before .loop .inv .1))
-    ∙ column-ext maxPoints nan (a .n) (stepAt (viewAt (a .n) (a .near .now) [] [] (a .by-idx .now) (a .x .now) (a .y .now)) (a .aware)) (stepAt (viewAt (a .n) (a .near .now) row col (a .by-idx .now) (a .x .now) (a .y .now)) (a .aware))
-    (λ m l. step-of (a .n) (a .near .now) [] [] (a .by-idx .now) (a .x .now) (a .y .now) (a .aware) m ∙ sym (step-of (a .n) (a .near .now) row col (a .by-idx .now) (a .x .now) (a .y .now) (a .aware) m))
+returns c = let h : c .before .loop .m ≡ c .before .before .args .n = omega arith in filled _ (omega arith) (rw h at (c .before .loop .inv .1))
 
 pub steps-spec : {M : Type 1} → statement M
 steps-spec =

@@ -5,10 +5,10 @@ use Rattle.listing.proofs.line.mark_byte.Statement.{statement}
 use Rattle.listing.proofs.line.mark_byte.Tie as tie
 
 returns : tie.Need-returns
-returns c = c .letter .ensures ∙ rw (sym (c .before .before .is-marked .ensures) ∙ c .before .if1 .taken)
+returns c = c .letter .ensures ∙ rw (sym (c .before .before .has-mark .ensures) ∙ c .before .if1 .taken)
 
 returns-2 : tie.Need-returns-2
-returns-2 c = rw (sym (c .before .is-marked .ensures) ∙ c .if1 .left)
+returns-2 c = rw (sym (c .before .has-mark .ensures) ∙ c .if1 .left)
 
 pub mark-byte-spec : {M : Type 1} → statement M
 mark-byte-spec = tie.close

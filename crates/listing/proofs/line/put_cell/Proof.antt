@@ -7,9 +7,15 @@ use Rattle.listing.proofs.line.put_cell.Tie as tie
 
 returns : tie.Need-returns
 unfolding cellText
-returns c = stored-then (stored-then (c .before .before .before .before .before .before .before .before .before .before .put-cell-number .ensures) (c .before .before .before .before .before .before .put-byte .ensures)) (c .before .before .put-cell-number2 .ensures)
+returns c =
+    let d = c .before .before in
+    let b = d .before .before .before .before .before in
+    let a = b .before .before .before .before in
+    stored-then (stored-then (rw (a .before .before .u-part .ensures) at (a .put-cell-number .ensures)) (b .put-byte .ensures))
+    (rw (d .before .before .v-part .ensures) at (d .put-cell-number2 .ensures))
 
 pub put-cell-spec : {M : Type 1} → statement M
 put-cell-spec =
     tie.close
-    (tie.spec (λ c κs. search needs) (λ c κs. search needs) (λ c κs. search needs) (λ c. search needs) returns)
+    (tie.spec (λ c κs. search needs) (λ c κs. search needs) (λ c κs. search needs) (λ c κs. search needs) (λ c κs. search needs)
+    (λ c. search needs) returns)

@@ -4,7 +4,7 @@ use Prim.Native.Nat.{_≤_, _-_}
 use native.Mathlib.Omega.{arith}
 use Rattle.text.specs.Text.{each}
 use Rattle.text.specs.Stored.{Stored}
-use Rattle.listing.specs.Filters.{filterCount}
+use Rattle.marks.specs.Filters.{filterCount}
 use Rattle.listing.specs.Listing.{markText, marksText}
 use Rattle.text.proofs.Stores.{stored-start, stored-more, stored-length}
 use borrow.Author.Needs.{needs}
@@ -12,10 +12,10 @@ use Rattle.listing.proofs.line.put_marks.Statement.{statement}
 use Rattle.listing.proofs.line.put_marks.Tie as tie
 
 abbrev Inv-loop : tie.InvT-loop
-Inv-loop marks out₀ at to₀ k₀ out to k = (k ≤ filterCount) × Stored out₀ at (each (markText marks) k) out to
+Inv-loop marks out₀ at to₀ f₀ out to f = (f ≤ filterCount) × Stored out₀ at (each (markText marks) f) out to
 
 abbrev μ-loop : tie.MeasureT-loop
-μ-loop marks out₀ at to₀ k₀ out to k = filterCount - k
+μ-loop marks out₀ at to₀ f₀ out to f = filterCount - f
 
 loop-holds : tie.Need-loop-holds Inv-loop μ-loop
 loop-holds c = (search needs, stored-start (markText (c .before .args .marks)))
@@ -31,7 +31,7 @@ same-length c = stored-length (c .before .loop .inv .1)
 returns : tie.Need-returns Inv-loop μ-loop
 unfolding marksText
 returns c =
-    let e : c .before .loop .k ≡ filterCount = omega arith in
+    let e : c .before .loop .f ≡ filterCount = omega arith in
     rw e at (c .before .loop .inv .1)
 
 pub put-marks-spec : {M : Type 1} → statement M

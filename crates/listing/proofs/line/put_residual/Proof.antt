@@ -7,18 +7,13 @@ use Rattle.listing.proofs.line.put_residual.Tie as tie
 
 returns : tie.Need-returns
 unfolding residualText
-returns c =
-    let e = c .before .before .before .before .before .before .row-byte .ensures in
-    rw (← e, eq-eqb _ _ (c .before .before .before .before .before .if1 .taken), ← c .before .before .before .before .residual-bits .ensures) (c .before .before .put-hex .ensures)
+returns c = let e = c .before .before .before .before in rw (eq-eqb _ _ (e .before .if1 .taken), ← e .to-bits .ensures) (c .before .before .put-hex .ensures)
 
 returns-2 : tie.Need-returns-2
 unfolding residualText
-returns-2 c =
-    let e = c .before .before .before .before .before .row-byte .ensures in
-    rw (← e, ne-eqb _ _ (c .before .before .before .before .if1 .left)) (c .before .before .put-byte .ensures)
+returns-2 c = rw (ne-eqb _ _ (c .before .before .before .before .if1 .left)) (c .before .before .put-byte .ensures)
 
 pub put-residual-spec : {M : Type 1} → statement M
 put-residual-spec =
     tie.close
-    (tie.spec (λ c κs. search needs) (λ c κs. search needs) (λ c κs. search needs) (λ c. search needs) returns (λ c κs. search needs)
-    (λ c. search needs) returns-2)
+    (tie.spec (λ c κs. search needs) (λ c κs. search needs) (λ c. search needs) returns (λ c κs. search needs) (λ c. search needs) returns-2)

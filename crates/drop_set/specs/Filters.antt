@@ -1,0 +1,83 @@
+-- The filters of a sheet, one after the other: what each marks, from the settings s, the view w and the cells of the ranks. A mark is of an
+-- index: each point with the index has it. Assumes nothing.
+use mathlib.Core.Bool.{Bool, cond, _&&_}
+use mathlib.Core.List.{List, [], _∷_}
+use Prim.Native.Nat.{ℕ}
+use Rattle.view.specs.View.{View, squareSides}
+use Rattle.cells.specs.Cell.{Cell}
+use Rattle.sheet_file.specs.declared.Settings.{Settings}
+use Rattle.marks.specs.Filters.{validate, orientation, wrong, component}
+use Rattle.marks.specs.Marks.{isSet}
+use Rattle.marks.specs.Byte.{Marking, markedByAll}
+use Rattle.validate.specs.Validate.{validateMark, residualsOf, figuresOf, boundaryIn}
+use Rattle.orientation.specs.Orientation.{orientationMark}
+use Rattle.wrong_label_filters.specs.WrongLabel.{wrongLabelMark}
+use Rattle.components.specs.Components.{filterOf}
+use Rattle.judged.specs.declared.Judged.{Judged}
+use Rattle.drop_set.specs.declared.DropSet.{DropSet}
+
+-- the offsets that join cells to patches, on a sheet with these settings
+abbrev pub sidesOf : Settings → List ℕ
+sidesOf s = squareSides
+
+-- ---- the filters that go by the points themselves
+
+module _ (s : Settings) (w : View) where
+  -- the wrong-label mark of rank k's index, with the wrong-label switch
+  abbrev pub wrongMark : ℕ → Bool
+  wrongMark k = s .«apply_wrong_label_drops» && wrongLabelMark w (s .«cell_size») k
+
+  abbrev pub pointFilters : (ℕ → Cell) → List Marking
+  pointFilters cell =
+      record { filter = validate; marks = λ (m : List ℕ). validateMark s w cell }
+      ∷ record { filter = orientation; marks = λ (m : List ℕ). orientationMark w }
+      ∷ record { filter = wrong; marks = λ (m : List ℕ). wrongMark }
+      ∷ []
+
+  -- ---- and those that go by what these leave
+
+  -- "A survivor is a point whose index gets no mark under these rules other than the component mark": one whose byte is 0. Of the others,
+  -- "smaller patches are marked"; with the largest-patch switch off, none.
+  abbrev pub componentMarked : List ℕ → ℕ → Bool
+  componentMarked marks = let c = filterOf w (sidesOf s) marks .marks in λ k. s .«apply_largest_component» && isSet c k
+
+  abbrev pub patchFilters : List Marking
+  patchFilters = record { filter = component; marks = componentMarked } ∷ []
+
+  -- "With the switch off the count is 0."
+  unfoldable pub componentsIn : List ℕ → ℕ
+  unfolding filterOf
+  componentsIn marks = cond (s .«apply_largest_component») (filterOf w (sidesOf s) marks .«components_seen») 0
+
+  unfoldable pub patchedOf : List ℕ → DropSet
+  unfolding markedByAll componentsIn filterOf
+  patchedOf marks = record { marks = markedByAll (w .count) patchFilters marks; components = componentsIn marks }
+
+-- ---- the judged sheet
+
+module _ (s : Settings) (w : View) (cell : ℕ → Cell) where
+  -- "Byte 0: marks", up to the wrong-label mark
+  unfoldable pub pointMarks : List ℕ
+  unfolding markedByAll validateMark orientationMark wrongLabelMark
+  pointMarks = markedByAll (w .count) (pointFilters s w cell) []
+
+  -- what the filters find that go by the points themselves
+  unfoldable pub measuredOf : Judged
+  unfolding pointMarks residualsOf figuresOf boundaryIn
+  measuredOf =
+      record {
+        marks = pointMarks;
+        components = 0;
+        has = residualsOf s w cell .has;
+        value = residualsOf s w cell .value;
+        figures = figuresOf s w;
+        boundary = boundaryIn s w cell;
+      }
+
+  -- and with the others: the judged sheet
+  unfoldable pub judgedOf : Judged
+  unfolding measuredOf patchedOf
+  judgedOf =
+      let m = measuredOf in
+      let d = patchedOf s w (m .marks) in
+      record { marks = d .marks; components = d .components; has = m .has; value = m .value; figures = m .figures; boundary = m .boundary }

@@ -1,0 +1,74 @@
+-- The columns of the table are those of the points in cell order. Assumes nothing.
+use mathlib.Core.Path.{_≡_, sym, ap, _∙_}
+use mathlib.Core.Bool.{false}
+use mathlib.Core.List.{List}
+use Prim.Native.Nat.{ℕ, _+_, _*_, _/_, _%_, _≤_, _<_}
+use native.Mathlib.Omega.{arith}
+use lib.ListN.{length, getD}
+use lib.Ieee.{nan}
+use Rattle.folds.specs.Below.{or-none}
+use Rattle.folds.specs.Arith.{f32}
+use Rattle.folds.specs.Column.{column, column-ext}
+use Rattle.folds.specs.Lists.{listOf, length-list, list-at}
+use Rattle.view.specs.View.{maxPoints}
+use Rattle.cells.specs.Points.{Point, nowhere, keyOf, keysOf, indicesOf, xsOf, ysOf}
+use Rattle.sheet_file.specs.Limit.{outside}
+use Rattle.sheet_file.specs.Refusals.{floatAt}
+use Rattle.sort.specs.Packed.{placed}
+use Rattle.sort.proofs.Packed.{things-in-order}
+use Rattle.points.specs.Records.{ithPoint, pointsIn}
+use Rattle.points.specs.Refusals.{offLimit, cellOrder}
+use Rattle.points.specs.Entries.{ithKey, entriesOf, entryPoint}
+use Rattle.points.specs.Table.{WithinLimits}
+use Rattle.points.proofs.Ordering.{entries-placed, entry-at, entry-key}
+use Rattle.points.proofs.Clashes.{none-off, all-ranged}
+
+module _ (file : List ℕ) (at n : ℕ) (few : n ≤ maxPoints) where
+  abbrev pub sortedPoints : List Point
+  sortedPoints = cellOrder (pointsIn file at n)
+
+  by-place : sortedPoints ≡ listOf n (λ (r : ℕ). ithPoint file at (placed (ithKey file at false) n r))
+  unfolding pointsIn
+  by-place = things-in-order keyOf (ithPoint file at) n (omega arith)
+
+  pub points-length : length sortedPoints ≡ n
+  points-length = ap length by-place ∙ length-list n (λ (r : ℕ). ithPoint file at (placed (ithKey file at false) n r))
+
+  pub point-at : (k : ℕ) → k < n → getD sortedPoints k nowhere ≡ entryPoint file at (getD (entriesOf file at n false) k 0)
+  point-at k h =
+      ap (λ (l : List Point). getD l k nowhere) by-place ∙ list-at n (λ (r : ℕ). ithPoint file at (placed (ithKey file at false) n r)) k nowhere h
+      ∙ ap (entryPoint file at) (sym (entry-at file at n false few k h))
+
+  -- one field of the points at the entries is that field's column
+  pub field-column : {B : Type 0} (d : B) (field : Point → B) → column maxPoints d n (λ (k : ℕ). field (entryPoint file at (getD (entriesOf file at n false) k 0))) ≡ column maxPoints d (length sortedPoints) (λ (k : ℕ). field (getD sortedPoints k nowhere))
+  field-column d field = rw points-length (column-ext maxPoints d n (λ (k : ℕ). field (entryPoint file at (getD (entriesOf file at n false) k 0))) (λ (k : ℕ). field (getD sortedPoints k nowhere)) (λ k h. ap field (sym (point-at k h))))
+
+  pub key-column : column maxPoints 0 n (λ (k : ℕ). getD (entriesOf file at n false) k 0 / 4096) ≡ keysOf sortedPoints
+  unfolding keysOf
+  key-column =
+      column-ext maxPoints 0 n (λ (k : ℕ). getD (entriesOf file at n false) k 0 / 4096) (λ (k : ℕ). keyOf (entryPoint file at (getD (entriesOf file at n false) k 0))) (λ k h. entry-key file at n false few k h)
+      ∙ field-column 0 keyOf
+
+  pub index-column : column maxPoints 0 n (λ (k : ℕ). entryPoint file at (getD (entriesOf file at n false) k 0) .index) ≡ indicesOf sortedPoints
+  unfolding indicesOf
+  index-column = field-column 0 (λ (p : Point). p .index)
+
+  pub x-column : column maxPoints nan n (λ (k : ℕ). floatAt file (at + 20 * (getD (entriesOf file at n false) k 0 % 4096) + 12)) ≡ xsOf sortedPoints
+  unfolding xsOf
+  x-column = field-column nan (λ (p : Point). f32 (p .x))
+
+  pub y-column : column maxPoints nan n (λ (k : ℕ). floatAt file (at + 20 * (getD (entriesOf file at n false) k 0 % 4096) + 16)) ≡ ysOf sortedPoints
+  unfolding ysOf
+  y-column = field-column nan (λ (p : Point). f32 (p .y))
+
+module _ (file : List ℕ) (at n : ℕ) (entries : List ℕ) (a : WithinLimits file at n entries) where
+  pub key-fits : (k : ℕ) → k < n → getD entries k 0 / 4096 < 0x1_0000_0000
+  key-fits k h =
+      let r = all-ranged file at n (a .bytes) (a .in-range) (getD entries k 0 % 4096) (rw (a .ordered) (entries-placed file at n false (a .room .few) k h)) in
+      omega (arith, rw (← a .ordered) at (entry-key file at n false (a .room .few) k h), r .u, r .v)
+
+  pub x-inside : (i : ℕ) → i < n → outside (floatAt file (at + 20 * i + 12)) ≡ false
+  x-inside i h = or-none (outside (floatAt file (at + 20 * i + 12))) (outside (floatAt file (at + 20 * i + 16))) (none-off file at n offLimit (a .in-limit) i h) .0
+
+  pub y-inside : (i : ℕ) → i < n → outside (floatAt file (at + 20 * i + 16)) ≡ false
+  y-inside i h = or-none (outside (floatAt file (at + 20 * i + 12))) (outside (floatAt file (at + 20 * i + 16))) (none-off file at n offLimit (a .in-limit) i h) .1

@@ -1,0 +1,22 @@
+-- A point depends on its own 20 bytes alone, and the list of a file's points is as long as is said. Assumes nothing.
+use mathlib.Core.Path.{_≡_}
+use mathlib.Core.List.{List}
+use Prim.Native.Nat.{ℕ, _+_, _≤_}
+use native.Mathlib.Omega.{arith}
+use lib.ListN.{length}
+use Rattle.folds.specs.Lists.{listOf, length-list}
+use Rattle.sheet_file.specs.Bytes.{le32}
+use Rattle.sheet_file.proofs.Words.{SameBytes, same-within, le32-same}
+use Rattle.points.specs.Records.{pointIn, ithPoint, pointsIn}
+
+pub word-same : (file : List ℕ) (at : ℕ) (other : List ℕ) (to j : ℕ) → j + 4 ≤ 20 → SameBytes 20 file at other to → le32 other (to + j) ≡ le32 file (at + j)
+word-same file at other to j l h = le32-same file (at + j) other (to + j) (same-within 20 file at other to h j 4 l)
+
+pub point-same : (file : List ℕ) (at : ℕ) (other : List ℕ) (to : ℕ) → SameBytes 20 file at other to → pointIn other to ≡ pointIn file at
+point-same file at other to h =
+    let word : (j : ℕ) → j + 4 ≤ 20 → le32 other (to + j) ≡ le32 file (at + j) = λ j l. word-same file at other to j l h in
+    rw (le32-same file at other to (λ k l. h k (omega arith)), word 4 (omega arith), word 8 (omega arith), word 12 (omega arith), word 16 (omega arith))
+
+pub length-points : (file : List ℕ) (at n : ℕ) → length (pointsIn file at n) ≡ n
+unfolding pointsIn
+length-points file at n = length-list n (ithPoint file at)

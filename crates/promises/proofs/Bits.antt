@@ -1,0 +1,92 @@
+-- The marks of a judged sheet, bit by bit: each is its filter's, there is no other, and a survivor's byte was 0 before the component filter.
+-- Assumes nothing.
+use mathlib.Core.Path.{_≡_, refl, sym, ap, _∙_}
+use mathlib.Core.Bool.{Bool, not, _&&_}
+use mathlib.Core.List.{List, [], _∷_, _++_}
+use Prim.Native.Nat.{ℕ, _<_}
+use native.Mathlib.Omega.{arith}
+use lib.Dec.{eqb, ltb}
+use lib.ListN.{length, getD}
+use borrow.Author.Tests.{ltb-true}
+use Rattle.folds.specs.Below.{some, and-under}
+use Rattle.view.specs.View.{View}
+use Rattle.cells.specs.Points.{Point}
+use Rattle.cells.specs.Cell.{Cell, cellsOf}
+use Rattle.grid.specs.Views.{viewOf}
+use Rattle.sheet_file.specs.declared.Settings.{Settings}
+use Rattle.marks.specs.Filters.{filterCount, validate, orientation, wrong, component}
+use Rattle.marks.specs.Byte.{hasMark, Marking, markedByAll}
+use Rattle.marks.proofs.Byte.{in-two, one-more, marked-by, others-than, next-zero, all-small, by-same}
+use Rattle.validate.specs.Validate.{validateMark}
+use Rattle.orientation.specs.Orientation.{orientationMark}
+use Rattle.drop_set.specs.Filters.{wrongMark, pointFilters, patchFilters, componentMarked, componentsIn, patchedOf, pointMarks, measuredOf, judgedOf}
+use Rattle.judging.specs.Judging.{judgedFor}
+use Rattle.promises.specs.Words.{marksIn, hasOther, survivor, keptRank}
+
+module _ (s : Settings) (w : View) (cell : ℕ → Cell) where
+  abbrev all : List Marking
+  all = pointFilters s w cell ++ patchFilters s w
+
+  marks-are : judgedOf s w cell .marks ≡ markedByAll (w .count) all []
+  unfolding judgedOf measuredOf patchedOf pointMarks
+  marks-are = sym (in-two (w .count) (pointFilters s w cell) (patchFilters s w) [])
+
+  module _ (k : ℕ) (h : k < w .count) where
+    read : (f : ℕ) → hasMark f (getD (judgedOf s w cell .marks) k 0) ≡ hasMark f (getD (markedByAll (w .count) all []) k 0)
+    read f = ap (λ (l : List ℕ). hasMark f (getD l k 0)) marks-are
+
+    pub validate-bit : hasMark validate (getD (judgedOf s w cell .marks) k 0) ≡ validateMark s w cell k
+    validate-bit = read validate ∙ marked-by (w .count) k h [] _ (record { filter = validate; marks = λ (m : List ℕ). validateMark s w cell }) refl refl refl refl
+
+    pub orientation-bit : hasMark orientation (getD (judgedOf s w cell .marks) k 0) ≡ orientationMark w k
+    orientation-bit =
+        read orientation
+        ∙ marked-by (w .count) k h (record { filter = validate; marks = λ (m : List ℕ). validateMark s w cell } ∷ []) _ (record { filter = orientation; marks = λ (m : List ℕ). orientationMark w }) refl refl refl refl
+
+    pub wrong-bit : hasMark wrong (getD (judgedOf s w cell .marks) k 0) ≡ wrongMark s w k
+    wrong-bit =
+        read wrong
+        ∙ marked-by (w .count) k h (record { filter = validate; marks = λ (m : List ℕ). validateMark s w cell } ∷ record { filter = orientation; marks = λ (m : List ℕ). orientationMark w } ∷ []) _ (record { filter = wrong; marks = λ (m : List ℕ). wrongMark s w }) refl refl refl refl
+
+    pub component-bit : hasMark component (getD (judgedOf s w cell .marks) k 0) ≡ componentMarked s w (pointMarks s w cell) k
+    unfolding pointMarks
+    component-bit = read component ∙ marked-by (w .count) k h (pointFilters s w cell) [] (record { filter = component; marks = componentMarked s w }) refl refl refl refl
+
+    -- a mark other than the component mark
+    pub others-are : some (λ (f : ℕ). not (eqb f component) && hasMark f (getD (judgedOf s w cell .marks) k 0)) filterCount ≡ not (eqb (getD (pointMarks s w cell) k 0) 0)
+    unfolding pointMarks
+    others-are =
+        ap (λ (l : List ℕ). some (λ (f : ℕ). not (eqb f component) && hasMark f (getD l k 0)) filterCount) marks-are
+        ∙ others-than (w .count) k h (pointFilters s w cell) (record { filter = component; marks = componentMarked s w }) refl (omega arith) refl
+
+    -- no mark: none before the component filter, and not its own
+    pub no-mark : eqb (getD (judgedOf s w cell .marks) k 0) 0 ≡ not (componentMarked s w (pointMarks s w cell) k) && eqb (getD (pointMarks s w cell) k 0) 0
+    unfolding pointMarks
+    no-mark =
+        ap (λ (l : List ℕ). eqb (getD l k 0) 0) (marks-are ∙ one-more (w .count) (pointFilters s w cell) (record { filter = component; marks = componentMarked s w }) [])
+        ∙ next-zero (w .count) k h (record { filter = component; marks = componentMarked s w }) (markedByAll (w .count) (pointFilters s w cell) []) (all-small (w .count) k h (pointFilters s w cell) [] refl (omega arith)) (omega arith)
+
+-- of the cells, the marks and the count depend on the validate marks alone
+module _ (s : Settings) (w : View) (cell cell′ : ℕ → Cell) (same : (k : ℕ) → k < w .count → validateMark s w cell k ≡ validateMark s w cell′ k) where
+  points-same : pointMarks s w cell ≡ pointMarks s w cell′
+  unfolding pointMarks markedByAll
+  points-same = ap (markedByAll (w .count) (record { filter = orientation; marks = λ (m : List ℕ). orientationMark w } ∷ record { filter = wrong; marks = λ (m : List ℕ). wrongMark s w } ∷ [])) (by-same (w .count) validate (validateMark s w cell) (validateMark s w cell′) [] same)
+
+  pub marks-same : judgedOf s w cell .marks ≡ judgedOf s w cell′ .marks
+  unfolding judgedOf measuredOf
+  marks-same = ap (λ (m : List ℕ). patchedOf s w m .marks) points-same
+
+-- ---- the same of points in cell order
+
+module _ (s : Settings) (ps : List Point) where
+  -- the bytes before the component filter
+  abbrev pub dropped : List ℕ
+  dropped = pointMarks s (viewOf ps) (cellsOf ps)
+
+  pub survivor-is : (k : ℕ) → survivor s ps k ≡ ltb k (length ps) && eqb (getD dropped k 0) 0
+  unfolding judgedFor viewOf
+  survivor-is k = and-under (ltb k (length ps)) (λ e. ap not (others-are s (viewOf ps) (cellsOf ps) k (ltb-true k (length ps) e)) ∙ not-not (eqb (getD dropped k 0) 0))
+
+  pub kept-is : (k : ℕ) → keptRank s ps k ≡ ltb k (length ps) && (not (componentMarked s (viewOf ps) dropped k) && eqb (getD dropped k 0) 0)
+  unfolding judgedFor viewOf
+  kept-is k = and-under (ltb k (length ps)) (λ e. no-mark s (viewOf ps) (cellsOf ps) k (ltb-true k (length ps) e))

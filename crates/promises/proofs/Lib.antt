@@ -1,0 +1,5 @@
+pub mod Bits
+pub mod Patch
+pub mod RowMarks
+pub mod Moving
+pub mod Unswitched

@@ -1,0 +1,100 @@
+-- Which number is given: of a list of points with settings, and of a file and the length of a result buffer. Assumes nothing.
+use mathlib.Core.Path.{_≡_, refl, sym, _∙_}
+use mathlib.Core.Bool.{Bool, true, false, not}
+use mathlib.Core.List.{List}
+use Prim.Native.Nat.{ℕ, _<_}
+use native.Mathlib.Omega.{arith}
+use lib.Dec.{ltb}
+use borrow.Author.Tests.{ltb-true}
+use Rattle.folds.specs.Among.{anyIn}
+use Rattle.refusals.specs.First.{ruled, appliesIn}
+use Rattle.refusals.proofs.Laws.{holds, numbersOf, earlierThan, DistinctNumbers, FirstHolding, none-applies-in, none-holds, each-listed, first-given, only-first, none-passes, only-none, ruled-in-two}
+use Rattle.cells.specs.Points.{Point}
+use Rattle.sheet_file.specs.Frame.{framingOf, layoutOf}
+use Rattle.sheet_file.specs.Refusals.{settingsOf, headerRefusals}
+use Rattle.sheet_file.specs.declared.Settings.{Settings}
+use Rattle.points.specs.Refusals.{pointRefusals, cellOrder}
+use Rattle.ruling.specs.Ruling.{Ruling, refused, accepted, rulingFor, pointsOf, refusalsOf, rulingOf, applies}
+
+one : (a b : ℕ) → refused a ≡ refused b → a ≡ b
+one a b e = cc
+
+other : {s : Settings} {ps : List Point} (k : ℕ) → refused k ≡ accepted s ps → ⊥
+other k e = let z : _≡_ {A = ℕ} 0 1 = cc in omega arith
+
+-- ---- of a list of points
+
+-- none holds where they are accepted
+pub for-accepted : (s t : Settings) (ps qs : List Point) → rulingFor s ps ≡ accepted t qs → (anyIn holds (pointRefusals ps) ≡ false) × (accepted s (cellOrder ps) ≡ accepted t qs)
+unfolding rulingFor
+for-accepted s t ps qs e = only-none refused (accepted s (cellOrder ps)) (accepted t qs) other (pointRefusals ps) e
+
+-- settings are handed on, and matter to no refusal of points
+pub other-settings : (s t : Settings) (ps qs : List Point) → rulingFor s ps ≡ accepted s qs → rulingFor t ps ≡ accepted t qs
+unfolding rulingFor
+other-settings s t ps qs e =
+    let k = for-accepted s s ps qs e in
+    let q : cellOrder ps ≡ qs = cc (k .1) in
+    none-passes refused (accepted t (cellOrder ps)) (pointRefusals ps) (k .0) ∙ rw q
+
+-- ---- of a file
+
+module _ (file : List ℕ) (room : ℕ) where
+  -- what is ruled where no number applies
+  abbrev passed : Ruling
+  passed = accepted (settingsOf file (layoutOf file)) (cellOrder (pointsOf file))
+
+  -- the ruling on the points, where the header has no fault
+  pub by-points : rulingOf file room ≡ ruled refused (rulingFor (settingsOf file (layoutOf file)) (pointsOf file)) (headerRefusals file room (framingOf file))
+  unfolding rulingOf rulingFor
+  by-points = ruled-in-two refused passed (headerRefusals file room (framingOf file)) (pointRefusals (pointsOf file))
+
+  -- an accepted file has no fault in its header, and its points are accepted with its settings
+  pub in-file : {s : Settings} {ps : List Point} → rulingOf file room ≡ accepted s ps
+      → (anyIn holds (headerRefusals file room (framingOf file)) ≡ false) × (rulingFor (settingsOf file (layoutOf file)) (pointsOf file) ≡ accepted s ps)
+  in-file {s} {ps} e = only-none refused (rulingFor (settingsOf file (layoutOf file)) (pointsOf file)) (accepted s ps) other (headerRefusals file room (framingOf file)) (sym by-points ∙ e)
+
+  distinct : DistinctNumbers (refusalsOf file room)
+  unfolding refusalsOf
+  distinct = refl
+
+  -- number k applies, and no earlier one does: it is given
+  pub given : (k : ℕ) → applies file room k ≡ true → anyIn holds (earlierThan (refusalsOf file room) k) ≡ false → rulingOf file room ≡ refused k
+  unfolding rulingOf applies
+  given k e f = first-given refused passed (refusalsOf file room) k e f
+
+  -- no number applies: accepted
+  pub none-given : ((j : ℕ) → applies file room j ≡ false) → rulingOf file room ≡ accepted (settingsOf file (layoutOf file)) (cellOrder (pointsOf file))
+  unfolding rulingOf applies
+  none-given f = none-passes refused passed (refusalsOf file room) (none-holds (refusalsOf file room) distinct f)
+
+  -- what a ruling says of the conditions; a number is a byte, and not 0
+  pub record First (k : ℕ) : Type 0 where
+    pub low : 0 < k
+    pub high : k < 256
+    pub holding : applies file room k ≡ true
+    pub earlier : (j : ℕ) → appliesIn (earlierThan (refusalsOf file room) k) j ≡ false
+
+  numbered : (p : ℕ → Bool) (k : ℕ) → anyIn (λ (n : ℕ). not (p n)) (numbersOf (refusalsOf file room)) ≡ false → FirstHolding (refusalsOf file room) k → p k ≡ true
+  numbered p k e f = each-listed p (numbersOf (refusalsOf file room)) k e (f .listed)
+
+  pub is-given : (k : ℕ) → rulingOf file room ≡ refused k → First k
+  unfolding rulingOf applies
+  is-given k e =
+      let f = only-first refused passed one other (refusalsOf file room) distinct k e in
+      record {
+        low = ltb-true 0 k (numbered (ltb 0) k refl f);
+        high = ltb-true k 256 (numbered (λ (n : ℕ). ltb n 256) k refl f);
+        holding = f .holding;
+        earlier = none-applies-in (earlierThan (refusalsOf file room) k) (f .earlier);
+      }
+
+  -- what an accepted file says
+  pub is-accepted : {s : Settings} {ps : List Point} → rulingOf file room ≡ accepted s ps
+      → (anyIn holds (refusalsOf file room) ≡ false) × (accepted (settingsOf file (layoutOf file)) (cellOrder (pointsOf file)) ≡ accepted s ps)
+  unfolding rulingOf
+  is-accepted {s} {ps} e = only-none refused passed (accepted s ps) other (refusalsOf file room) e
+
+  pub none-applies : {s : Settings} {ps : List Point} → rulingOf file room ≡ accepted s ps → (j : ℕ) → applies file room j ≡ false
+  unfolding applies
+  none-applies e = none-applies-in (refusalsOf file room) (is-accepted e .0)

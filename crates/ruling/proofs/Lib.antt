@@ -1,0 +1,9 @@
+pub mod Given
+pub mod Bounds
+pub mod Parts
+pub mod Numbered
+pub mod Header
+pub mod Standing
+pub mod Order
+pub mod Offset
+pub mod Switches
