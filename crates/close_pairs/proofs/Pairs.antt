@@ -17,13 +17,9 @@ use lib.Ieee.{Float, nan, lt}
 use Rattle.folds.specs.Arith.{zeroF}
 use Rattle.folds.specs.Below.{some, some-yes, some-at, some-no, both-ways, and-left, and-right, and-false, or-true}
 use Rattle.folds.specs.Column.{column, column-at}
-<<<<<<< HEAD
 use Rattle.view.specs.View.{maxPoints, viewAt, Finite}
 use Rattle.sort.specs.Packed.{packed, inOrder}
 use Rattle.sort.proofs.Packed.{placed-below, placed-is, place-of, placed-rises}
-use Rattle.marks.specs.Arrays.{Finite, placedView}
-=======
->>>>>>> wrong
 use Rattle.close_pairs.specs.Close.{close, squareOf, closeMark, limitOf}
 use Rattle.close_pairs.specs.Keys.{keyOf, rankIn, Ordered}
 use Rattle.close_pairs.specs.Sweep.{closeIn, squareX, pairHits, sweepHits, Sweepable}

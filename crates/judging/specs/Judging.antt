@@ -3,9 +3,9 @@ use mathlib.Core.List.{List}
 use Prim.Native.Nat.{ℕ}
 use Rattle.view.specs.View.{viewAt, Finite}
 use Rattle.cells.specs.Points.{Point}
-use Rattle.cells.specs.Cell.{cellsAt}
+use Rattle.cells.specs.Cell.{cellsAt, cellsOf}
 use Rattle.grid.specs.Tables.{Keys, ranksOf}
-use Rattle.grid.specs.Views.{viewOf, cellsOf}
+use Rattle.grid.specs.Views.{viewOf}
 use Rattle.sheet_file.specs.declared.Settings.{Settings}
 use Rattle.points.specs.declared.Table.{Table}
 use Rattle.drop_set.specs.Filters.{judgedOf}

@@ -1,3 +1,2 @@
 pub mod Validate
-pub mod Ready
-pub mod Stages
+pub mod Parts

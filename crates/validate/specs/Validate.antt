@@ -1,6 +1,6 @@
--- The validate mark, residuals and edge figures of a sheet, from its settings s, its view w and the keys of its cells: document 01,
+-- The validate mark, residuals and edge figures of a sheet, from its settings s, its view w and the cells of its ranks: document 01,
 -- "Validate marks". The two switches occur in none of it. Assumes nothing.
-use mathlib.Core.Bool.{Bool, true, false, cond, not, _&&_, _||_}
+use mathlib.Core.Bool.{Bool, true, false, not, _||_}
 use mathlib.Core.List.{List}
 use Prim.Native.Nat.{ℕ}
 use lib.Dec.{eqb}
@@ -9,6 +9,7 @@ use lib.Ieee.{Float, nan}
 use Rattle.folds.specs.Column.{column}
 use Rattle.folds.specs.Marked.{bit}
 use Rattle.view.specs.View.{View, maxPoints, squareSides}
+use Rattle.cells.specs.Cell.{Cell}
 use Rattle.sheet_file.specs.declared.Settings.{Settings}
 use Rattle.sheet_file.specs.declared.EdgeGate.{EdgeGate}
 use Rattle.sheet_file.specs.declared.EdgeGate.the-variants.{Off, On}
@@ -18,28 +19,35 @@ use Rattle.lines.specs.Flags.{flagsAt}
 use Rattle.local_h.specs.ByIndex.{indexColumns}
 use Rattle.local_h.specs.declared.Residuals.{Residuals}
 use Rattle.blame.specs.Marks.{Evidence, evidenceBy, isMarked}
-use Rattle.edge_shape.specs.Figures.{figuresAt, noFigures, reasonNumber}
+use Rattle.edge_shape.specs.Figures.{noFigures, indexFigures, reasonNumber}
 use Rattle.edge_shape.specs.declared.Figures.{Figures}
-use Rattle.boxes.specs.Boxes.{boundaryOf}
+use Rattle.edge_shape.specs.declared.Reason.{Reason}
+use Rattle.patches.specs.Boxes.{boundaryOf}
+use Rattle.validate.specs.declared.Validated.{Validated}
 
--- the edge figures of each rank's cell. "Absent means no edge-shape gate."
+-- the edge figures of each rank's index. "Absent means no edge-shape gate."
 abbrev pub figuresBy : EdgeGate → View → List Figures
 figuresBy Off w = column maxPoints noFigures (w .count) (λ (k : ℕ). noFigures)
-figuresBy (On g) w = column maxPoints noFigures (w .count) (figuresAt g w)
+figuresBy (On g) w = indexFigures g w
 
--- whether each rank lies on the boundary of the box of its patch of all cells
-abbrev pub boundaryBy : EdgeGate → View → List ℕ → List ℕ
-boundaryBy Off w keys = column maxPoints 0 (w .count) (λ (k : ℕ). 0)
-boundaryBy (On g) w keys = boundaryOf (w .count) (w .near) squareSides keys
+-- whether each rank's index lies on the boundary of the box of its patch of all cells
+abbrev pub boundaryBy : EdgeGate → View → (ℕ → Cell) → List ℕ
+boundaryBy Off w cell = column maxPoints 0 (w .count) (λ (k : ℕ). 0)
+boundaryBy (On g) w cell = boundaryOf w squareSides cell
 
 abbrev pub isGated : EdgeGate → Bool
 isGated Off = false
 isGated (On g) = true
 
-module _ (s : Settings) (w : View) (keys : List ℕ) where
-  abbrev pub keyAt : ℕ → ℕ
-  keyAt k = getD keys k 0
+-- "(5) an edge reason"
+abbrev pub isReason : Reason → Bool
+isReason reason = not (eqb (reasonNumber reason) 0)
 
+-- by index: that of rank k's index
+abbrev pub hasReason : List Figures → ℕ → Bool
+hasReason figures k = isReason (getD figures k noFigures .reason)
+
+module _ (s : Settings) (w : View) where
   -- the local step of each index, at its place
   unfoldable pub stepsOf : List Float
   stepsOf = column maxPoints nan (w .count) (stepAt w (s .«use_step_aware»))
@@ -49,7 +57,7 @@ module _ (s : Settings) (w : View) (keys : List ℕ) where
 
   -- the scale of each rank's index
   unfoldable pub scalesOf : List Float
-  scalesOf = column maxPoints nan (w .count) (scaleAt (w .byIdx) stepOf (s .«cell_size»))
+  scalesOf = column maxPoints nan (w .count) (scaleAt w stepOf (s .«cell_size»))
 
   abbrev pub scaleOf : ℕ → Float
   scaleOf k = getD scalesOf k nan
@@ -58,31 +66,39 @@ module _ (s : Settings) (w : View) (keys : List ℕ) where
   unfoldable pub flagsOf : List ℕ
   flagsOf = column maxPoints 0 (w .count) (flagsAt w scaleOf (s .«line_tol_rel») (s .«line_min_members»))
 
-  -- the residual of each rank's index, and whether it is over the tolerance or over twice the tolerance
-  unfoldable pub residualsOf : Residuals
-  residualsOf = indexColumns w keyAt scaleOf (s .«local_h_tol_rel»)
-
   -- whether the step of each index lies outside the limits
   unfoldable pub deviationsOf : List ℕ
   deviationsOf = column maxPoints 0 (w .count) (λ (m : ℕ). bit (deviates stepOf (w .count) (s .«step_deviation_thresh_rel») m))
 
-  -- what rules 1 to 4 go by
-  abbrev pub evidenceOf : Evidence
-  evidenceOf = evidenceBy flagsOf (residualsOf .over) (residualsOf .high) deviationsOf
-
   unfoldable pub figuresOf : List Figures
   figuresOf = figuresBy (s .«edge_shape») w
 
-  unfoldable pub boundaryIn : List ℕ
-  boundaryIn = boundaryBy (s .«edge_shape») w keys
+  module _ (cell : ℕ → Cell) where
+    -- the residual of each rank's index, and whether it is over the tolerance or over twice the tolerance
+    unfoldable pub residualsOf : Residuals
+    residualsOf = indexColumns w cell scaleOf (s .«local_h_tol_rel»)
 
-  -- "(5) an edge reason": that of the winning entry of rank k's index
-  abbrev pub hasReason : ℕ → Bool
-  hasReason k = not (eqb (reasonNumber (getD figuresOf (w .byIdx k) noFigures .reason)) 0)
+    -- what rules 1 to 4 go by
+    abbrev pub evidenceOf : Evidence
+    evidenceOf = evidenceBy flagsOf (residualsOf .over) (residualsOf .high) deviationsOf
 
-  -- the validate mark of rank k's index
-  unfoldable pub validateMark : ℕ → Bool
-  validateMark k = isMarked w evidenceOf (w .byIdx k) || hasReason k
+    unfoldable pub boundaryIn : List ℕ
+    boundaryIn = boundaryBy (s .«edge_shape») w cell
 
-  unfoldable pub validateMarks : List ℕ
-  validateMarks = column maxPoints 0 (w .count) (λ (k : ℕ). bit (validateMark k))
+    -- the validate mark of rank k's index
+    unfoldable pub validateMark : ℕ → Bool
+    validateMark k = isMarked w evidenceOf (w .byIdx k) || hasReason figuresOf k
+
+    unfoldable pub validateMarks : List ℕ
+    validateMarks = column maxPoints 0 (w .count) (λ (k : ℕ). bit (validateMark k))
+
+    -- all of it
+    unfoldable pub validatedOf : Validated
+    validatedOf =
+        record {
+          marks = validateMarks;
+          has = residualsOf .has;
+          value = residualsOf .value;
+          figures = figuresOf;
+          boundary = boundaryIn;
+        }

@@ -1,0 +1,71 @@
+-- The stages of `validate`, one after the other: what the code makes of each is what the definitions say. Assumes nothing.
+use mathlib.Core.Path.{_≡_, refl, sym, ap, _∙_}
+use mathlib.Core.Bool.{Bool, _||_}
+use mathlib.Core.List.{List}
+use Prim.Native.Nat.{ℕ, _≤_, _<_}
+use lib.ListN.{getD, replicate}
+use lib.Ieee.{Float, nan}
+use Rattle.folds.specs.Column.{column, column-ext, filled, replicate-at}
+use Rattle.folds.specs.Marked.{bit}
+use Rattle.view.specs.View.{View, maxPoints, squareSides}
+use Rattle.cells.specs.Cell.{Cell}
+use Rattle.marks.specs.Marks.{isSet}
+use Rattle.marks.proofs.Guards.{set-is}
+use Rattle.sheet_file.specs.declared.Settings.{Settings}
+use Rattle.sheet_file.specs.declared.EdgeShapeParams.{EdgeShapeParams}
+use Rattle.sheet_file.specs.declared.EdgeGate.{EdgeGate}
+use Rattle.sheet_file.specs.declared.EdgeGate.the-variants.{Off, On}
+use Rattle.step.specs.Step.{stepAt, scaleAt}
+use Rattle.step.specs.Deviation.{deviates}
+use Rattle.lines.specs.Flags.{flagsAt}
+use Rattle.local_h.specs.ByIndex.{indexColumns}
+use Rattle.local_h.specs.declared.Residuals.{Residuals}
+use Rattle.blame.specs.Marks.{evidenceBy, isMarked, marksOf}
+use Rattle.edge_shape.specs.Figures.{noFigures, indexFigures}
+use Rattle.edge_shape.specs.declared.Figures.{Figures}
+use Rattle.patches.specs.Boxes.{boundaryOf}
+use Rattle.validate.specs.declared.ByRules.{ByRules}
+use Rattle.validate.specs.declared.ByGate.{ByGate}
+use Rattle.validate.specs.declared.Validated.{Validated}
+use Rattle.validate.specs.Validate.{stepsOf, scalesOf, flagsOf, residualsOf, deviationsOf, evidenceOf, figuresBy, figuresOf, boundaryBy, boundaryIn, hasReason, validateMark, validateMarks, validatedOf}
+use Rattle.validate.specs.Parts.{byRulesOf, byGateOf}
+
+module _ (s : Settings) (w : View) (cell : ℕ → Cell) where
+  -- rules 1 to 4
+  pub rules-are : {steps scales : List Float} {flags deviations marks : List ℕ} {r : Residuals}
+      → steps ≡ column maxPoints nan (w .count) (stepAt w (s .«use_step_aware»))
+      → scales ≡ column maxPoints nan (w .count) (scaleAt w (λ (m : ℕ). getD steps m nan) (s .«cell_size»))
+      → flags ≡ column maxPoints 0 (w .count) (flagsAt w (λ (k : ℕ). getD scales k nan) (s .«line_tol_rel») (s .«line_min_members»))
+      → r ≡ indexColumns w cell (λ (j : ℕ). getD scales j nan) (s .«local_h_tol_rel»)
+      → deviations ≡ column maxPoints 0 (w .count) (λ (m : ℕ). bit (deviates (λ (k : ℕ). getD steps k nan) (w .count) (s .«step_deviation_thresh_rel») m))
+      → marks ≡ marksOf w (evidenceBy flags (r .over) (r .high) deviations)
+      → _≡_ {A = ByRules} (record { marks = marks; has = r .has; value = r .value }) (byRulesOf s w cell)
+  unfolding stepsOf scalesOf flagsOf residualsOf deviationsOf
+  rules-are st sc fl re de ma = rw (ma, de, re, fl, sc, st)
+
+  -- the marks of rules 1 to 4 are read as the rules
+  marked-is : (k : ℕ) → k < w .count → isSet (marksOf w (evidenceOf s w cell)) k ≡ isMarked w (evidenceOf s w cell) (w .byIdx k)
+  unfolding marksOf
+  marked-is k l = set-is maxPoints (w .count) (λ (j : ℕ). isMarked w (evidenceOf s w cell) (w .byIdx j)) (marksOf w (evidenceOf s w cell)) refl k l
+
+  -- with rule 5
+  pub all-are : {r : ByRules} {g : ByGate} {marks : List ℕ} → r ≡ byRulesOf s w cell → g ≡ byGateOf (s .«edge_shape») w cell
+      → marks ≡ column maxPoints 0 (w .count) (λ (k : ℕ). bit (isSet (r .marks) k || hasReason (g .figures) k))
+      → _≡_ {A = Validated} (record { marks = marks; has = r .has; value = r .value; figures = g .figures; boundary = g .boundary }) (validatedOf s w cell)
+  unfolding validatedOf validateMarks validateMark figuresOf boundaryIn
+  all-are e f h =
+      rw (h, e, f, column-ext maxPoints 0 (w .count) _ _ (λ k l. ap (λ (b : Bool). bit (b || hasReason (figuresBy (s .«edge_shape») w) k)) (marked-is k l)))
+
+-- ---- with and without a gate
+
+blank : {A : Type 0} (d : A) (n : ℕ) → n ≤ maxPoints → replicate maxPoints d ≡ column maxPoints d n (λ (k : ℕ). d)
+blank d n h = filled n h (record { long = refl; done = λ k l. replicate-at maxPoints d k; left = λ k l. refl })
+
+module _ (w : View) (cell : ℕ → Cell) {gate : EdgeGate} where
+  pub off-is : {none : Figures} → gate ≡ Off → w .count ≤ maxPoints → none ≡ noFigures
+      → _≡_ {A = ByGate} (record { figures = replicate maxPoints none; boundary = replicate maxPoints 0 }) (byGateOf gate w cell)
+  off-is e h p = rw (e, p, blank noFigures (w .count) h, blank {A = ℕ} 0 (w .count) h)
+
+  pub on-is : (g : EdgeShapeParams) {sides boundary : List ℕ} {figures : List Figures} → gate ≡ On g → sides ≡ squareSides → figures ≡ indexFigures g w → boundary ≡ boundaryOf w sides cell
+      → _≡_ {A = ByGate} (record { figures = figures; boundary = boundary }) (byGateOf gate w cell)
+  on-is g e p f b = rw (e, f, b, p)
