@@ -52,10 +52,25 @@ agree-itself z = agree-same z z refl
 eqb-itself : (m : ℕ) → eqb m m ≡ true
 eqb-itself m = eq-eqb m m refl
 
-module _ (ps : List Point) (few : length ps ≤ maxPoints) where
+module _ (ps : List Point) where
   abbrev index : ℕ → ℕ
   index k = getD ps k nowhere .index
 
+  index-at : (k : ℕ) → k < length ps → entryIn (indexList ps) k ≡ index k
+  index-at k h = list-at (length ps) index k 0 h
+
+  -- one index
+  pub one-index : (j k : ℕ) → j < length ps → k < length ps → viewOf ps .byIdx j ≡ viewOf ps .byIdx k → index j ≡ index k
+  unfolding lastWithIndex
+  one-index j k a b e =
+      sym (index-at j a) ∙ one-last eqb eqb-itself eqb-true (entryIn (indexList ps)) (length ps) j k a b (sym (index-read ps j a) ∙ e ∙ index-read ps k b) ∙ index-at k b
+
+  pub index-same : (j k : ℕ) → j < length ps → k < length ps → index j ≡ index k → viewOf ps .byIdx j ≡ viewOf ps .byIdx k
+  unfolding lastWithIndex
+  index-same j k a b e =
+      index-read ps j a ∙ last-same eqb eqb-itself eqb-true (entryIn (indexList ps)) (length ps) j k (index-at j a ∙ e ∙ sym (index-at k b)) ∙ sym (index-read ps k b)
+
+module _ (ps : List Point) (few : length ps ≤ maxPoints) where
   abbrev cell : ℕ → Cell
   cell k = cellOf (getD ps k nowhere)
 
@@ -65,25 +80,11 @@ module _ (ps : List Point) (few : length ps ≤ maxPoints) where
   abbrev columnNumber : ℕ → ℤ
   columnNumber k = cellsOf ps k .u
 
-  index-at : (k : ℕ) → k < length ps → entryIn (indexList ps) k ≡ index k
-  index-at k h = list-at (length ps) index k 0 h
-
   v-at : (k : ℕ) → k < length ps → rowNumber k ≡ cell k .v
   v-at k h = ap (λ (c : Cell). c .v) (cell-at ps k h)
 
   u-at : (k : ℕ) → k < length ps → columnNumber k ≡ cell k .u
   u-at k h = ap (λ (c : Cell). c .u) (cell-at ps k h)
-
-  -- one index
-  pub one-index : (j k : ℕ) → j < length ps → k < length ps → viewOf ps .byIdx j ≡ viewOf ps .byIdx k → index j ≡ index k
-  unfolding lastWithIndex
-  one-index j k a b e =
-      sym (index-at j a) ∙ one-last eqb eqb-itself eqb-true (entryIn (indexList ps)) (length ps) j k a b (sym (index-read ps few j a) ∙ e ∙ index-read ps few k b) ∙ index-at k b
-
-  pub index-same : (j k : ℕ) → j < length ps → k < length ps → index j ≡ index k → viewOf ps .byIdx j ≡ viewOf ps .byIdx k
-  unfolding lastWithIndex
-  index-same j k a b e =
-      index-read ps few j a ∙ last-same eqb eqb-itself eqb-true (entryIn (indexList ps)) (length ps) j k (index-at j a ∙ e ∙ sym (index-at k b)) ∙ sym (index-read ps few k b)
 
   -- one row
   pub one-row : (j k : ℕ) → j < length ps → k < length ps → viewOf ps .row j ≡ viewOf ps .row k → cell j .v ≡ cell k .v

@@ -55,6 +55,9 @@ upToRows n near row = splice rowsAt n row (upToNear n near)
 abbrev upToColumns : ℕ → (ℕ → ℕ) → (ℕ → ℕ) → (ℕ → ℕ) → ℕ → ℕ
 upToColumns n near row column = splice columnsAt n column (upToRows n near row)
 
+pub block-index : (n : ℕ) (near row column index : ℕ → ℕ) (k : ℕ) → k < n → blocks n near row column index (indicesAt + k) ≡ index k
+block-index n near row column index k h = splice-at indicesAt n index (upToColumns n near row column) k h
+
 module _ (n : ℕ) (near row column index : ℕ → ℕ) (few : n ≤ maxPoints) where
   pub block-near : (i : ℕ) → i < 25 * n → blocks n near row column index i ≡ near i
   block-near i h =
@@ -67,9 +70,6 @@ module _ (n : ℕ) (near row column index : ℕ → ℕ) (few : n ≤ maxPoints)
   pub block-column : (k : ℕ) → k < n → blocks n near row column index (columnsAt + k) ≡ column k
   block-column k h = splice-before indicesAt n index (upToColumns n near row column) (columnsAt + k) (omega arith) ∙ splice-at columnsAt n column (upToRows n near row) k h
 
-  pub block-index : (k : ℕ) → k < n → blocks n near row column index (indicesAt + k) ≡ index k
-  block-index k h = splice-at indicesAt n index (upToColumns n near row column) k h
-
   -- the list of the table, at every place
   pub blocks-list : (i : ℕ) → entryIn (listOf ranksSize (blocks n near row column index)) i ≡ blocks n near row column index i
   blocks-list i = go (decLt i ranksSize)
@@ -78,7 +78,9 @@ module _ (n : ℕ) (near row column index : ℕ → ℕ) (few : n ≤ maxPoints)
       go (yes h) = list-at ranksSize (blocks n near row column index) i 0 h
       go (no x) =
           list-over ranksSize (blocks n near row column index) i 0 (omega (arith, x))
-          ∙ sym (splice-after indicesAt n index (upToColumns n near row column) i (omega (arith, x)) ∙ splice-after columnsAt n column (upToRows n near row) i (omega (arith, x)) ∙ splice-after rowsAt n row (upToNear n near) i (omega (arith, x)) ∙ splice-after 0 (25 * n) near (λ (i : ℕ). 0) i (omega (arith, x)))
+          ∙ sym
+          (splice-after indicesAt n index (upToColumns n near row column) i (omega (arith, x))
+          ∙ splice-after columnsAt n column (upToRows n near row) i (omega (arith, x)) ∙ splice-after rowsAt n row (upToNear n near) i (omega (arith, x)) ∙ splice-after 0 (25 * n) near (λ (i : ℕ). 0) i (omega (arith, x)))
 
 -- tables of lists are tables of what the lists are of
 pub blocks-of : (n : ℕ) (near row column index : ℕ → ℕ) (i : ℕ)

@@ -54,7 +54,7 @@ module _ (n : ℕ) (keys indices : List ℕ) (few : n ≤ maxPoints) where
     few = few;
     rows = λ k h. rw (held (rowsAt + k), block-row n (neighbourEntry n cell) (firstInRow n cell) (firstInColumn n cell) (lastWithIndex n index) few k h) (rows-below k h);
     columns = λ k h. rw (held (columnsAt + k), block-column n (neighbourEntry n cell) (firstInRow n cell) (firstInColumn n cell) (lastWithIndex n index) few k h) (columns-below k h);
-    indices = λ k h. rw (held (indicesAt + k), block-index n (neighbourEntry n cell) (firstInRow n cell) (firstInColumn n cell) (lastWithIndex n index) few k h) (places-below k h);
+    indices = λ k h. rw (held (indicesAt + k), block-index n (neighbourEntry n cell) (firstInRow n cell) (firstInColumn n cell) (lastWithIndex n index) k h) (places-below k h);
   }
 
 -- ---- the view
@@ -106,6 +106,10 @@ module _ (ps : List Point) where
         (fun-ext (λ k. column-list maxPoints nan n (λ (k : ℕ). f32 (getD ps k nowhere .x)) k)) (fun-ext (λ k. column-list maxPoints nan n (λ (k : ℕ). f32 (getD ps k nowhere .y)) k))
 
   -- what is read of it at a rank
+  pub index-read : (k : ℕ) → k < n → viewOf ps .byIdx k ≡ lastWithIndex n (entryIn indexList) k
+  unfolding viewOf
+  index-read k h = block-index n nearOf rowOf columnOf indexOf k h ∙ list-at n (lastWithIndex n (entryIn indexList)) k 0 h
+
   module _ (few : n ≤ maxPoints) where
     pub near-read : (k d : ℕ) → k < n → d < 25 → rankAt (viewOf ps) k d ≡ neighbourOf n (cellsOf ps) k d
     unfolding viewOf
@@ -121,7 +125,3 @@ module _ (ps : List Point) where
     pub column-read : (k : ℕ) → k < n → viewOf ps .column k ≡ firstInColumn n (cellsOf ps) k
     unfolding viewOf
     column-read k h = block-column n nearOf rowOf columnOf indexOf few k h ∙ list-at n (firstInColumn n (cellsOf ps)) k 0 h
-
-    pub index-read : (k : ℕ) → k < n → viewOf ps .byIdx k ≡ lastWithIndex n (entryIn indexList) k
-    unfolding viewOf
-    index-read k h = block-index n nearOf rowOf columnOf indexOf few k h ∙ list-at n (lastWithIndex n (entryIn indexList)) k 0 h
