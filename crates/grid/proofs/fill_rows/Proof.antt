@@ -8,7 +8,7 @@ use Rattle.view.specs.View.{rowsAt}
 use Rattle.cells.specs.Cell.{cellsAt}
 use Rattle.grid.specs.Tables.{firstInRow, spliced}
 use Rattle.grid.proofs.Splicing.{spliced-none, spliced-more}
-use Rattle.grid.proofs.Firsts.{vParts, Tabled, tabled-start, tabled-first, tabled-more, row-is}
+use Rattle.grid.proofs.Firsts.{vParts, Tabled, tabled-start, row-more}
 use Rattle.grid.proofs.fill_rows.Statement.{statement}
 use Rattle.grid.proofs.fill_rows.Tie as tie
 
@@ -23,15 +23,11 @@ loop-holds c = (omega arith, tabled-start _, spliced-none _ _ _)
 
 loop-again : tie.Need-loop-again Inv-loop μ-loop
 loop-again c =
-    let a = c .before .before .before .before .before .args in
+    let start = c .before .before .before .before .before in
+    let a = start .args in
     let l = c .before .before .before .before .loop in
-    let pre = c .before .before .before .before .before .pre in
-    let is = c .before .v-part .ensures in
-    let f = tabled-first (vParts (a .keys .now)) _ _ _ _ is (omega arith) (l .inv .1) (omega arith) (c .earlier .ensures) in (
-      omega arith,
-      tabled-more (vParts (a .keys .now)) _ _ _ _ is (omega arith) (l .inv .1) (omega arith) (c .earlier .ensures),
-      spliced-more _ _ _ _ (a .ranks .now) (omega (arith, pre .1)) (row-is (a .keys .now) (a .n) _ _ (omega arith) f) (l .inv .2),
-    )
+    let m = row-more (a .keys .now) (a .n) _ _ (omega arith) _ _ (start .pre .0) (c .before .v-part .ensures) (l .inv .1) (c .earlier .ensures) in
+    (omega arith, m .0, spliced-more _ _ _ _ (a .ranks .now) (omega (arith, start .pre)) (m .1) (l .inv .2))
 
 returns : tie.Need-returns Inv-loop μ-loop
 returns c =
