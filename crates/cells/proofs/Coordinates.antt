@@ -26,9 +26,9 @@ abbrev pub lift : ℤ → ℕ
 lift (pos n) = n + bias
 lift (negsuc n) = bias - suc n
 
-abbrev pub Above : ℤ → Type 0
-Above (pos n) = Unit {0}
-Above (negsuc n) = n < bias
+abbrev pub Liftable : ℤ → Type 0
+Liftable (pos n) = Unit {0}
+Liftable (negsuc n) = n < bias
 
 -- ---- range
 
@@ -39,45 +39,45 @@ lowest = bias - 8000
 abbrev pub highest : ℕ
 highest = bias + 8000
 
-abbrev pub middle : ℕ → Bool
-middle b = leb lowest b && leb b highest
+abbrev pub betweenEnds : ℕ → Bool
+betweenEnds b = leb lowest b && leb b highest
 
-pub middle-at : (b : ℕ) → middle b ≡ true → (lowest ≤ b) × (b ≤ highest)
-middle-at b e = (leb-true lowest b (and-left (leb lowest b) (leb b highest) e), leb-true b highest (and-right (leb lowest b) (leb b highest) e))
+pub ends-hold : (b : ℕ) → betweenEnds b ≡ true → (lowest ≤ b) × (b ≤ highest)
+ends-hold b e = (leb-true lowest b (and-left (leb lowest b) (leb b highest) e), leb-true b highest (and-right (leb lowest b) (leb b highest) e))
 
-pub middle-is : (b : ℕ) → lowest ≤ b → b ≤ highest → middle b ≡ true
-middle-is b l m = and-both (leb lowest b) (leb b highest) (le-leb lowest b l) (le-leb b highest m)
+pub ends-are : (b : ℕ) → lowest ≤ b → b ≤ highest → betweenEnds b ≡ true
+ends-are b l m = and-both (leb lowest b) (leb b highest) (le-leb lowest b l) (le-leb b highest m)
 
-pub within-lift : (z : ℤ) → within z ≡ middle (lift z)
+pub within-lift : (z : ℤ) → within z ≡ betweenEnds (lift z)
 within-lift (pos n) =
-    both-ways (within (pos n)) (middle (lift (pos n))) (λ e. middle-is (n + bias) (omega arith) (omega (arith, leb-true n 8000 e)))
-    (λ e. le-leb n 8000 (omega (arith, middle-at (n + bias) e)))
+    both-ways (within (pos n)) (betweenEnds (lift (pos n))) (λ e. ends-are (n + bias) (omega arith) (omega (arith, leb-true n 8000 e)))
+    (λ e. le-leb n 8000 (omega (arith, ends-hold (n + bias) e)))
 within-lift (negsuc n) =
-    both-ways (within (negsuc n)) (middle (lift (negsuc n)))
-    (λ e. let l = leb-true n 7999 (and-left (leb n 7999) true e) in middle-is (bias - suc n) (omega arith) (omega arith))
-    (λ e. and-both (leb n 7999) true (le-leb n 7999 (omega (arith, middle-at (bias - suc n) e))) refl)
+    both-ways (within (negsuc n)) (betweenEnds (lift (negsuc n)))
+    (λ e. let l = leb-true n 7999 (and-left (leb n 7999) true e) in ends-are (bias - suc n) (omega arith) (omega arith))
+    (λ e. and-both (leb n 7999) true (le-leb n 7999 (omega (arith, ends-hold (bias - suc n) e))) refl)
 
-pub bounds : (z : ℤ) → within z ≡ true → (lowest ≤ lift z) × (lift z ≤ highest)
-bounds z e = middle-at (lift z) (sym (within-lift z) ∙ e)
+pub lift-range : (z : ℤ) → within z ≡ true → (lowest ≤ lift z) × (lift z ≤ highest)
+lift-range z e = ends-hold (lift z) (sym (within-lift z) ∙ e)
 
-pub above : (z : ℤ) → within z ≡ true → Above z
-above (pos n) e = tt
-above (negsuc n) e = omega (arith, bounds (negsuc n) e)
+pub liftable : (z : ℤ) → within z ≡ true → Liftable z
+liftable (pos n) e = tt
+liftable (negsuc n) e = omega (arith, lift-range (negsuc n) e)
 
 -- ---- one number, one lift, in order
 
-pub lift-one : (a b : ℤ) → Above a → Above b → lift a ≡ lift b → a ≡ b
+pub lift-one : (a b : ℤ) → Liftable a → Liftable b → lift a ≡ lift b → a ≡ b
 lift-one (pos a) (pos b) p q e = let d : a ≡ b = omega arith in ap pos d
 lift-one (pos a) (negsuc b) p q e = absurd (omega arith)
 lift-one (negsuc a) (pos b) p q e = absurd (omega arith)
 lift-one (negsuc a) (negsuc b) p q e = let d : a ≡ b = omega arith in ap negsuc d
 
-pub lift-agree : (a b : ℤ) → Above a → Above b → agree a b ≡ eqb (lift a) (lift b)
+pub lift-agree : (a b : ℤ) → Liftable a → Liftable b → agree a b ≡ eqb (lift a) (lift b)
 lift-agree a b p q =
     both-ways (agree a b) (eqb (lift a) (lift b)) (λ e. eq-eqb (lift a) (lift b) (ap lift (agree-true a b e)))
     (λ e. agree-same a b (lift-one a b p q (eqb-true (lift a) (lift b) e)))
 
-pub lift-less : (a b : ℤ) → Above a → Above b → ltZ a b ≡ ltb (lift a) (lift b)
+pub lift-less : (a b : ℤ) → Liftable a → Liftable b → ltZ a b ≡ ltb (lift a) (lift b)
 lift-less (pos a) (pos b) p q = both-ways (ltb a b) (ltb (a + bias) (b + bias)) (λ e. lt-ltb (a + bias) (b + bias) (omega (arith, ltb-true a b e))) (λ e. lt-ltb a b (omega (arith, ltb-true (a + bias) (b + bias) e)))
 lift-less (pos a) (negsuc b) p q = sym (le-ltb (a + bias) (bias - suc b) (omega arith))
 lift-less (negsuc a) (pos b) p q = sym (lt-ltb (bias - suc a) (b + bias) (omega arith))
@@ -87,39 +87,39 @@ lift-less (negsuc a) (negsuc b) p q =
 
 -- ---- sums and differences
 
-sub-lift : (a b : ℕ) → Above (subℕ a b) → lift (subℕ a b) + b ≡ a + bias
+sub-lift : (a b : ℕ) → Liftable (subℕ a b) → lift (subℕ a b) + b ≡ a + bias
 sub-lift a b h = go (ltb a b) refl h
   where
-    go : (t : Bool) → ltb a b ≡ t → Above (cond t (negsuc (b - suc a)) (pos (a - b))) → lift (cond t (negsuc (b - suc a)) (pos (a - b))) + b ≡ a + bias
+    go : (t : Bool) → ltb a b ≡ t → Liftable (cond t (negsuc (b - suc a)) (pos (a - b))) → lift (cond t (negsuc (b - suc a)) (pos (a - b))) + b ≡ a + bias
     go true e k = omega (arith, ltb-true a b e)
     go false e k = omega (arith, ltb-false a b e)
 
-sub-above : (a b : ℕ) → b ≤ a + bias → Above (subℕ a b)
-sub-above a b h = go (ltb a b) refl
+sub-liftable : (a b : ℕ) → b ≤ a + bias → Liftable (subℕ a b)
+sub-liftable a b h = go (ltb a b) refl
   where
-    go : (t : Bool) → ltb a b ≡ t → Above (cond t (negsuc (b - suc a)) (pos (a - b)))
+    go : (t : Bool) → ltb a b ≡ t → Liftable (cond t (negsuc (b - suc a)) (pos (a - b)))
     go true e = omega (arith, ltb-true a b e)
     go false e = tt
 
 -- a part of a key, less the bias
-pub part-above : (a : ℕ) → Above (pos a -ℤ pos bias)
-part-above a = sub-above a bias (omega arith)
+pub part-liftable : (a : ℕ) → Liftable (pos a -ℤ pos bias)
+part-liftable a = sub-liftable a bias (omega arith)
 
 pub part-lift : (a : ℕ) → lift (pos a -ℤ pos bias) ≡ a
-part-lift a = omega (arith, sub-lift a bias (part-above a))
+part-lift a = omega (arith, sub-lift a bias (part-liftable a))
 
 -- z + a
-pub add-lift : (z a : ℤ) → Above z → Above (z +ℤ a) → lift (z +ℤ a) + downOf a ≡ lift z + upOf a
+pub add-lift : (z a : ℤ) → Liftable z → Liftable (z +ℤ a) → lift (z +ℤ a) + downOf a ≡ lift z + upOf a
 add-lift (pos n) (pos d) p q = omega arith
 add-lift (pos n) (negsuc d) p q = omega (arith, sub-lift n (suc d) q)
 add-lift (negsuc n) (pos d) p q = omega (arith, sub-lift d (suc n) q)
 add-lift (negsuc n) (negsuc d) p q = omega arith
 
-add-above : (z a : ℤ) → within z ≡ true → downOf a ≤ lowest → Above (z +ℤ a)
-add-above (pos n) (pos d) e h = tt
-add-above (pos n) (negsuc d) e h = sub-above n (suc d) (omega arith)
-add-above (negsuc n) (pos d) e h = sub-above d (suc n) (omega (arith, above (negsuc n) e))
-add-above (negsuc n) (negsuc d) e h = omega (arith, bounds (negsuc n) e)
+add-liftable : (z a : ℤ) → within z ≡ true → downOf a ≤ lowest → Liftable (z +ℤ a)
+add-liftable (pos n) (pos d) e h = tt
+add-liftable (pos n) (negsuc d) e h = sub-liftable n (suc d) (omega arith)
+add-liftable (negsuc n) (pos d) e h = sub-liftable d (suc n) (omega (arith, liftable (negsuc n) e))
+add-liftable (negsuc n) (negsuc d) e h = omega (arith, lift-range (negsuc n) e)
 
 -- e - 2
 less-two : (e : ℕ) → (upOf (pos e -ℤ pos 2) + 2 ≡ e + downOf (pos e -ℤ pos 2)) × (downOf (pos e -ℤ pos 2) ≤ 2)
@@ -130,7 +130,7 @@ less-two e = go (ltb e 2) refl
     go false h = (omega (arith, ltb-false e 2 h), omega arith)
 
 -- z + (e - 2)
-pub two-off : (z : ℤ) (e : ℕ) → within z ≡ true → Above (z +ℤ (pos e -ℤ pos 2)) × (lift (z +ℤ (pos e -ℤ pos 2)) + 2 ≡ lift z + e)
+pub two-off : (z : ℤ) (e : ℕ) → within z ≡ true → Liftable (z +ℤ (pos e -ℤ pos 2)) × (lift (z +ℤ (pos e -ℤ pos 2)) + 2 ≡ lift z + e)
 two-off z e h =
-    let a = add-above z (pos e -ℤ pos 2) h (omega (arith, less-two e .1)) in
-    (a, omega (arith, add-lift z (pos e -ℤ pos 2) (above z h) a, less-two e .0))
+    let a = add-liftable z (pos e -ℤ pos 2) h (omega (arith, less-two e .1)) in
+    (a, omega (arith, add-lift z (pos e -ℤ pos 2) (liftable z h) a, less-two e .0))

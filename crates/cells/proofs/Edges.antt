@@ -1,14 +1,14 @@
 -- Cells that agree are equal; a move of two cells keeps whether they agree; a shared edge is one of four offsets. Assumes nothing.
 use mathlib.Core.Path.{_≡_, refl, sym, ap, _∙_}
-use mathlib.Core.Bool.{Bool, true, false, _&&_, false≢true}
+use mathlib.Core.Bool.{Bool, true, _&&_, false≢true}
 use mathlib.Core.Logic.{_⊎_, inl, inr}
-use Prim.Native.Nat.{ℕ, zero, suc, _<_}
+use Prim.Native.Nat.{ℕ, zero, suc, _-_, _/_, _%_, _<_}
 use native.Mathlib.Omega.{arith}
 use lib.IntN.{ℤ, pos, negsuc, _+ℤ_, _-ℤ_, +ℤ-idr, +ℤ-assoc, +ℤ-comm, +ℤ-negℤ-cancel}
-use lib.ListN.{length, getD}
+use lib.ListN.{getD}
 use borrow.Author.Tests.{eqb-true, eq-eqb}
 use Rattle.folds.specs.Below.{some-at, some-yes, and-left, and-right, and-both, both-ways, or-left, or-right, or-cases}
-use Rattle.view.specs.View.{squareSides}
+use Rattle.view.specs.View.{own, squareSides}
 use Rattle.cells.specs.Cell.{Cell, moved, agree, differByOne, shareEdge, coincide, offsetBy, joinedBy}
 
 -- ---- whole numbers
@@ -55,6 +55,27 @@ pub offset-moved : (a b : ℤ) (d : ℕ) (c e : Cell) → coincide (moved a b e)
 offset-moved a b d c e =
     let f : offsetBy d (moved a b c) ≡ moved a b (offsetBy d c) = same-cell (swapped (c .u) a _) (swapped (c .v) b _) in
     ap (coincide (moved a b e)) f ∙ rw (agree-moved (e .u) (offsetBy d c .u) a, agree-moved (e .v) (offsetBy d c .v) b)
+
+-- offset 12 leads to the cell itself, and offset 24 - d back from offset d
+pub offset-own : (c : Cell) → offsetBy own c ≡ c
+offset-own c = same-cell (+ℤ-idr (c .u)) (+ℤ-idr (c .v))
+
+back : (z : ℤ) (e : ℕ) → e < 5 → (z +ℤ (pos e -ℤ pos 2)) +ℤ (pos (4 - e) -ℤ pos 2) ≡ z
+back z e h = +ℤ-assoc z (pos e -ℤ pos 2) (pos (4 - e) -ℤ pos 2) ∙ ap (λ (w : ℤ). z +ℤ w) (opposite e h) ∙ +ℤ-idr z
+  where
+    opposite : (e : ℕ) → e < 5 → (pos e -ℤ pos 2) +ℤ (pos (4 - e) -ℤ pos 2) ≡ pos 0
+    opposite zero h = refl
+    opposite (suc zero) h = refl
+    opposite (suc (suc zero)) h = refl
+    opposite (suc (suc (suc zero))) h = refl
+    opposite (suc (suc (suc (suc zero)))) h = refl
+    opposite (suc (suc (suc (suc (suc e))))) h = absurd (omega arith)
+
+pub offset-back : (d : ℕ) (c : Cell) → d < 25 → offsetBy (24 - d) (offsetBy d c) ≡ c
+offset-back d c h =
+    let a : (24 - d) / 5 ≡ 4 - d / 5 = omega arith in
+    let b : (24 - d) % 5 ≡ 4 - d % 5 = omega arith in
+    rw (a, b) (same-cell (back (c .u) (d / 5) (omega arith)) (back (c .v) (d % 5) (omega arith)))
 
 -- ---- shared edges
 

@@ -36,6 +36,7 @@ pub record InRange (p : Point) : Type 0 where
   pub u : within (cellOf p .u) ≡ true
   pub v : within (cellOf p .v) ≡ true
 
+-- of a cell
 pub record CellInRange (c : Cell) : Type 0 where
   pub u : within (c .u) ≡ true
   pub v : within (c .v) ≡ true

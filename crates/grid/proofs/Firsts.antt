@@ -1,6 +1,6 @@
 -- The first rank with the v, and with the u, of each rank, by the parts of the keys. Assumes nothing.
 use mathlib.Core.Path.{_≡_, refl, sym, ap, _∙_}
-use mathlib.Core.Bool.{cond}
+use mathlib.Core.Bool.{Bool, true, cond, true≢false}
 use mathlib.Core.Logic.{_⊎_, inl, inr}
 use mathlib.Core.List.{List}
 use Prim.Native.Nat.{ℕ, _+_, _/_, _%_, _≤_, _<_}
@@ -12,12 +12,20 @@ use lib.Dec.{eqb, ltb}
 use lib.ListN.{length, set, length-set, replicate, length-replicate, getD-replicate}
 use lib.Seq.{getD-set-same, getD-set-other}
 use borrow.Author.Tests.{lt-ltb, le-ltb, eq-eqb, ne-eqb}
-use Rattle.folds.specs.Below.{first, first-hit, first-ext}
+use Rattle.folds.specs.Below.{first, first-before, first-hit, first-ext}
 use Rattle.view.specs.View.{maxPoints}
 use Rattle.cells.specs.Points.{stride}
 use Rattle.cells.specs.Cell.{agree, cellsAt}
 use Rattle.cells.proofs.Keys.{same-u, same-v}
-use Rattle.grid.specs.Tables.{entryIn, firstInRow, firstInColumn}
+use Rattle.grid.specs.Tables.{entryIn, firstInRow, firstInColumn, Keys}
+
+-- where one passes, the first that passes is below n
+pub first-below : (p : ℕ → Bool) (n k : ℕ) → k < n → p k ≡ true → first p 0 n < n
+first-below p n k h e = go (decLt (first p 0 n) n)
+  where
+    go : Dec (first p 0 n < n) → first p 0 n < n
+    go (yes l) = l
+    go (no f) = absurd (true≢false (sym e ∙ first-before p 0 n k (omega arith) (omega (arith, f))))
 
 -- the v parts and the u parts of an array of keys
 abbrev pub vParts : List ℕ → ℕ → ℕ
@@ -32,7 +40,7 @@ module _ (part : ℕ → ℕ) where
   Unseen v k = (j : ℕ) → j < k → part j ≡ v → ⊥
 
   -- r is the first rank with the part of k, and not after it
-  pub record FirstFor (k r : ℕ) : Type 0 where
+  record FirstFor (k r : ℕ) : Type 0 where
     pub low : r ≤ k
     pub has : part r ≡ part k
     pub none : Unseen (part k) r
@@ -43,30 +51,32 @@ module _ (part : ℕ → ℕ) where
 
   -- ---- by a table over all values of the part
 
-  -- for each value, the first rank before k that has it, or no rank
+  -- r is the first rank before k that has this part, or no rank is
+  abbrev Known : ℕ → ℕ → ℕ → Type 0
+  Known v r k = ((r < k) × (part r ≡ v) × Unseen v r) ⊎ ((maxPoints ≤ r) × Unseen v k)
+
   pub record Tabled (seen : List ℕ) (k : ℕ) : Type 0 where
     pub size : length seen ≡ stride
-    pub each : (v : ℕ) → v < stride → ((entryIn seen v < k) × (part (entryIn seen v) ≡ v) × Unseen v (entryIn seen v)) ⊎ ((maxPoints ≤ entryIn seen v) × Unseen v k)
+    pub each : (v : ℕ) → v < stride → Known v (entryIn seen v) k
 
-  pub tabled-start : Tabled (replicate stride 65535) 0
+  pub tabled-start : Tabled (replicate stride maxPoints) 0
   tabled-start = record {
-    size = length-replicate {A = ℕ} stride 65535;
-    each = λ v l. inr (rw (getD-replicate {A = ℕ} stride v 65535 0 l) (omega arith), λ j h. absurd (omega arith));
+    size = length-replicate {A = ℕ} stride maxPoints;
+    each = λ v l. inr (rw (getD-replicate {A = ℕ} stride v maxPoints 0 l) (omega arith), λ j h. absurd (omega arith));
   }
 
   module _ (seen : List ℕ) (k v r : ℕ) (is : v ≡ part k) (fits : part k < stride) (s : Tabled seen k) (few : k < maxPoints) (e : r ≡ cond (ltb (entryIn seen v) k) (entryIn seen v) k) where
-    pub tabled-first : FirstFor k r
+    tabled-first : FirstFor k r
     tabled-first = go (s .each (part k) fits)
       where
-        go : ((entryIn seen (part k) < k) × (part (entryIn seen (part k)) ≡ part k) × Unseen (part k) (entryIn seen (part k))) ⊎ ((maxPoints ≤ entryIn seen (part k)) × Unseen (part k) k) → FirstFor k r
+        go : Known (part k) (entryIn seen (part k)) k → FirstFor k r
         go (inl f) = let q : r ≡ entryIn seen (part k) = rw (is, lt-ltb (entryIn seen (part k)) k (f .0)) at e in rw q (record { low = omega (arith, f .0); has = f .1; none = f .2 })
         go (inr f) = let q : r ≡ k = rw (is, le-ltb (entryIn seen (part k)) k (omega (arith, f .0))) at e in rw q (record { low = omega arith; has = refl; none = f .1 })
 
-    pub tabled-more : Tabled (set seen v r) (k + 1)
+    tabled-more : Tabled (set seen v r) (k + 1)
     tabled-more = rw is (record { size = length-set seen (part k) r ∙ s .size; each = λ x l. go x l (ℕ-discrete x (part k)) })
       where
-        other : (v : ℕ) → (v ≡ part k → ⊥) → ((entryIn seen v < k) × (part (entryIn seen v) ≡ v) × Unseen v (entryIn seen v)) ⊎ ((maxPoints ≤ entryIn seen v) × Unseen v k)
-            → ((entryIn seen v < k + 1) × (part (entryIn seen v) ≡ v) × Unseen v (entryIn seen v)) ⊎ ((maxPoints ≤ entryIn seen v) × Unseen v (k + 1))
+        other : (v : ℕ) → (v ≡ part k → ⊥) → Known v (entryIn seen v) k → Known v (entryIn seen v) (k + 1)
         other v x (inl f) = inl (omega (arith, f .0), f .1, f .2)
         other v x (inr f) = inr (f .0, λ j l q. past j (eq-or-lt-of-le (omega arith)) q)
           where
@@ -74,8 +84,7 @@ module _ (part : ℕ → ℕ) where
             past j (inl d) q = x (sym q ∙ ap part d)
             past j (inr l) q = f .1 j l q
 
-        go : (v : ℕ) → v < stride → Dec (v ≡ part k)
-            → ((entryIn (set seen (part k) r) v < k + 1) × (part (entryIn (set seen (part k) r) v) ≡ v) × Unseen v (entryIn (set seen (part k) r) v)) ⊎ ((maxPoints ≤ entryIn (set seen (part k) r) v) × Unseen v (k + 1))
+        go : (v : ℕ) → v < stride → Dec (v ≡ part k) → Known v (entryIn (set seen (part k) r) v) (k + 1)
         go v l (yes q) = rw (q, getD-set-same seen (part k) r 0 (omega (arith, s .size))) (inl (omega (arith, tabled-first .low), tabled-first .has, tabled-first .none))
         go v l (no x) = rw (getD-set-other seen (part k) v r 0 x) (other v x (s .each v l))
 
@@ -91,20 +100,20 @@ module _ (part : ℕ → ℕ) where
   start-none = record { low = omega arith; before = λ j l. absurd (omega arith); since = λ j l h. absurd (omega arith) }
 
   module _ (start k r : ℕ) (rises : (j : ℕ) → j < k → part j ≤ part k) (s : Started start k) (e : r ≡ cond (eqb (part start) (part k)) start k) where
-    pub started : (part r ≡ part k) × Started r (k + 1)
-    started = go (ℕ-discrete (part start) (part k))
+    started-more : (r ≤ k) × (part r ≡ part k) × Started r (k + 1)
+    started-more = go (ℕ-discrete (part start) (part k))
       where
-        go : Dec (part start ≡ part k) → (part r ≡ part k) × Started r (k + 1)
+        go : Dec (part start ≡ part k) → (r ≤ k) × (part r ≡ part k) × Started r (k + 1)
         go (yes q) =
             let d : r ≡ start = rw (eq-eqb (part start) (part k) q) at e in
-            rw d (q, record { low = omega (arith, s .low); before = s .before; since = λ j l m. last j l (eq-or-lt-of-le (omega arith)) })
+            rw d (s .low, q, record { low = omega (arith, s .low); before = s .before; since = λ j l m. last j l (eq-or-lt-of-le (omega arith)) })
           where
             last : (j : ℕ) → start ≤ j → (j ≡ k) ⊎ (j < k) → part j ≡ part start
             last j l (inl d) = rw d (sym q)
             last j l (inr m) = s .since j l m
         go (no x) =
             let d : r ≡ k = rw (ne-eqb (part start) (part k) x) at e in
-            rw d (refl, record { low = omega arith; before = λ j l. before j l (decLt j start); since = λ j l m. let q : j ≡ k = omega arith in rw q refl })
+            rw d (omega arith, refl, record { low = omega arith; before = λ j l. before j l (decLt j start); since = λ j l m. let q : j ≡ k = omega arith in rw q refl })
           where
             up : start < k → part start < part k
             up m = omega (arith, x, rises start m)
@@ -117,26 +126,30 @@ module _ (part : ℕ → ℕ) where
             before j l (yes m) = omega (arith, s .before j m, up (differs (eq-or-lt-of-le (s .low))))
             before j l (no y) = omega (arith, s .since j (omega arith) l, up (omega arith))
 
-    pub started-first : FirstFor k r
-    started-first = record { low = omega (arith, low-is); has = started .0; none = λ j l q. omega (arith, q, started .0, started .1 .before j l) }
-      where
-        low-is : r ≤ k
-        low-is = go (ℕ-discrete (part start) (part k))
-          where
-            go : Dec (part start ≡ part k) → r ≤ k
-            go (yes q) = let d : r ≡ start = rw (eq-eqb (part start) (part k) q) at e in omega (arith, d, s .low)
-            go (no x) = let d : r ≡ k = rw (ne-eqb (part start) (part k) x) at e in omega (arith, d)
+    started-first : FirstFor k r
+    started-first = let m = started-more in record { low = m .0; has = m .1; none = λ j l q. omega (arith, q, m .1, m .2 .before j l) }
 
--- ---- by cells
+-- ---- a turn of the loop, by cells
 
-pub row-is : (keys : List ℕ) (n k r : ℕ) → k < n → FirstFor (vParts keys) k r → r ≡ firstInRow n (cellsAt keys) k
-unfolding firstInRow
-row-is keys n k r h f =
-    first-for (vParts keys) n h f
-    ∙ first-ext (λ (j : ℕ). eqb (vParts keys j) (vParts keys k)) (λ (j : ℕ). agree (cellsAt keys j .v) (cellsAt keys k .v)) n (λ j l. sym (same-v (entryIn keys j) (entryIn keys k)))
+module _ (keys : List ℕ) (n k r : ℕ) (h : k < n) where
+  pub row-more : (seen : List ℕ) (v : ℕ) → n ≤ maxPoints → v ≡ vParts keys k → Tabled (vParts keys) seen k → r ≡ cond (ltb (entryIn seen v) k) (entryIn seen v) k
+      → Tabled (vParts keys) (set seen v r) (k + 1) × (r ≡ firstInRow n (cellsAt keys) k)
+  unfolding firstInRow
+  row-more seen v few is s e = (
+    tabled-more (vParts keys) seen k v r is (omega arith) s (omega arith) e,
+    first-for (vParts keys) n h (tabled-first (vParts keys) seen k v r is (omega arith) s (omega arith) e)
+        ∙ first-ext (λ (j : ℕ). eqb (vParts keys j) (vParts keys k)) (λ (j : ℕ). agree (cellsAt keys j .v) (cellsAt keys k .v)) n (λ j l. sym (same-v (entryIn keys j) (entryIn keys k))),
+  )
 
-pub column-is : (keys : List ℕ) (n k r : ℕ) → k < n → FirstFor (uParts keys) k r → r ≡ firstInColumn n (cellsAt keys) k
-unfolding firstInColumn
-column-is keys n k r h f =
-    first-for (uParts keys) n h f
-    ∙ first-ext (λ (j : ℕ). eqb (uParts keys j) (uParts keys k)) (λ (j : ℕ). agree (cellsAt keys j .u) (cellsAt keys k .u)) n (λ j l. sym (same-u (entryIn keys j) (entryIn keys k)))
+  pub column-more : (start : ℕ) → Keys keys n → Started (uParts keys) start k → r ≡ cond (eqb (uParts keys start) (uParts keys k)) start k
+      → (r ≤ k) × Started (uParts keys) r (k + 1) × (r ≡ firstInColumn n (cellsAt keys) k)
+  unfolding firstInColumn
+  column-more start ks s e = (
+    started-more (uParts keys) start k r rises s e .0,
+    started-more (uParts keys) start k r rises s e .2,
+    first-for (uParts keys) n h (started-first (uParts keys) start k r rises s e)
+        ∙ first-ext (λ (j : ℕ). eqb (uParts keys j) (uParts keys k)) (λ (j : ℕ). agree (cellsAt keys j .u) (cellsAt keys k .u)) n (λ j l. sym (same-u (entryIn keys j) (entryIn keys k))),
+  )
+    where
+      rises : (j : ℕ) → j < k → uParts keys j ≤ uParts keys k
+      rises j l = omega (arith, ks .rising j k l h)

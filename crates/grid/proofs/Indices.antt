@@ -17,10 +17,9 @@ use Rattle.folds.specs.Lists.{listOf, length-list}
 use Rattle.folds.specs.Column.{column}
 use Rattle.view.specs.View.{maxPoints, ranksSize, indicesAt}
 use Rattle.sort.specs.Numbers.{sorted}
-use Rattle.sort.specs.Packed.{packed, inOrder, placed}
+use Rattle.sort.specs.Packed.{packedPlaces, packed, inOrder, placed}
 use Rattle.sort.proofs.Packed.{inOrder-length, placed-below, placed-is, place-of, placed-rises}
 use Rattle.grid.specs.Tables.{entryIn, lastWithIndex, spliced}
-use Rattle.grid.specs.Sweep.{rankRoom}
 use Rattle.grid.proofs.Splicing.{is-spliced}
 
 -- what the sort leaves
@@ -32,8 +31,8 @@ order-is key n l few e r h =
     rw (e, t) (List·getD-append (inOrder key n) (drop n (column maxPoints 0 n (packed key))) 0 r (omega (arith, inOrder-length key n)))
 
 -- the rank at place r of the order
-abbrev pub rankIn : List ℕ → ℕ → ℕ
-rankIn order r = entryIn order r % rankRoom
+abbrev rankIn : List ℕ → ℕ → ℕ
+rankIn order r = entryIn order r % packedPlaces
 
 -- the entries of the ranks at the places from i on are in the block of indices, which was in the table out₀
 pub record Walked (index : ℕ → ℕ) (n : ℕ) (order out₀ : List ℕ) (i : ℕ) (out : List ℕ) (last : ℕ) : Type 0 where
@@ -46,20 +45,20 @@ pub record Walked (index : ℕ → ℕ) (n : ℕ) (order out₀ : List ℕ) (i :
   pub next : i < n → last ≡ lastWithIndex n index (rankIn order i)
 
 module _ (index : ℕ → ℕ) (n : ℕ) (few : n ≤ maxPoints) (order : List ℕ) (is : (r : ℕ) → r < n → entryIn order r ≡ getD (inOrder index n) r 0) where
-  small : n ≤ rankRoom
+  small : n ≤ packedPlaces
   small = omega arith
 
   rank-is : (r : ℕ) → r < n → rankIn order r ≡ placed index n r
-  rank-is r h = ap (λ (w : ℕ). w % rankRoom) (is r h)
+  rank-is r h = ap (λ (w : ℕ). w % packedPlaces) (is r h)
 
   pub rank-below : (r : ℕ) → r < n → rankIn order r < n
   rank-below r h = rw (rank-is r h) (placed-below index n small r h)
 
   -- the word at place r
-  word : (r : ℕ) → r < n → entryIn order r ≡ index (rankIn order r) * rankRoom + rankIn order r
+  word : (r : ℕ) → r < n → entryIn order r ≡ index (rankIn order r) * packedPlaces + rankIn order r
   word r h = rw (rank-is r h) (is r h ∙ placed-is index n small r h)
 
-  index-is : (r : ℕ) → r < n → entryIn order r / rankRoom ≡ index (rankIn order r)
+  index-is : (r : ℕ) → r < n → entryIn order r / packedPlaces ≡ index (rankIn order r)
   index-is r h = omega (arith, word r h, rank-below r h)
 
   rises : (i j : ℕ) → i < j → j < n → entryIn order i < entryIn order j
@@ -70,14 +69,14 @@ module _ (index : ℕ → ℕ) (n : ℕ) (few : n ≤ maxPoints) (order : List �
 
   -- the index of place i is the index of the next
   abbrev goes-on : ℕ → Bool
-  goes-on i = ltb (i + 1) n && eqb (entryIn order i / rankRoom) (entryIn order (i + 1) / rankRoom)
+  goes-on i = ltb (i + 1) n && eqb (entryIn order i / packedPlaces) (entryIn order (i + 1) / packedPlaces)
 
   module _ (i after : ℕ) (h : i < n) (known : i + 1 < n → after ≡ lastWithIndex n index (rankIn order (i + 1))) where
     same-index : goes-on i ≡ true → after ≡ lastWithIndex n index (rankIn order i)
     unfolding lastWithIndex
     same-index e =
-        let l : i + 1 < n = ltb-true (i + 1) n (and-left (ltb (i + 1) n) (eqb (entryIn order i / rankRoom) (entryIn order (i + 1) / rankRoom)) e) in
-        let q : entryIn order i / rankRoom ≡ entryIn order (i + 1) / rankRoom = eqb-true (entryIn order i / rankRoom) (entryIn order (i + 1) / rankRoom) (and-right (ltb (i + 1) n) (eqb (entryIn order i / rankRoom) (entryIn order (i + 1) / rankRoom)) e) in
+        let l : i + 1 < n = ltb-true (i + 1) n (and-left (ltb (i + 1) n) (eqb (entryIn order i / packedPlaces) (entryIn order (i + 1) / packedPlaces)) e) in
+        let q : entryIn order i / packedPlaces ≡ entryIn order (i + 1) / packedPlaces = eqb-true (entryIn order i / packedPlaces) (entryIn order (i + 1) / packedPlaces) (and-right (ltb (i + 1) n) (eqb (entryIn order i / packedPlaces) (entryIn order (i + 1) / packedPlaces)) e) in
         let s : index (rankIn order i) ≡ index (rankIn order (i + 1)) = sym (index-is i h) ∙ q ∙ index-is (i + 1) l in
         rw s (known l)
 
@@ -106,14 +105,14 @@ module _ (index : ℕ → ℕ) (n : ℕ) (few : n ≤ maxPoints) (order : List �
         goes q =
             let l : i + 1 < n = omega (arith, later q, place j hj .1) in
             let s : index (rankIn order r) ≡ index j = ap index (place j hj .2) in
-            and-both (ltb (i + 1) n) (eqb (entryIn order i / rankRoom) (entryIn order (i + 1) / rankRoom)) (lt-ltb (i + 1) n l)
-            (eq-eqb (entryIn order i / rankRoom) (entryIn order (i + 1) / rankRoom) (omega (arith, q, s, index-is i h, index-is r (place j hj .1), rises i (i + 1) (omega arith) l, next (eq-or-lt-of-le (later q)))))
+            and-both (ltb (i + 1) n) (eqb (entryIn order i / packedPlaces) (entryIn order (i + 1) / packedPlaces)) (lt-ltb (i + 1) n l)
+            (eq-eqb (entryIn order i / packedPlaces) (entryIn order (i + 1) / packedPlaces) (omega (arith, q, s, index-is i h, index-is r (place j hj .1), rises i (i + 1) (omega arith) l, next (eq-or-lt-of-le (later q)))))
           where
             next : (suc i ≡ r) ⊎ (suc i < r) → entryIn order (i + 1) ≤ entryIn order r
             next (inl d) = let f : i + 1 ≡ r = omega arith in rw f (omega arith)
             next (inr l) = omega (arith, rises (i + 1) r (omega arith) (place j hj .1))
 
-    pub last-is : (v : ℕ) → v ≡ cond (goes-on i) after (rankIn order i) → v ≡ lastWithIndex n index (rankIn order i)
+    last-is : (v : ℕ) → v ≡ cond (goes-on i) after (rankIn order i) → v ≡ lastWithIndex n index (rankIn order i)
     unfolding lastWithIndex
     last-is v e = go (goes-on i) refl e
       where

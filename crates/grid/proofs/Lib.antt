@@ -6,3 +6,8 @@ pub mod Swept
 pub mod Firsts
 pub mod Indices
 pub mod Filled
+pub mod Views
+pub mod InOrder
+pub mod Joined
+pub mod Alike
+pub mod Moved

@@ -1,14 +1,11 @@
 -- Entries put into an array. Assumes nothing.
 use mathlib.Core.Path.{_≡_, refl, sym, ap, _∙_}
-use mathlib.Core.Bool.{Bool, cond, _&&_}
-use mathlib.Core.Logic.{_⊎_, inl, inr}
 use mathlib.Core.List.{List}
 use Prim.Native.Nat.{ℕ, _+_, _-_, _≤_, _<_}
 use Prim.{Dec, yes, no}
 use native.Mathlib.Omega.{arith}
-use native.Mathlib.Nat.{eq-or-lt-of-le}
 use native.Mathlib.Decide.{decLt}
-use lib.Dec.{leb, ltb}
+use lib.Dec.{leb}
 use lib.ListN.{length, set, length-set, List·getD-eq-default}
 use lib.Seq.{ext-getD, getD-set-same, getD-set-other}
 use borrow.Author.Tests.{lt-ltb, le-ltb, le-leb, lt-leb}
@@ -53,7 +50,7 @@ module _ (from n : ℕ) (f : ℕ → ℕ) (l : List ℕ) where
   unfolding spliced
   length-spliced = length-list (length l) (splice from n f (entryIn l))
 
-  pub spliced-at : (i : ℕ) → i < length l → entryIn (spliced from n f l) i ≡ splice from n f (entryIn l) i
+  spliced-at : (i : ℕ) → i < length l → entryIn (spliced from n f l) i ≡ splice from n f (entryIn l) i
   unfolding spliced
   spliced-at i h = list-at (length l) (splice from n f (entryIn l)) i 0 h
 
@@ -79,11 +76,6 @@ module _ (from n : ℕ) (f : ℕ → ℕ) (l : List ℕ) where
 
 pub spliced-none : (from : ℕ) (f : ℕ → ℕ) (l : List ℕ) → l ≡ spliced from 0 f l
 spliced-none from f l = is-spliced from 0 f l refl (λ k h. absurd (omega arith)) (λ i h. refl) (λ i h. refl)
-
-pub spliced-ext : (from n : ℕ) (f g : ℕ → ℕ) (l : List ℕ) → from + n ≤ length l → ((k : ℕ) → k < n → f k ≡ g k) → spliced from n f l ≡ spliced from n g l
-spliced-ext from n f g l fit h =
-    is-spliced from n g l (length-spliced from n f l) (λ k b. spliced-read from n f l fit (from + k) ∙ splice-at from n f (entryIn l) k b ∙ h k b)
-    (λ i b. spliced-read from n f l fit i ∙ splice-before from n f (entryIn l) i b) (λ i b. spliced-read from n f l fit i ∙ splice-after from n f (entryIn l) i b)
 
 -- e more entries
 pub spliced-on : (from m e : ℕ) (f g : ℕ → ℕ) (l : List ℕ) {r s : List ℕ} → from + m + e ≤ length l → ((k : ℕ) → k < e → g k ≡ f (m + k)) → r ≡ spliced from m f l → s ≡ spliced (from + m) e g r → s ≡ spliced from (m + e) f l

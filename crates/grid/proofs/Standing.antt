@@ -1,15 +1,15 @@
 -- Which rank stands where, by rising keys, and that it is the one whose cell is there. Assumes nothing.
-use mathlib.Core.Path.{_≡_, refl, sym, ap, _∙_}
+use mathlib.Core.Path.{_≡_, sym}
 use mathlib.Core.Bool.{_&&_}
 use mathlib.Core.List.{List}
-use Prim.Native.Nat.{ℕ, _+_, _-_, _*_, _/_, _%_, _^_, _<_}
+use Prim.Native.Nat.{ℕ, _+_, _*_, _/_, _%_, _^_, _<_}
 use native.Mathlib.Omega.{arith}
 use lib.Dec.{eqb}
 use borrow.Author.Tests.{eq-eqb, ne-eqb, eqb-true}
-use Rattle.folds.specs.Below.{first, first-hit, first-miss, first-ext, both-ways, and-left, and-right, and-both}
+use Rattle.folds.specs.Below.{first-hit, first-miss, first-ext, both-ways, and-left, and-right, and-both}
 use Rattle.cells.specs.Points.{stride}
 use Rattle.cells.specs.Cell.{CellInRange, coincide, offsetBy, cellOfKey, cellsAt}
-use Rattle.cells.proofs.Coordinates.{lift, lift-agree, part-above, part-lift, two-off}
+use Rattle.cells.proofs.Coordinates.{lift, lift-agree, part-liftable, part-lift, two-off}
 use Rattle.cells.proofs.Keys.{parts-range, small-key}
 use Rattle.grid.specs.Tables.{entryIn, neighbourOf, Keys}
 use Rattle.grid.specs.Sweep.{keyCentre, standing}
@@ -50,7 +50,7 @@ offset-key a b d r s =
     let xv = offsetBy d (cellOfKey a) .v in
     let eu : lift xu + 2 ≡ a / stride + d / 5 = rw (part-lift (a / stride)) at (mu .1) in
     let ev : lift xv + 2 ≡ a % stride + d % 5 = rw (part-lift (a % stride)) at (mv .1) in
-    rw (lift-agree (cellOfKey b .u) xu (part-above (b / stride)) (mu .0), lift-agree (cellOfKey b .v) xv (part-above (b % stride)) (mv .0), part-lift (b / stride), part-lift (b % stride))
+    rw (lift-agree (cellOfKey b .u) xu (part-liftable (b / stride)) (mu .0), lift-agree (cellOfKey b .v) xv (part-liftable (b % stride)) (mv .0), part-lift (b / stride), part-lift (b % stride))
     (both-ways (eqb (b / stride) (lift xu) && eqb (b % stride) (lift xv)) (eqb (b + keyCentre) (a + keyStep d))
     (λ e.
     let f = eqb-true (b / stride) (lift xu) (and-left (eqb (b / stride) (lift xu)) (eqb (b % stride) (lift xv)) e) in

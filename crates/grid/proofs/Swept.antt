@@ -1,5 +1,5 @@
 -- The sweep over all ranks: the block of neighbours is filled up to step i, and each reached rank is behind all targets to come. Assumes nothing.
-use mathlib.Core.Path.{_≡_, sym, ap, _∙_}
+use mathlib.Core.Path.{_≡_, ap, _∙_}
 use mathlib.Core.List.{List}
 use Prim.Native.Nat.{ℕ, _+_, _*_, _/_, _%_, _≤_, _<_}
 use Prim.{Dec, yes, no}
@@ -18,7 +18,7 @@ use Rattle.grid.proofs.Standing.{keyStep, standing-is}
 use Rattle.grid.proofs.Passing.{behind-none, behind-up}
 
 -- the target at step m
-abbrev pub targetAt : (ℕ → ℕ) → ℕ → ℕ
+abbrev targetAt : (ℕ → ℕ) → ℕ → ℕ
 targetAt key m = key (m / 5) + stride * (m % 5)
 
 module _ (keys : List ℕ) (n : ℕ) (ranks₀ : List ℕ) where

@@ -36,7 +36,3 @@ pub record FiveFit (ranks : List ℕ) (target to : ℕ) : Type 0 where
   pub size : length ranks ≡ ranksSize
   pub fit : to + 5 ≤ ranksSize
   pub small : target < 2 ^ 29
-
--- an index and a rank in one number: the index times this, plus the rank (`packed` of the crate `sort`)
-abbrev pub rankRoom : ℕ
-rankRoom = 4096

@@ -42,10 +42,14 @@ neighbourEntry n cell i = neighbourOf n cell (i / 25) (i % 25)
 abbrev pub splice : ℕ → ℕ → (ℕ → ℕ) → (ℕ → ℕ) → ℕ → ℕ
 splice from n f rest i = cond (leb from i && ltb i (from + n)) (f (i - from)) (rest i)
 
--- the four blocks of the table, by place
+-- the four blocks of a table, by place
 abbrev pub blocks : ℕ → (ℕ → ℕ) → (ℕ → ℕ) → (ℕ → ℕ) → (ℕ → ℕ) → ℕ → ℕ
 blocks n near row column index =
     splice indicesAt n index (splice columnsAt n column (splice rowsAt n row (splice 0 (25 * n) near (λ (i : ℕ). 0))))
+
+-- the table of n ranks, by place
+abbrev pub tableOf : ℕ → (ℕ → Cell) → (ℕ → ℕ) → ℕ → ℕ
+tableOf n cell index = blocks n (neighbourEntry n cell) (firstInRow n cell) (firstInColumn n cell) (lastWithIndex n index)
 
 -- ---- as arrays
 
@@ -60,9 +64,7 @@ spliced from n f l = listOf (length l) (splice from n f (entryIn l))
 -- the table of ranks, from the arrays of n keys and indices
 unfoldable pub ranksOf : ℕ → List ℕ → List ℕ → List ℕ
 unfolding listOf
-ranksOf n keys indices =
-    let cell = cellsAt keys in
-    listOf ranksSize (blocks n (neighbourEntry n cell) (firstInRow n cell) (firstInColumn n cell) (lastWithIndex n (entryIn indices)))
+ranksOf n keys indices = listOf ranksSize (tableOf n (cellsAt keys) (entryIn indices))
 
 -- what the code asks of its keys: the first n rise, and are those of cells in range
 pub record Keys (keys : List ℕ) (n : ℕ) : Type 0 where

@@ -10,7 +10,7 @@ use Rattle.cells.specs.Points.{Point, nowhere}
 use Rattle.cells.specs.Cell.{cellsOf}
 use Rattle.grid.specs.Tables.{neighbourOf, neighbourEntry, firstInRow, firstInColumn, lastWithIndex, blocks, entryIn}
 
--- what the filters see of the points ps, which stand in cell order
+-- what the filters see of the points ps, which stand in cell order: the blocks of the table of ranks, and the positions
 unfoldable pub viewOf : List Point → View
 unfolding listOf cellsOf neighbourOf firstInRow firstInColumn lastWithIndex ofBits
 viewOf ps =

@@ -8,9 +8,9 @@ ghost use Rattle.folds.specs.Column.{column};
 ghost use Rattle.view.specs.View.{maxPoints, ranksSize, rowsAt, columnsAt, indicesAt};
 ghost use Rattle.cells.specs.Points.{stride};
 ghost use Rattle.cells.specs.Cell.{cellsAt};
-ghost use Rattle.sort.specs.Packed.{packed};
+ghost use Rattle.sort.specs.Packed.{packedPlaces, packed};
 ghost use Rattle.grid.specs.Tables.{entryIn, neighbourEntry, firstInRow, firstInColumn, lastWithIndex, spliced, ranksOf, Keys};
-ghost use Rattle.grid.specs.Sweep.{keyCentre, rankRoom, Behind, Reached, FiveFit, standingFrom};
+ghost use Rattle.grid.specs.Sweep.{keyCentre, Behind, Reached, FiveFit, standingFrom};
 
 // A rank stands at a target if its key plus this is the target, so that the targets of two cells down are no negative numbers.
 const CENTRE: u32 = 2 * cells::STRIDE + 2;
@@ -18,11 +18,8 @@ const CENTRE: u32 = 2 * cells::STRIDE + 2;
 // How many values the v part of a key has.
 const V_PARTS: usize = cells::STRIDE as usize;
 
-// In the table over all v: no rank yet.
-const NO_RANK: u16 = 65535;
-
-// An index and a rank in one number: the index times this, plus the rank.
-const RANK_ROOM: u64 = 4096;
+// No rank.
+const NONE: u16 = view::MAX_POINTS as u16;
 
 // The first rank from `from` on that does not stand before the target.
 fn advance(keys: &[u32; view::MAX_POINTS], n: usize, from: usize, target: u32) -> usize
@@ -123,7 +120,7 @@ fn fill_rows(keys: &[u32; view::MAX_POINTS], n: usize, ranks: &mut [u16; view::R
     requires { ⌜ (n ≤ maxPoints) × (length (now ranks) ≡ ranksSize) ⌝ }
     ensures { λ r. ⌜ now (ranks .exit) ≡ spliced rowsAt n (firstInRow n (cellsAt (now (keys .entry)))) (now (ranks .entry)) ⌝ }
 {
-    let mut seen = [NO_RANK; V_PARTS];
+    let mut seen = [NONE; V_PARTS];
     let mut k: usize = 0;
     while k < n {
         let v = cells::v_part(keys[k]) as usize;
@@ -162,9 +159,9 @@ fn fill_columns(keys: &[u32; view::MAX_POINTS], n: usize, ranks: &mut [u16; view
 // An index and a rank in one number.
 fn pack(index: u32, rank: usize) -> u64
     requires { ⌜ rank < maxPoints ⌝ }
-    ensures { λ r. ⌜ r ≡ index * rankRoom + rank ⌝ }
+    ensures { λ r. ⌜ r ≡ index * packedPlaces + rank ⌝ }
 {
-    (index as u64) * RANK_ROOM + (rank as u64)
+    (index as u64) * sort::PACKED_PLACES + (rank as u64)
 }
 
 fn packed_ranks(idx: &[u32; view::MAX_POINTS], n: usize) -> [u64; view::MAX_POINTS]
@@ -183,13 +180,13 @@ fn packed_ranks(idx: &[u32; view::MAX_POINTS], n: usize) -> [u64; view::MAX_POIN
 // The last rank with the index at place i of the order by index and rank; `after` is that of the next place.
 fn last_rank(order: &[u64; view::MAX_POINTS], n: usize, i: usize, after: u16) -> u16
     requires { ⌜ (i < n) × (n ≤ maxPoints) ⌝ }
-    ensures { λ r. ⌜ r ≡ cond (ltb (i + 1) n && eqb (entryIn (now (order .entry)) i / rankRoom) (entryIn (now (order .entry)) (i + 1) / rankRoom)) after (entryIn (now (order .entry)) i % rankRoom) ⌝ }
+    ensures { λ r. ⌜ r ≡ cond (ltb (i + 1) n && eqb (entryIn (now (order .entry)) i / packedPlaces) (entryIn (now (order .entry)) (i + 1) / packedPlaces)) after (entryIn (now (order .entry)) i % packedPlaces) ⌝ }
 {
-    let rank = (order[i] % RANK_ROOM) as u16;
+    let rank = (order[i] % sort::PACKED_PLACES) as u16;
     if n <= i + 1 {
         return rank;
     }
-    if order[i] / RANK_ROOM == order[i + 1] / RANK_ROOM {
+    if order[i] / sort::PACKED_PLACES == order[i + 1] / sort::PACKED_PLACES {
         return after;
     }
     rank
@@ -207,7 +204,7 @@ fn fill_indices(idx: &[u32; view::MAX_POINTS], n: usize, ranks: &mut [u16; view:
     while 0 < i {
         i -= 1;
         last = last_rank(&order, n, i, last);
-        let k = (order[i] % RANK_ROOM) as usize;
+        let k = (order[i] % sort::PACKED_PLACES) as usize;
         ranks[view::INDICES_AT + k] = last;
     }
 }

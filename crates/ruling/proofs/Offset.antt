@@ -16,11 +16,10 @@ use Rattle.folds.specs.Lists.{All, listOf, list-at, is-list, getD-any}
 use Rattle.refusals.specs.First.{ruled}
 use Rattle.refusals.proofs.Laws.{none-passes}
 use Rattle.cells.specs.Points.{Point, nowhere, keyOf}
-use Rattle.cells.proofs.Keys.{keyUp, keyDown, key-moved}
+use Rattle.cells.proofs.Keys.{keyUp, keyDown, same-test, key-moved}
 use Rattle.sort.specs.Sorted.{sort}
 use Rattle.sort.proofs.Sorted.{sort-all, all-at}
 use Rattle.grid.specs.Moved.{Moved}
-use Rattle.grid.specs.Standing.{same-test}
 use Rattle.sheet_file.specs.Bytes.{Bytes, le32}
 use Rattle.sheet_file.specs.Frame.{layoutOf}
 use Rattle.sheet_file.specs.Refusals.{settingsOf, headerRefusals}

@@ -20,6 +20,7 @@ use Rattle.cells.proofs.Keys.{key-order}
 use Rattle.sort.specs.Sorted.{sort, Rises}
 use Rattle.sort.proofs.Sorted.{At, all-at, at-all, sort-perm, sort-length, sort-all, sort-rises, Ordered, by-key, order-free}
 use Rattle.grid.specs.InOrder.{CellOrder}
+use Rattle.grid.proofs.InOrder.{order-by-keys}
 use Rattle.sheet_file.specs.Bytes.{Bytes}
 use Rattle.sheet_file.specs.Frame.{framingOf, layoutOf}
 use Rattle.sheet_file.specs.Refusals.{settingsOf}
@@ -142,12 +143,9 @@ module _ (ps : List Point) (h : Apart ps) where
 pub in-cell-order : (ps : List Point) → Apart ps → length ps ≤ maxPoints → CellOrder (cellOrder ps)
 in-cell-order ps h few =
     let o = sorted-apart ps h in
-    record {
-      few = omega (arith, sort-length comesBefore ps);
-      inside = λ k b. ranged-at (cellOrder ps) o k b .cell;
-      rising = λ i j ij jn.
-          omega (arith, ltb-false (keyOf (getD (cellOrder ps) j nowhere)) (keyOf (getD (cellOrder ps) i nowhere)) (rises-at comesBefore nowhere (cellOrder ps) (sorted-rises ps h) i j ij jn), different (cellOrder ps) o i j ij jn);
-    }
+    order-by-keys (cellOrder ps) (omega (arith, sort-length comesBefore ps)) (λ k b. ranged-at (cellOrder ps) o k b .cell)
+    (λ i j ij jn.
+    omega (arith, ltb-false (keyOf (getD (cellOrder ps) j nowhere)) (keyOf (getD (cellOrder ps) i nowhere)) (rises-at comesBefore nowhere (cellOrder ps) (sorted-rises ps h) i j ij jn), different (cellOrder ps) o i j ij jn))
 
 -- where no number applies, they are so
 pub none-apart : (ps : List Point) → All Words ps → anyIn holds (pointRefusals ps) ≡ false → Apart ps

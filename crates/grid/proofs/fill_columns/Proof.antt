@@ -2,18 +2,15 @@
 -- that rank k - 1 is in. Assumes nothing.
 use borrow.Author.Needs.{needs}
 use mathlib.Core.Path.{_≡_}
-use Prim.Native.Nat.{ℕ, _-_, _≤_, _<_}
+use Prim.Native.Nat.{_-_, _≤_}
 use native.Mathlib.Omega.{arith}
 use Rattle.view.specs.View.{columnsAt}
 use Rattle.cells.specs.Cell.{cellsAt}
 use Rattle.grid.specs.Tables.{firstInColumn, spliced}
 use Rattle.grid.proofs.Splicing.{spliced-none, spliced-more}
-use Rattle.grid.proofs.Firsts.{uParts, Started, start-none, started, started-first, column-is}
+use Rattle.grid.proofs.Firsts.{uParts, Started, start-none, column-more}
 use Rattle.grid.proofs.fill_columns.Statement.{statement}
 use Rattle.grid.proofs.fill_columns.Tie as tie
-use Rattle.grid.proofs.fill_columns.Reads as reads
-use Rattle.grid.proofs.fill_columns.Lts as lts
-use Rattle.grid.proofs.start_of.Reads as start-of-reads
 
 abbrev Inv-loop : tie.InvT-loop
 Inv-loop keys n ranks₀ start₀ k₀ ranks start k = (k ≤ n) × Started (uParts keys) start k × (ranks ≡ spliced columnsAt k (firstInColumn n (cellsAt keys)) ranks₀)
@@ -30,38 +27,16 @@ start-of-requires c κs = omega (arith, c .before .loop .inv .1 .low, c .before 
 cast-ranks : tie.Need-cast-ranks Inv-loop μ-loop
 cast-ranks c =
     let a = c .before .before .before .args in
-    let l = c .before .before .loop in
-    let pre = c .before .before .before .pre in
-    let rises : (j : ℕ) → j < l .k → uParts (a .keys .now) j ≤ uParts (a .keys .now) (l .k) = λ j h. omega (arith, pre .0 .rising j (l .k) h (c .before .loop-test .taken)) in
-    let f = started-first (uParts (a .keys .now)) _ _ _ rises (l .inv .1) (c .start-of .ensures) in
-    omega (arith, f .low, pre .0 .few)
-
-add-ranks : tie.Need-add-ranks Inv-loop μ-loop
-add-ranks c = search needs
-
-mul-ranks : tie.Need-mul-ranks Inv-loop μ-loop
-mul-ranks c = search needs
-
-element-write-ranks : tie.Need-element-write-ranks Inv-loop μ-loop
-element-write-ranks c = search needs
-
-add-k : tie.Need-add-k Inv-loop μ-loop
-add-k c = search needs
-
-loop-less : tie.Need-loop-less Inv-loop μ-loop
-loop-less c = search needs
+    let ks = c .before .before .before .pre .0 in
+    omega (arith, ks .few, column-more (a .keys .now) (a .n) _ _ (c .before .loop-test .taken) _ ks (c .before .before .loop .inv .1) (c .start-of .ensures) .0)
 
 loop-again : tie.Need-loop-again Inv-loop μ-loop
 loop-again c =
     let a = c .before .before .before .args in
     let l = c .before .before .loop in
     let pre = c .before .before .before .pre in
-    let rises : (j : ℕ) → j < l .k → uParts (a .keys .now) j ≤ uParts (a .keys .now) (l .k) = λ j h. omega (arith, pre .0 .rising j (l .k) h (c .before .loop-test .taken)) in
-    let f = started-first (uParts (a .keys .now)) _ _ _ rises (l .inv .1) (c .start-of .ensures) in (
-      omega arith,
-      started (uParts (a .keys .now)) _ _ _ rises (l .inv .1) (c .start-of .ensures) .1,
-      spliced-more _ _ _ _ (a .ranks .now) (omega (arith, pre)) (column-is (a .keys .now) (a .n) _ _ (omega arith) f) (l .inv .2),
-    )
+    let m = column-more (a .keys .now) (a .n) _ _ (c .before .loop-test .taken) _ (pre .0) (l .inv .1) (c .start-of .ensures) in
+    (omega arith, m .1, spliced-more _ _ _ _ (a .ranks .now) (omega (arith, pre .0 .few, pre .1)) (m .2) (l .inv .2))
 
 returns : tie.Need-returns Inv-loop μ-loop
 returns c =
@@ -72,16 +47,5 @@ returns c =
 pub fill-columns-spec : {M : Type 1} → statement M
 fill-columns-spec =
     tie.close
-    (tie.spec
-    Inv-loop
-    μ-loop
-    loop-holds
-    start-of-requires
-    cast-ranks
-    add-ranks
-    mul-ranks
-    element-write-ranks
-    add-k
-    loop-less
-    loop-again
-    returns)
+    (tie.spec Inv-loop μ-loop loop-holds start-of-requires cast-ranks (λ c. search needs) (λ c. search needs) (λ c. search needs)
+    (λ c. search needs) (λ c. search needs) loop-again returns)

@@ -11,20 +11,12 @@ use Rattle.grid.specs.Tables.{entryIn}
 use Rattle.grid.proofs.Indices.{order-is, Walked, walked-start, walked-more, walked-done, rank-below}
 use Rattle.grid.proofs.fill_indices.Statement.{statement}
 use Rattle.grid.proofs.fill_indices.Tie as tie
-use Rattle.grid.proofs.fill_indices.Reads as reads
-use Rattle.grid.proofs.fill_indices.Lts as lts
-use Rattle.grid.proofs.last_rank.Reads as last-rank-reads
-use Rattle.grid.proofs.packed_ranks.Reads as packed-ranks-reads
-use Rattle.sort.proofs.sort.Reads as sort-reads
 
 abbrev Inv-loop : tie.InvT-loop
 Inv-loop idx n ranks₀ order last₀ i₀ ranks last i = Walked (entryIn idx) n order ranks₀ i ranks last
 
 abbrev μ-loop : tie.MeasureT-loop
 μ-loop idx n ranks₀ order last₀ i₀ ranks last i = i
-
-packed-ranks-requires : tie.Need-packed-ranks-requires Inv-loop μ-loop
-packed-ranks-requires c κs = search needs
 
 sort-requires : tie.Need-sort-requires Inv-loop μ-loop
 sort-requires c κs =
@@ -38,32 +30,11 @@ loop-holds c =
     let few = s .pre .0 in
     walked-start _ _ few _ (order-is _ _ _ few (rw (c .before .before .packed-ranks .ensures) at (c .sort .ensures))) _ (s .pre .1)
 
-sub-i : tie.Need-sub-i Inv-loop μ-loop
-sub-i c = search needs
-
-last-rank-requires : tie.Need-last-rank-requires Inv-loop μ-loop
-last-rank-requires c κs = search needs
-
-mul-k : tie.Need-mul-k Inv-loop μ-loop
-mul-k c = search needs
-
-array-read-k : tie.Need-array-read-k Inv-loop μ-loop
-array-read-k c = search needs
-
-add-ranks : tie.Need-add-ranks Inv-loop μ-loop
-add-ranks c = search needs
-
-mul-ranks : tie.Need-mul-ranks Inv-loop μ-loop
-mul-ranks c = search needs
-
 element-write-ranks : tie.Need-element-write-ranks Inv-loop μ-loop
 element-write-ranks c =
     let l = c .before .before .before .loop in
     let s = c .before .before .before .before .before .before .before in
     omega (arith, s .pre .0, rank-below (entryIn (s .args .idx .now)) (s .args .n) (s .pre .0) (c .before .before .before .before .sort .last .0) (l .inv .ordered) (l .i - 1) (omega (arith, l .inv .low)))
-
-loop-less : tie.Need-loop-less Inv-loop μ-loop
-loop-less c = search needs
 
 loop-again : tie.Need-loop-again Inv-loop μ-loop
 loop-again c =
@@ -82,19 +53,5 @@ returns c =
 pub fill-indices-spec : {M : Type 1} → statement M
 fill-indices-spec =
     tie.close
-    (tie.spec
-    Inv-loop
-    μ-loop
-    packed-ranks-requires
-    sort-requires
-    loop-holds
-    sub-i
-    last-rank-requires
-    mul-k
-    array-read-k
-    add-ranks
-    mul-ranks
-    element-write-ranks
-    loop-less
-    loop-again
-    returns)
+    (tie.spec Inv-loop μ-loop (λ c κs. search needs) sort-requires loop-holds (λ c. search needs) (λ c κs. search needs) (λ c. search needs)
+    (λ c. search needs) (λ c. search needs) (λ c. search needs) element-write-ranks (λ c. search needs) loop-again returns)

@@ -4,7 +4,7 @@ use borrow.Author.Needs.{needs}
 use mathlib.Core.Path.{_≡_, ap}
 use Prim.Native.Nat.{ℕ, _+_, _*_, _-_, _/_, _≤_}
 use native.Mathlib.Omega.{arith}
-use Rattle.grid.specs.Tables.{entryIn, spliced, neighbourEntry}
+use Rattle.grid.specs.Tables.{entryIn}
 use Rattle.grid.proofs.Standing.{keys-small}
 use Rattle.grid.proofs.Swept.{Swept, swept-start, swept-size, swept-more}
 use Rattle.grid.proofs.fill_near.Statement.{statement}

@@ -1,0 +1,90 @@
+-- Points in cell order: their keys, and where each stands to the others. Assumes nothing.
+use mathlib.Core.Path.{_≡_, sym, ap, _∙_}
+use mathlib.Core.Bool.{true≢false}
+use mathlib.Core.List.{List}
+use Prim.Native.Nat.{ℕ, _-_, _≤_, _<_}
+use native.Mathlib.Omega.{arith}
+use lib.ListN.{length, getD}
+use borrow.Author.Tests.{lt-ltb, le-ltb, ltb-true}
+use Rattle.folds.specs.Below.{first-holds, first-hit, not-true}
+use Rattle.folds.specs.Column.{column-at, length-column}
+use Rattle.view.specs.View.{maxPoints, own, rankAt}
+use Rattle.cells.specs.Points.{Point, nowhere, keyOf, keysOf}
+use Rattle.cells.specs.Cell.{Cell, cellOf, InRange, before, coincide, offsetBy, cellsOf}
+use Rattle.cells.proofs.Edges.{coincide-same, coincide-true, offset-own, offset-back}
+use Rattle.cells.proofs.Keys.{key-cell, key-order, cell-at}
+use Rattle.grid.specs.Tables.{entryIn, neighbourOf, Keys}
+use Rattle.grid.specs.Views.{viewOf}
+use Rattle.grid.specs.InOrder.{CellOrder}
+use Rattle.grid.proofs.Views.{near-read}
+
+-- ---- by keys
+
+-- points whose keys rise
+pub order-by-keys : (ps : List Point) → length ps ≤ maxPoints → ((k : ℕ) → k < length ps → InRange (getD ps k nowhere)) → ((i j : ℕ) → i < j → j < length ps → keyOf (getD ps i nowhere) < keyOf (getD ps j nowhere)) → CellOrder ps
+order-by-keys ps few inside rising = record {
+  few = few;
+  inside = inside;
+  rising = λ i j ij h. sym (key-order (getD ps i nowhere) (getD ps j nowhere) (inside i (omega arith)) (inside j h)) ∙ lt-ltb (keyOf (getD ps i nowhere)) (keyOf (getD ps j nowhere)) (rising i j ij h);
+}
+
+module _ (ps : List Point) (o : CellOrder ps) where
+  abbrev cell : ℕ → Cell
+  cell k = cellOf (getD ps k nowhere)
+
+  keys-rise : (i j : ℕ) → i < j → j < length ps → keyOf (getD ps i nowhere) < keyOf (getD ps j nowhere)
+  keys-rise i j ij h =
+      ltb-true (keyOf (getD ps i nowhere)) (keyOf (getD ps j nowhere)) (key-order (getD ps i nowhere) (getD ps j nowhere) (o .inside i (omega arith)) (o .inside j h) ∙ o .rising i j ij h)
+
+  -- their keys are as the code asks
+  pub keys-ready : Keys (keysOf ps) (length ps)
+  unfolding keysOf
+  keys-ready = record {
+    size = length-column maxPoints 0 (length ps) key (o .few);
+    few = o .few;
+    rising = λ i j ij h. rw (read i (omega arith), read j h) (keys-rise i j ij h);
+    in-range = λ k h. rw (read k h, key-cell (getD ps k nowhere) (o .inside k h)) (record { u = o .inside k h .u; v = o .inside k h .v });
+  }
+    where
+      key : ℕ → ℕ
+      key k = keyOf (getD ps k nowhere)
+
+      read : (k : ℕ) → k < length ps → entryIn (keysOf ps) k ≡ keyOf (getD ps k nowhere)
+      read k h = column-at maxPoints 0 (length ps) key k h
+
+  -- ---- neighbours
+
+  -- no two in one cell
+  apart : (i j : ℕ) → i < j → j < length ps → cell i ≡ cell j → ⊥
+  apart i j ij h e =
+      let p = getD ps j nowhere in
+      true≢false (sym (o .rising i j ij h) ∙ ap (λ (c : Cell). before c (cell j)) e ∙ sym (key-order p p (o .inside j h) (o .inside j h)) ∙ le-ltb (keyOf p) (keyOf p) (omega arith))
+
+  -- the rank at offset d holds the point of the cell at (u + du, v + dv) ..
+  pub near-means : (k d j : ℕ) → k < length ps → d < 25 → j < length ps → rankAt (viewOf ps) k d ≡ j → cell j ≡ offsetBy d (cell k)
+  unfolding neighbourOf
+  near-means k d j h l m e =
+      let f : neighbourOf (length ps) (cellsOf ps) k d ≡ j = sym (near-read ps (o .few) k d h l) ∙ e in
+      let g = first-holds (λ (j : ℕ). coincide (cellsOf ps j) (offsetBy d (cellsOf ps k))) 0 (length ps) (omega (arith, f)) in
+      rw (f, cell-at ps j m, cell-at ps k h) at (coincide-true (cellsOf ps (neighbourOf (length ps) (cellsOf ps) k d)) (offsetBy d (cellsOf ps k)) g)
+
+  -- .. and if there is such a point, its rank stands there
+  pub near-found : (k d j : ℕ) → k < length ps → d < 25 → j < length ps → cell j ≡ offsetBy d (cell k) → rankAt (viewOf ps) k d ≡ j
+  unfolding neighbourOf
+  near-found k d j h l m e =
+      near-read ps (o .few) k d h l
+      ∙ first-hit (λ (j : ℕ). coincide (cellsOf ps j) (offsetBy d (cellsOf ps k))) (length ps) j m (coincide-same (cellsOf ps j) (offsetBy d (cellsOf ps k)) (there j m e))
+      (λ i b. not-true (coincide (cellsOf ps i) (offsetBy d (cellsOf ps k))) (λ t. apart i j b m (cells-at i (omega arith) (coincide-true (cellsOf ps i) (offsetBy d (cellsOf ps k)) t) ∙ sym e)))
+    where
+      there : (j : ℕ) → j < length ps → cell j ≡ offsetBy d (cell k) → cellsOf ps j ≡ offsetBy d (cellsOf ps k)
+      there j m e = cell-at ps j m ∙ e ∙ ap (offsetBy d) (sym (cell-at ps k h))
+
+      cells-at : (i : ℕ) → i < length ps → cellsOf ps i ≡ offsetBy d (cellsOf ps k) → cell i ≡ offsetBy d (cell k)
+      cells-at i m e = sym (cell-at ps i m) ∙ e ∙ ap (offsetBy d) (cell-at ps k h)
+
+  pub own-is : (k : ℕ) → k < length ps → rankAt (viewOf ps) k own ≡ k
+  own-is k h = near-found k own k h (omega arith) h (sym (offset-own (cell k)))
+
+  -- j stands at offset d from k just where k stands at offset 24 - d from j
+  pub mirrored : (k j d : ℕ) → k < length ps → j < length ps → d < 25 → rankAt (viewOf ps) k d ≡ j → rankAt (viewOf ps) j (24 - d) ≡ k
+  mirrored k j d hk hj hd e = near-found j (24 - d) k hj (omega arith) hk (sym (offset-back d (cell k) hd) ∙ ap (offsetBy (24 - d)) (sym (near-means k d j hk hd hj e)))

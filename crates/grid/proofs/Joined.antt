@@ -1,0 +1,31 @@
+-- The table of neighbours leads from cell to cell; over the four offsets of the square lattice, over shared edges. Assumes nothing.
+use mathlib.Core.Path.{_≡_}
+use mathlib.Core.List.{List}
+use Prim.Native.Nat.{ℕ, _+_, _*_, _<_}
+use lib.Dec.{eqb}
+use lib.ListN.{length, getD}
+use borrow.Author.Tests.{eq-eqb, eqb-true}
+use Rattle.folds.specs.Below.{some, some-ext, both-ways}
+use Rattle.view.specs.View.{rankAt}
+use Rattle.cells.specs.Points.{Point, nowhere}
+use Rattle.cells.specs.Cell.{Cell, cellOf, coincide, offsetBy, joinedBy}
+use Rattle.cells.proofs.Edges.{coincide-same, coincide-true}
+use Rattle.grid.specs.Views.{viewOf}
+use Rattle.grid.specs.InOrder.{CellOrder}
+use Rattle.grid.proofs.InOrder.{near-means, near-found}
+
+module _ (ps : List Point) (o : CellOrder ps) where
+  abbrev cell : ℕ → Cell
+  cell k = cellOf (getD ps k nowhere)
+
+  -- b is at one of the offsets from a just where one of them leads from a's cell to b's
+  pub touch-joined : (sides : List ℕ) → ((i : ℕ) → i < length sides → getD sides i 0 < 25) → (a b : ℕ) → a < length ps → b < length ps
+      → some (λ (i : ℕ). eqb (viewOf ps .near (25 * a + getD sides i 0)) b) (length sides) ≡ joinedBy sides (cell a) (cell b)
+  touch-joined sides fit a b ha hb =
+      some-ext (λ (i : ℕ). eqb (rankAt (viewOf ps) a (getD sides i 0)) b) (λ (i : ℕ). coincide (cell b) (offsetBy (getD sides i 0) (cell a))) (length sides) (λ i h. at (getD sides i 0) (fit i h))
+    where
+      at : (d : ℕ) → d < 25 → eqb (rankAt (viewOf ps) a d) b ≡ coincide (cell b) (offsetBy d (cell a))
+      at d h =
+          both-ways (eqb (rankAt (viewOf ps) a d) b) (coincide (cell b) (offsetBy d (cell a)))
+          (λ e. coincide-same (cell b) (offsetBy d (cell a)) (near-means ps o a d b ha h hb (eqb-true (rankAt (viewOf ps) a d) b e)))
+          (λ e. eq-eqb (rankAt (viewOf ps) a d) b (near-found ps o a d b ha h hb (coincide-true (cell b) (offsetBy d (cell a)) e)))
