@@ -69,7 +69,7 @@ module _ (file : List ℕ) (room : ℕ) where
   none-given f = none-passes refused passed (refusalsOf file room) (none-holds (refusalsOf file room) distinct f)
 
   -- what a ruling says of the conditions; a number is a byte, and not 0
-  pub record First (k : ℕ) : Type 0 where
+  pub record NumberGiven (k : ℕ) : Type 0 where
     pub low : 0 < k
     pub high : k < 256
     pub holding : applies file room k ≡ true
@@ -78,7 +78,7 @@ module _ (file : List ℕ) (room : ℕ) where
   numbered : (p : ℕ → Bool) (k : ℕ) → anyIn (λ (n : ℕ). not (p n)) (numbersOf (refusalsOf file room)) ≡ false → FirstHolding (refusalsOf file room) k → p k ≡ true
   numbered p k e f = each-listed p (numbersOf (refusalsOf file room)) k e (f .listed)
 
-  pub is-given : (k : ℕ) → rulingOf file room ≡ refused k → First k
+  pub is-given : (k : ℕ) → rulingOf file room ≡ refused k → NumberGiven k
   unfolding rulingOf applies
   is-given k e =
       let f = only-first refused passed one other (refusalsOf file room) distinct k e in

@@ -28,11 +28,11 @@ use Rattle.ruling.specs.Switches.{switched}
 use Rattle.ruling.proofs.Given.{by-points}
 
 -- other is as long as file, and has its bytes before the points, but for the switches, which only settings of length 21 have
-pub record Alike (file other : List ℕ) (f : Layout) : Type 0 where
+pub record SameHeader (file other : List ℕ) (f : Layout) : Type 0 where
   pub size : length other ≡ length file
   pub same : (k : ℕ) → k < f .points → (f .full ≡ true → (k < 22) ⊎ (24 ≤ k)) → getD other k 0 ≡ getD file k 0
 
-module _ (file other : List ℕ) (f : Layout) (framed : framingOf file ≡ Framed f) (h : Alike file other f) where
+module _ (file other : List ℕ) (f : Layout) (framed : framingOf file ≡ Framed f) (h : SameHeader file other f) where
   -- ---- before the switches, and after them
 
   low : (k : ℕ) → k < 22 → k < f .points → getD other k 0 ≡ getD file k 0
@@ -84,7 +84,7 @@ module _ (file other : List ℕ) (f : Layout) (framed : framingOf file ≡ Frame
   full-is at full (gate-there u e) = points-in file f (at + 20) full true e .full-is
   full-is at full (gate-absent u e) = points-in file f at full false e .full-is
 
-  pub frame-alike : framingOf other ≡ Framed f
+  frame-alike : framingOf other ≡ Framed f
   unfolding framingOf
   frame-alike = go (fields-of file f framed)
     where
@@ -169,7 +169,7 @@ pub same-headed : (file : List ℕ) (n : ℕ) → Headed file file n
 same-headed file n = record { size = refl; head = λ k l. refl }
 
 module _ (file other : List ℕ) (f : Layout) (framed : framingOf file ≡ Framed f) (h : Headed file other (f .points)) where
-  alike : Alike file other f
+  alike : SameHeader file other f
   alike = record { size = h .size; same = λ k m l. h .head k m }
 
   pub frame-same : framingOf other ≡ Framed f

@@ -13,10 +13,14 @@ indices-requires : tie.Need-indices-requires
 indices-requires c κs = (c .before .before .pre .room, rw (c .before .before .pre .ordered) (entries-placed _ _ _ _ (c .before .before .pre .room .few)))
 
 coordinates-requires : tie.Need-coordinates-requires
-coordinates-requires c κs = ((c .before .before .before .pre .room, search needs), (rw (c .before .before .before .pre .ordered) (entries-placed _ _ _ _ (c .before .before .before .pre .room .few)), x-inside _ _ _ _ (c .before .before .before .pre)))
+coordinates-requires c κs =
+    let h = c .before .before .before .pre in
+    ((h .room, search needs), (rw (h .ordered) (entries-placed _ _ _ _ (h .room .few)), x-inside _ _ _ _ h))
 
 coordinates-requires-2 : tie.Need-coordinates-requires-2
-coordinates-requires-2 c κs = ((c .before .before .before .before .pre .room, search needs), (rw (c .before .before .before .before .pre .ordered) (entries-placed _ _ _ _ (c .before .before .before .before .pre .room .few)), y-inside _ _ _ _ (c .before .before .before .before .pre)))
+coordinates-requires-2 c κs =
+    let h = c .before .before .before .before .pre in
+    ((h .room, search needs), (rw (h .ordered) (entries-placed _ _ _ _ (h .room .few)), y-inside _ _ _ _ h))
 
 returns : tie.Need-returns
 returns c = let h = c .before .before .before .before .before .pre in
