@@ -16,7 +16,7 @@ use Rattle.sheet_file.specs.Refusals.{settingsOf, noFlag, badFlag, headerRefusa
 use Rattle.sheet_file.specs.declared.Layout.{Layout}
 use Rattle.sheet_file.specs.declared.Settings.{Settings}
 use Rattle.sheet_file.specs.declared.Framing.the-variants.{Framed}
-use Rattle.sheet_file.proofs.Fields.{before}
+use Rattle.sheet_file.proofs.Fields.{before-points}
 use Rattle.points.specs.Records.{ithPoint, pointsIn}
 use Rattle.points.proofs.Located.{point-same}
 use Rattle.ruling.specs.Ruling.{refused, accepted, rulingFor, rulingOf, applies}
@@ -39,7 +39,7 @@ module _ (file other : List ℕ) (f : Layout) (h : Switched file other) (framed 
   points-are : pointsIn other (f .points) (f .count) ≡ pointsIn file (f .points) (f .count)
   unfolding pointsIn
   points-are =
-      let l = before file f framed .long full in
+      let l = before-points file f framed .long full in
       list-ext nowhere (f .count) (ithPoint other (f .points)) (ithPoint file (f .points))
       (λ i b. point-same file (f .points + 20 * i) other (f .points + 20 * i) (λ k m. h .rest (f .points + 20 * i + k) (inr (omega arith))))
 
