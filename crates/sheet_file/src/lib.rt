@@ -8,7 +8,7 @@ ghost use Rattle.folds.specs.Among.{anyIn};
 ghost use Rattle.sheet_file.specs.Bytes.{le16, le32};
 ghost use Rattle.sheet_file.specs.Limit.{outside};
 ghost use Rattle.sheet_file.specs.Frame.{fieldAt, endFrom, pointsFrom, gateFrom, framingOf, gateStart, Held};
-ghost use Rattle.sheet_file.specs.Refusals.{floatAt, defaultsFor, settingsIn, gateIn, edgeShapeOf, settingsOf, noFlag, badFlag, settingsFloats, gateFloats, badFloat, readingIn, readingOf};
+ghost use Rattle.sheet_file.specs.Refusals.{floatAt, defaultsFor, settingsIn, gateIn, edgeShapeOf, settingsOf, noFlag, badFlag, settingsFloats, gateFloats, badFloat, FloatHeld, SettingsHeld, GateHeld, FloatsHeld, readingIn, readingOf};
 
 // ---- numbers in the file
 
@@ -54,7 +54,7 @@ pub fn is_outside(file: &[u8], at: usize) -> bool
 
 // The f32 in the four bytes from `at` on, which is finite and at most 16,384 in magnitude.
 pub fn float_at(file: &[u8], at: usize) -> f32
-    requires { ⌜ (at + 4 ≤ length (now file)) × (outside (floatAt (now file) at) ≡ false) ⌝ }
+    requires { ⌜ FloatHeld (now file) at ⌝ }
     ensures { λ r. ⌜ r ≡ floatAt (now (file .entry)) at ⌝ }
 {
     f32::from_bits(u32_at(file, at))
@@ -290,7 +290,7 @@ fn has_bad_float(file: &[u8], f: Layout) -> bool
 
 // The edge-shape gate in the data of tag 2 from `at` on.
 fn gate_in(file: &[u8], at: usize) -> EdgeShapeParams
-    requires { ⌜ (at + 17 ≤ length (now file)) × (anyIn outside (gateFloats (now file) at) ≡ false) ⌝ }
+    requires { ⌜ GateHeld (now file) at ⌝ }
     ensures { λ r. ⌜ r ≡ gateIn (now (file .entry)) at ⌝ }
 {
     EdgeShapeParams {
@@ -303,7 +303,7 @@ fn gate_in(file: &[u8], at: usize) -> EdgeShapeParams
 }
 
 fn edge_shape_of(file: &[u8], f: Layout) -> EdgeGate
-    requires { ⌜ Held (now file) f × (badFloat (now file) f ≡ false) ⌝ }
+    requires { ⌜ FloatsHeld (now file) f ⌝ }
     ensures { λ r. ⌜ r ≡ edgeShapeOf (now (file .entry)) f ⌝ }
 {
     if f.gated {
@@ -314,7 +314,7 @@ fn edge_shape_of(file: &[u8], f: Layout) -> EdgeGate
 
 // The settings in the 21 bytes of tag 1.
 fn settings_in(file: &[u8], gate: EdgeGate) -> Settings
-    requires { ⌜ (24 ≤ length (now file)) × (anyIn outside (settingsFloats (now file) true) ≡ false) ⌝ }
+    requires { ⌜ SettingsHeld (now file) ⌝ }
     ensures { λ r. ⌜ r ≡ settingsIn (now (file .entry)) gate ⌝ }
 {
     Settings {
@@ -331,7 +331,7 @@ fn settings_in(file: &[u8], gate: EdgeGate) -> Settings
 }
 
 fn settings_of(file: &[u8], f: Layout) -> Settings
-    requires { ⌜ Held (now file) f × (badFloat (now file) f ≡ false) ⌝ }
+    requires { ⌜ FloatsHeld (now file) f ⌝ }
     ensures { λ r. ⌜ r ≡ settingsOf (now (file .entry)) f ⌝ }
 {
     let gate = edge_shape_of(file, f);

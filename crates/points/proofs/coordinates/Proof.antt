@@ -22,33 +22,33 @@ loop-holds c = (search needs, fill-start _ nan _)
 
 -- the place of the entry in hand
 placed : (c : tie.In-loop Inv-loop μ-loop) → let a = c .before .before .before .args in getD (now (a .entries)) (c .before .loop .i) 0 % 4096 < a .n
-placed c = c .before .before .before .pre .1 .0 (c .before .loop .i) (c .loop-test .taken)
+placed c = c .before .before .before .pre .held .placed (c .before .loop .i) (c .loop-test .taken)
 
 mul-float-at : tie.Need-mul-float-at Inv-loop μ-loop
 mul-float-at c = omega (arith, placed (c .before))
 
 add-float-at : tie.Need-add-float-at Inv-loop μ-loop
-add-float-at c = omega (arith, c .before .before .before .before .pre .0, placed (c .before))
+add-float-at c = omega (arith, c .before .before .before .before .pre, placed (c .before))
 
 add-float-at-2 : tie.Need-add-float-at-2 Inv-loop μ-loop
-add-float-at-2 c = omega (arith, c .before .before .before .before .pre .0, placed (c .before))
+add-float-at-2 c = omega (arith, c .before .before .before .before .pre, placed (c .before))
 
 float-at-requires : tie.Need-float-at-requires Inv-loop μ-loop
 float-at-requires c κs =
     let pre = c .before .before .before .before .pre in
-    (omega (arith, pre .0 .0 .fit, pre .0 .1, placed (c .before)), pre .1 .1 _ (placed (c .before)))
+    record { fits = omega (arith, pre .held .room .fit, pre .short, placed (c .before)); inside = pre .inside _ (placed (c .before)) }
 
 loop-again : tie.Need-loop-again Inv-loop μ-loop
 loop-again c =
     let loop = c .before .before .before in
-    (omega arith, fill-more _ nan _ _ (simp length-replicate (omega (arith, loop .before .before .pre .0 .0 .few))) (c .float-at .ensures) (loop .loop .inv .1))
+    (omega arith, fill-more _ nan _ _ (simp length-replicate (omega (arith, loop .before .before .pre .held .room .few))) (c .float-at .ensures) (loop .loop .inv .1))
 
 returns : tie.Need-returns Inv-loop μ-loop
 unfolding div ofBits
 returns c =
     let start = c .before .before .before in
     let e : c .before .loop .i ≡ start .args .n = omega arith in
-    filled (start .args .n) (start .pre .0 .0 .few) (rw e at (c .before .loop .inv .1))
+    filled (start .args .n) (start .pre .held .room .few) (rw e at (c .before .loop .inv .1))
 
 pub coordinates-spec : {M : Type 1} → statement M
 coordinates-spec =

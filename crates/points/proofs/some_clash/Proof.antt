@@ -20,22 +20,22 @@ loop-holds : tie.Need-loop-holds Inv-loop μ-loop
 loop-holds c = (search needs, some-none _)
 
 mul-entries-clash : tie.Need-mul-entries-clash Inv-loop μ-loop
-mul-entries-clash c = omega (arith, c .before .before .before .pre .0 .few)
+mul-entries-clash c = omega (arith, c .before .before .before .pre .room .few)
 
 element-copy-out-entries-clash : tie.Need-element-copy-out-entries-clash Inv-loop μ-loop
-element-copy-out-entries-clash c = omega (arith, c .before .before .before .pre .0 .few)
+element-copy-out-entries-clash c = omega (arith, c .before .before .before .pre .room .few)
 
 mul-entries-clash-2 : tie.Need-mul-entries-clash-2 Inv-loop μ-loop
-mul-entries-clash-2 c = omega (arith, c .before .before .before .before .pre .0 .few)
+mul-entries-clash-2 c = omega (arith, c .before .before .before .before .pre .room .few)
 
 element-copy-out-entries-clash-2 : tie.Need-element-copy-out-entries-clash-2 Inv-loop μ-loop
-element-copy-out-entries-clash-2 c = omega (arith, c .before .before .before .before .pre .0 .few)
+element-copy-out-entries-clash-2 c = omega (arith, c .before .before .before .before .pre .room .few)
 
 entries-clash-requires : tie.Need-entries-clash-requires Inv-loop μ-loop
 entries-clash-requires c κs =
     let pre = c .before .before .before .before .before .pre in
     let i = c .before .before .before .loop .i in
-    (omega (arith, pre .0 .fit, pre .1 i (omega arith)), omega (arith, pre .0 .fit, pre .1 (i + 1) (omega arith)))
+    (omega (arith, pre .room .fit, pre .placed i (omega arith)), omega (arith, pre .room .fit, pre .placed (i + 1) (omega arith)))
 
 returns : tie.Need-returns Inv-loop μ-loop
 returns c =

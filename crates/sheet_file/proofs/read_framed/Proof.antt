@@ -46,7 +46,7 @@ returns-4 c =
     rw (few (else2 .before .before), long else2, flags else3, ← c .before .has-bad-float .ensures, c .if4 .taken)
 
 settings-of-requires : tie.Need-settings-of-requires
-settings-of-requires c κs = (c .before .before .before .before .before .before .before .before .before .pre, floats c)
+settings-of-requires c κs = record { held = c .before .before .before .before .before .before .before .before .before .pre; inside = floats c }
 
 returns-5 : tie.Need-returns-5
 unfolding readingIn

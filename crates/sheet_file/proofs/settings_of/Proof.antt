@@ -1,5 +1,5 @@
 -- `sheet_file::settings_of` meets its contract: tag 1's settings, or the defaults. Assumes nothing.
-use Rattle.sheet_file.proofs.Laws.{settings-inside, full-inside}
+use Rattle.sheet_file.proofs.Floats.{settings-inside, full-inside}
 use Rattle.sheet_file.specs.Refusals.{settingsOf}
 use native.Mathlib.Omega.{arith}
 use borrow.Author.Needs.{needs}
@@ -7,14 +7,18 @@ use Rattle.sheet_file.proofs.settings_of.Statement.{statement}
 use Rattle.sheet_file.proofs.settings_of.Tie as tie
 
 settings-in-requires : tie.Need-settings-in-requires
-settings-in-requires c κs = let start = c .before .before .before in (start .pre .0 .long (c .if1 .taken), full-inside _ _ (start .pre .1) (c .if1 .taken))
+settings-in-requires c κs =
+    let h = c .before .before .before .pre in
+    record { fits = h .held .long (c .if1 .taken); inside = full-inside _ _ (h .inside) (c .if1 .taken) }
 
 returns : tie.Need-returns
 unfolding settingsOf
 returns c = rw (← c .before .before .edge-shape-of .ensures, c .before .if1 .taken) (c .settings-in .ensures)
 
 float-at-requires : tie.Need-float-at-requires
-float-at-requires c κs = let start = c .before .before .before in (omega (arith, start .pre .0 .short), settings-inside _ _ (start .pre .1) .0)
+float-at-requires c κs =
+    let h = c .before .before .before .pre in
+    record { fits = omega (arith, h .held .short); inside = settings-inside _ _ (h .inside) .0 }
 
 returns-2 : tie.Need-returns-2
 unfolding settingsOf
