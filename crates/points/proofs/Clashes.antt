@@ -8,7 +8,7 @@ use lib.Dec.{eqb}
 use lib.ListN.{getD}
 use borrow.Author.Tests.{eqb-true, eq-eqb}
 use Rattle.folds.specs.Among.{anyIn, pairIn, any-list, pair-ext}
-use Rattle.folds.specs.Below.{some, some-ext, some-fails, and-left, and-right, and-both, both-ways}
+use Rattle.folds.specs.Below.{some-ext, some-fails, and-left, and-right, and-both, both-ways}
 use Rattle.view.specs.View.{maxPoints}
 use Rattle.cells.specs.Points.{Point, biased, keyOf}
 use Rattle.cells.specs.Cell.{signed, within, InRange}
@@ -39,7 +39,7 @@ back b p q = rw (eqb-swap (p .x) (q .x), eqb-swap (p .y) (q .y))
 
 module _ (file : List ℕ) (at n : ℕ) (few : n ≤ maxPoints) where
   -- two neighbouring entries clash just where two points do
-  pub entries-and-pairs : (b : Bool)
+  entries-and-pairs : (b : Bool)
       → neighboursClash file at n b (entriesOf file at n b) ≡ pairIn (clash (keyBy b) (together b)) (pointsIn file at n)
   unfolding pointsIn entriesClash
   entries-and-pairs b =
@@ -90,7 +90,7 @@ module _ (file : List ℕ) (at n : ℕ) where
   pub all-ranged : Bytes file → anyIn offRange (pointsIn file at n) ≡ false → (i : ℕ) → i < n → Ranged (ithPoint file at i)
   all-ranged b e i h = ranged (ithPoint file at i) (le32-small file b (at + 20 * i)) (le32-small file b (at + 20 * i + 4)) (none-off offRange e i h)
 
-  pub same-cells : Bytes file → anyIn offRange (pointsIn file at n) ≡ false → pairIn sameCell (pointsIn file at n) ≡ pairIn (clash (keyBy false) (together false)) (pointsIn file at n)
+  same-cells : Bytes file → anyIn offRange (pointsIn file at n) ≡ false → pairIn sameCell (pointsIn file at n) ≡ pairIn (clash (keyBy false) (together false)) (pointsIn file at n)
   unfolding pointsIn
   same-cells b e =
       pair-ext (ithPoint file at) n sameCell (clash (keyBy false) (together false))

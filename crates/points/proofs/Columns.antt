@@ -24,7 +24,7 @@ use Rattle.points.proofs.Ordering.{entries-placed, entry-at, entry-key}
 use Rattle.points.proofs.Clashes.{none-off, all-ranged}
 
 module _ (file : List ℕ) (at n : ℕ) (few : n ≤ maxPoints) where
-  abbrev pub sortedPoints : List Point
+  abbrev sortedPoints : List Point
   sortedPoints = cellOrder (pointsIn file at n)
 
   by-place : sortedPoints ≡ listOf n (λ (r : ℕ). ithPoint file at (placed (ithKey file at false) n r))
@@ -34,13 +34,13 @@ module _ (file : List ℕ) (at n : ℕ) (few : n ≤ maxPoints) where
   pub points-length : length sortedPoints ≡ n
   points-length = ap length by-place ∙ length-list n (λ (r : ℕ). ithPoint file at (placed (ithKey file at false) n r))
 
-  pub point-at : (k : ℕ) → k < n → getD sortedPoints k nowhere ≡ entryPoint file at (getD (entriesOf file at n false) k 0)
+  point-at : (k : ℕ) → k < n → getD sortedPoints k nowhere ≡ entryPoint file at (getD (entriesOf file at n false) k 0)
   point-at k h =
       ap (λ (l : List Point). getD l k nowhere) by-place ∙ list-at n (λ (r : ℕ). ithPoint file at (placed (ithKey file at false) n r)) k nowhere h
       ∙ ap (entryPoint file at) (sym (entry-at file at n false few k h))
 
   -- one field of the points at the entries is that field's column
-  pub field-column : {B : Type 0} (d : B) (field : Point → B) → column maxPoints d n (λ (k : ℕ). field (entryPoint file at (getD (entriesOf file at n false) k 0))) ≡ column maxPoints d (length sortedPoints) (λ (k : ℕ). field (getD sortedPoints k nowhere))
+  field-column : {B : Type 0} (d : B) (field : Point → B) → column maxPoints d n (λ (k : ℕ). field (entryPoint file at (getD (entriesOf file at n false) k 0))) ≡ column maxPoints d (length sortedPoints) (λ (k : ℕ). field (getD sortedPoints k nowhere))
   field-column d field = rw points-length (column-ext maxPoints d n (λ (k : ℕ). field (entryPoint file at (getD (entriesOf file at n false) k 0))) (λ (k : ℕ). field (getD sortedPoints k nowhere)) (λ k h. ap field (sym (point-at k h))))
 
   pub key-column : column maxPoints 0 n (λ (k : ℕ). getD (entriesOf file at n false) k 0 / 4096) ≡ keysOf sortedPoints

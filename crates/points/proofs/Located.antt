@@ -4,12 +4,12 @@ use mathlib.Core.List.{List}
 use Prim.Native.Nat.{ℕ, _+_, _≤_}
 use native.Mathlib.Omega.{arith}
 use lib.ListN.{length}
-use Rattle.folds.specs.Lists.{listOf, length-list}
+use Rattle.folds.specs.Lists.{length-list}
 use Rattle.sheet_file.specs.Bytes.{le32}
 use Rattle.sheet_file.proofs.Words.{SameBytes, same-within, le32-same}
 use Rattle.points.specs.Records.{pointIn, ithPoint, pointsIn}
 
-pub word-same : (file : List ℕ) (at : ℕ) (other : List ℕ) (to j : ℕ) → j + 4 ≤ 20 → SameBytes 20 file at other to → le32 other (to + j) ≡ le32 file (at + j)
+word-same : (file : List ℕ) (at : ℕ) (other : List ℕ) (to j : ℕ) → j + 4 ≤ 20 → SameBytes 20 file at other to → le32 other (to + j) ≡ le32 file (at + j)
 word-same file at other to j l h = le32-same file (at + j) other (to + j) (same-within 20 file at other to h j 4 l)
 
 pub point-same : (file : List ℕ) (at : ℕ) (other : List ℕ) (to : ℕ) → SameBytes 20 file at other to → pointIn other to ≡ pointIn file at

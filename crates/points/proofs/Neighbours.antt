@@ -42,20 +42,20 @@ module _ {A : Type 0} (key : A → ℕ) (same : A → A → Bool) where
     module _ (f : ℕ → A) (n : ℕ) (rises : (i j : ℕ) → i ≤ j → j < n → key (f i) ≤ key (f j)) where
       -- neighbours that do not clash
       chain : ((r : ℕ) → r + 1 < n → clash (f r) (f (r + 1)) ≡ false) → (d i : ℕ) → i + suc d < n → key (f i) ≡ key (f (i + suc d)) → same (f i) (f (i + suc d)) ≡ true
-      chain h zero i l e = let file : i + suc zero ≡ i + 1 = omega arith in rw file (then-same (f i) (f (i + 1)) (h i (omega arith)) (rw file at e))
+      chain h zero i l e = let step : i + suc zero ≡ i + 1 = omega arith in rw step (then-same (f i) (f (i + 1)) (h i (omega arith)) (rw step at e))
       chain h (suc d) i l e =
-          let file : i + suc (suc d) ≡ i + suc d + 1 = omega arith in
-          let k : key (f i) ≡ key (f (i + suc d + 1)) = rw file at e in
+          let step : i + suc (suc d) ≡ i + suc d + 1 = omega arith in
+          let k : key (f i) ≡ key (f (i + suc d + 1)) = rw step at e in
           let lo = rises i (i + suc d) (omega arith) (omega arith) in
           let hi = rises (i + suc d) (i + suc d + 1) (omega arith) (omega arith) in
-          rw file
+          rw step
           (through (f i) (f (i + suc d)) (f (i + suc d + 1)) (chain h d i (omega arith) (omega arith))
           (then-same (f (i + suc d)) (f (i + suc d + 1)) (h (i + suc d) (omega arith)) (omega arith)))
 
       none : ((r : ℕ) → r + 1 < n → clash (f r) (f (r + 1)) ≡ false) → pairIn clash (listOf n f) ≡ false
       none h =
           pair-no f n clash
-          (λ i j ij jn. let file : i + suc (j - suc i) ≡ j = omega arith in no-clash (f i) (f j) (λ e. rw file at (chain h (j - suc i) i (omega arith) (rw file e))))
+          (λ i j ij jn. let step : i + suc (j - suc i) ≡ j = omega arith in no-clash (f i) (f j) (λ e. rw step at (chain h (j - suc i) i (omega arith) (rw step e))))
 
       pub neighbours : pairIn clash (listOf n f) ≡ some (λ (r : ℕ). clash (f r) (f (r + 1))) (n - 1)
       neighbours = go (some (λ (r : ℕ). clash (f r) (f (r + 1))) (n - 1)) refl

@@ -1,8 +1,9 @@
 -- How the code goes about it: each point is one number, an entry, of its key and its place in the file; entries are sorted, and pairs are
 -- found among neighbours. Assumes nothing.
-use mathlib.Core.Bool.{Bool, cond, not, _&&_}
+use mathlib.Core.Path.{_≡_}
+use mathlib.Core.Bool.{Bool, false, cond, not, _&&_}
 use mathlib.Core.List.{List}
-use Prim.Native.Nat.{ℕ, _+_, _-_, _/_, _%_, _<_}
+use Prim.Native.Nat.{ℕ, _+_, _-_, _*_, _/_, _%_, _≤_, _<_}
 use lib.Dec.{eqb}
 use lib.ListN.{getD}
 use Rattle.folds.specs.Below.{some}
@@ -10,7 +11,9 @@ use Rattle.folds.specs.Column.{column}
 use Rattle.view.specs.View.{maxPoints}
 use Rattle.cells.specs.Points.{Point, keyOf}
 use Rattle.sort.specs.Packed.{packed, inOrder}
-use Rattle.points.specs.Records.{ithPoint}
+use Rattle.sheet_file.specs.Limit.{outside}
+use Rattle.sheet_file.specs.Refusals.{floatAt}
+use Rattle.points.specs.Records.{ithPoint, PointsFit}
 use Rattle.points.specs.Refusals.{offRange, offLimit, samePosition}
 
 -- the condition of number 7 on one point, or that of number 6
@@ -46,6 +49,17 @@ entryPoint file at e = ithPoint file at (e % 4096)
 -- each entry's place is that of a point
 abbrev pub Placed : List ℕ → ℕ → Type 0
 Placed entries n = (k : ℕ) → k < n → getD entries k 0 % 4096 < n
+
+-- n points stand in the file from a position on, and the entries have their places
+pub record EntriesHeld (file : List ℕ) (at n : ℕ) (entries : List ℕ) : Type 0 where
+  pub room : PointsFit file at n
+  pub placed : Placed entries n
+
+-- and a number of each, which stands `field` bytes into it, is a float within the limit
+pub record CoordinatesHeld (file : List ℕ) (at field n : ℕ) (entries : List ℕ) : Type 0 where
+  pub held : EntriesHeld file at n entries
+  pub short : field ≤ 16
+  pub inside : (i : ℕ) → i < n → outside (floatAt file (at + 20 * i + field)) ≡ false
 
 -- two entries have one key, and their points may not stand together
 unfoldable pub entriesClash : List ℕ → ℕ → Bool → ℕ → ℕ → Bool

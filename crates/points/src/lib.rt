@@ -2,7 +2,6 @@
 use view::MAX_POINTS;
 ghost use mathlib.Core.Path.{_≡_};
 ghost use mathlib.Core.List.{[]};
-ghost use mathlib.Core.Bool.{true, false};
 ghost use Prim.Native.Nat.{ℕ, _+_, _*_, _/_, _%_, _≤_, _<_};
 ghost use lib.ListN.{length, getD};
 ghost use lib.Ieee.{nan};
@@ -10,10 +9,9 @@ ghost use Rattle.folds.specs.Among.{anyIn};
 ghost use Rattle.folds.specs.Column.{column};
 ghost use Rattle.view.specs.View.{maxPoints};
 ghost use Rattle.sheet_file.specs.Refusals.{floatAt};
-ghost use Rattle.sheet_file.specs.Limit.{outside};
 ghost use Rattle.points.specs.Records.{pointIn, pointsIn, PointsFit};
 ghost use Rattle.points.specs.Refusals.{offRange, offLimit, samePosition, numberFor, cellOrder, acceptedOf};
-ghost use Rattle.points.specs.Entries.{offBy, keyBy, packedOf, entriesOf, entryPoint, Placed, entriesClash, neighboursClash};
+ghost use Rattle.points.specs.Entries.{offBy, keyBy, packedOf, entriesOf, entryPoint, EntriesHeld, CoordinatesHeld, entriesClash, neighboursClash};
 ghost use Rattle.points.specs.Table.{Tabled, WithinLimits};
 
 // ---- number 6
@@ -135,8 +133,7 @@ fn entries_clash(file: &[u8], at: usize, by_index: bool, a: u64, b: u64) -> bool
 
 // Whether two neighbouring entries do.
 fn some_clash(file: &[u8], at: usize, n: usize, by_index: bool, entries: &[u64; MAX_POINTS]) -> bool
-    requires { ⌜ PointsFit (now file) at n ⌝ }
-    requires { ⌜ Placed (now entries) n ⌝ }
+    requires { ⌜ EntriesHeld (now file) at n (now entries) ⌝ }
     ensures { λ r. ⌜ r ≡ neighboursClash (now (file .entry)) at n «by_index» (now (entries .entry)) ⌝ }
 {
     let mut i = 0;
@@ -168,8 +165,7 @@ fn keys(entries: &[u64; MAX_POINTS], n: usize) -> [u32; MAX_POINTS]
 
 // The indices.
 fn indices(file: &[u8], at: usize, n: usize, entries: &[u64; MAX_POINTS]) -> [u32; MAX_POINTS]
-    requires { ⌜ PointsFit (now file) at n ⌝ }
-    requires { ⌜ Placed (now entries) n ⌝ }
+    requires { ⌜ EntriesHeld (now file) at n (now entries) ⌝ }
     ensures { λ r. ⌜ r ≡ column maxPoints 0 n (λ (k : ℕ). entryPoint (now (file .entry)) at (getD (now (entries .entry)) k 0) .index) ⌝ }
 {
     let mut out = [0u32; MAX_POINTS];
@@ -190,9 +186,7 @@ fn coordinates(
     n: usize,
     entries: &[u64; MAX_POINTS],
 ) -> [f32; MAX_POINTS]
-    requires { ⌜ PointsFit (now file) at n × (field ≤ 16) ⌝ }
-    requires { ⌜ Placed (now entries) n ⌝ }
-    requires { ⌜ ((i : ℕ) → i < n → outside (floatAt (now file) (at + 20 * i + field)) ≡ false) ⌝ }
+    requires { ⌜ CoordinatesHeld (now file) at field n (now entries) ⌝ }
     ensures { λ r. ⌜ r ≡ column maxPoints nan n (λ (k : ℕ). floatAt (now (file .entry)) (at + 20 * (getD (now (entries .entry)) k 0 % 4096) + field)) ⌝ }
 {
     let none: f32 = 0.0 / 0.0;

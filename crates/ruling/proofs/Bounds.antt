@@ -17,7 +17,7 @@ use Rattle.ruling.specs.Ruling.{refused, rulingOf, applies}
 use Rattle.ruling.proofs.Given.{is-given}
 
 module _ (file : List ℕ) (room : ℕ) where
-  pub long-refused : Bytes file → longest < length file → rulingOf file room ≡ refused 1
+  long-refused : Bytes file → longest < length file → rulingOf file room ≡ refused 1
   unfolding rulingOf
   long-refused b l = rw (too-long file b l)
 

@@ -44,10 +44,14 @@ module _ (file : List ℕ) (room : ℕ) where
   abbrev passed : Ruling
   passed = accepted (settingsOf file (layoutOf file)) (cellOrder (pointsOf file))
 
-  -- the ruling on the points, where the header has no fault
   pub by-points : rulingOf file room ≡ ruled refused (rulingFor (settingsOf file (layoutOf file)) (pointsOf file)) (headerRefusals file room (framingOf file))
-  unfolding rulingOf rulingFor
-  by-points = ruled-in-two refused passed (headerRefusals file room (framingOf file)) (pointRefusals (pointsOf file))
+  unfolding rulingOf
+  by-points = refl
+
+  -- "A call returns the first number that applies", in the order of one list
+  pub in-one-list : rulingOf file room ≡ ruled refused (accepted (settingsOf file (layoutOf file)) (cellOrder (pointsOf file))) (refusalsOf file room)
+  unfolding rulingFor refusalsOf
+  in-one-list = by-points ∙ sym (ruled-in-two refused passed (headerRefusals file room (framingOf file)) (pointRefusals (pointsOf file)))
 
   -- an accepted file has no fault in its header, and its points are accepted with its settings
   pub in-file : {s : Settings} {ps : List Point} → rulingOf file room ≡ accepted s ps
@@ -60,16 +64,16 @@ module _ (file : List ℕ) (room : ℕ) where
 
   -- number k applies, and no earlier one does: it is given
   pub given : (k : ℕ) → applies file room k ≡ true → anyIn holds (earlierThan (refusalsOf file room) k) ≡ false → rulingOf file room ≡ refused k
-  unfolding rulingOf applies
-  given k e f = first-given refused passed (refusalsOf file room) k e f
+  unfolding applies
+  given k e f = in-one-list ∙ first-given refused passed (refusalsOf file room) k e f
 
   -- no number applies: accepted
   pub none-given : ((j : ℕ) → applies file room j ≡ false) → rulingOf file room ≡ accepted (settingsOf file (layoutOf file)) (cellOrder (pointsOf file))
-  unfolding rulingOf applies
-  none-given f = none-passes refused passed (refusalsOf file room) (none-holds (refusalsOf file room) distinct f)
+  unfolding applies
+  none-given f = in-one-list ∙ none-passes refused passed (refusalsOf file room) (none-holds (refusalsOf file room) distinct f)
 
   -- what a ruling says of the conditions; a number is a byte, and not 0
-  pub record First (k : ℕ) : Type 0 where
+  pub record NumberGiven (k : ℕ) : Type 0 where
     pub low : 0 < k
     pub high : k < 256
     pub holding : applies file room k ≡ true
@@ -78,10 +82,10 @@ module _ (file : List ℕ) (room : ℕ) where
   numbered : (p : ℕ → Bool) (k : ℕ) → anyIn (λ (n : ℕ). not (p n)) (numbersOf (refusalsOf file room)) ≡ false → FirstHolding (refusalsOf file room) k → p k ≡ true
   numbered p k e f = each-listed p (numbersOf (refusalsOf file room)) k e (f .listed)
 
-  pub is-given : (k : ℕ) → rulingOf file room ≡ refused k → First k
-  unfolding rulingOf applies
+  pub is-given : (k : ℕ) → rulingOf file room ≡ refused k → NumberGiven k
+  unfolding applies
   is-given k e =
-      let f = only-first refused passed one other (refusalsOf file room) distinct k e in
+      let f = only-first refused passed one other (refusalsOf file room) distinct k (sym in-one-list ∙ e) in
       record {
         low = ltb-true 0 k (numbered (ltb 0) k refl f);
         high = ltb-true k 256 (numbered (λ (n : ℕ). ltb n 256) k refl f);
@@ -92,8 +96,7 @@ module _ (file : List ℕ) (room : ℕ) where
   -- what an accepted file says
   pub is-accepted : {s : Settings} {ps : List Point} → rulingOf file room ≡ accepted s ps
       → (anyIn holds (refusalsOf file room) ≡ false) × (accepted (settingsOf file (layoutOf file)) (cellOrder (pointsOf file)) ≡ accepted s ps)
-  unfolding rulingOf
-  is-accepted {s} {ps} e = only-none refused passed (accepted s ps) other (refusalsOf file room) e
+  is-accepted {s} {ps} e = only-none refused passed (accepted s ps) other (refusalsOf file room) (sym in-one-list ∙ e)
 
   pub none-applies : {s : Settings} {ps : List Point} → rulingOf file room ≡ accepted s ps → (j : ℕ) → applies file room j ≡ false
   unfolding applies

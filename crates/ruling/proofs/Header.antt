@@ -20,7 +20,7 @@ use Rattle.sheet_file.specs.declared.EdgeGate.{EdgeGate}
 use Rattle.sheet_file.specs.declared.EdgeGate.the-variants.{Off, On}
 use Rattle.sheet_file.specs.declared.Framing.the-variants.{Framed, Misframed}
 use Rattle.sheet_file.proofs.Words.{le16-same, le32-same}
-use Rattle.sheet_file.proofs.Fields.{GateAt, gate-there, gate-absent, Fields, full-settings, short-settings, fields-of, points-in, before}
+use Rattle.sheet_file.proofs.Fields.{GateAt, gate-there, gate-absent, Fields, full-settings, short-settings, fields-of, points-in, before-points}
 use Rattle.points.specs.Records.{pointsIn}
 use Rattle.ruling.specs.Ruling.{refused, rulingFor, rulingOf}
 use Rattle.ruling.specs.Header.{Headed}
@@ -28,11 +28,11 @@ use Rattle.ruling.specs.Switches.{switched}
 use Rattle.ruling.proofs.Given.{by-points}
 
 -- other is as long as file, and has its bytes before the points, but for the switches, which only settings of length 21 have
-pub record Alike (file other : List ℕ) (f : Layout) : Type 0 where
+pub record SameHeader (file other : List ℕ) (f : Layout) : Type 0 where
   pub size : length other ≡ length file
   pub same : (k : ℕ) → k < f .points → (f .full ≡ true → (k < 22) ⊎ (24 ≤ k)) → getD other k 0 ≡ getD file k 0
 
-module _ (file other : List ℕ) (f : Layout) (framed : framingOf file ≡ Framed f) (h : Alike file other f) where
+module _ (file other : List ℕ) (f : Layout) (framed : framingOf file ≡ Framed f) (h : SameHeader file other f) where
   -- ---- before the switches, and after them
 
   low : (k : ℕ) → k < 22 → k < f .points → getD other k 0 ≡ getD file k 0
@@ -84,12 +84,12 @@ module _ (file other : List ℕ) (f : Layout) (framed : framingOf file ≡ Frame
   full-is at full (gate-there u e) = points-in file f (at + 20) full true e .full-is
   full-is at full (gate-absent u e) = points-in file f at full false e .full-is
 
-  pub frame-alike : framingOf other ≡ Framed f
+  frame-alike : framingOf other ≡ Framed f
   unfolding framingOf
   frame-alike = go (fields-of file f framed)
     where
       first : (n : ℕ) → fieldAt other 0 1 n ≡ fieldAt file 0 1 n
-      first n = let b = before file f framed in field-by 0 1 n (low 0 (omega arith) (omega arith)) (low-half 1 (omega arith) (omega arith))
+      first n = let b = before-points file f framed in field-by 0 1 n (low 0 (omega arith) (omega arith)) (low-half 1 (omega arith) (omega arith))
 
       go : Fields file f → cond (fieldAt other 0 1 21) (gateFrom other 24 true) (cond (fieldAt other 0 1 4) (gateFrom other 7 false) Misframed) ≡ Framed f
       go (full-settings u g) = rw (first 21, u) (gate-same 24 true (λ t. omega arith) g)
@@ -117,7 +117,7 @@ module _ (file other : List ℕ) (f : Layout) (framed : framingOf file ≡ Frame
 
   edge-same : edgeShapeOf other f ≡ edgeShapeOf file f
   unfolding edgeShapeOf
-  edge-same = go (f .gated) (before file f framed .gate)
+  edge-same = go (f .gated) (before-points file f framed .gate)
     where
       go : (b : Bool) → (b ≡ true → gateStart (f .full) + 17 ≤ f .points) → cond b (On (gateIn other (gateStart (f .full)))) Off ≡ cond b (On (gateIn file (gateStart (f .full)))) Off
       go true l = rw (gate-in-same (gateStart (f .full)) (gate-late (f .full)) (l refl))
@@ -126,7 +126,7 @@ module _ (file other : List ℕ) (f : Layout) (framed : framingOf file ≡ Frame
   -- ---- the settings
 
   settings-floats : settingsFloats other (f .full) ≡ settingsFloats file (f .full)
-  settings-floats = rw (low-word 3 (omega arith) (omega (arith, before file f framed .short))) (go (f .full) (before file f framed .long))
+  settings-floats = rw (low-word 3 (omega arith) (omega (arith, before-points file f framed .short))) (go (f .full) (before-points file f framed .long))
     where
       go : (b : Bool) → (b ≡ true → 27 ≤ f .points) → floatAt file 3 ∷ cond b (floatAt other 7 ∷ floatAt other 13 ∷ floatAt other 18 ∷ []) [] ≡ floatAt file 3 ∷ cond b (floatAt file 7 ∷ floatAt file 13 ∷ floatAt file 18 ∷ []) []
       go true l = let m = l refl in rw (low-word 7 (omega arith) (omega arith), low-word 13 (omega arith) (omega arith), low-word 18 (omega arith) (omega arith))
@@ -137,7 +137,7 @@ module _ (file other : List ℕ) (f : Layout) (framed : framingOf file ≡ Frame
   floats-same =
       ap (λ (l : List Float). anyIn outside l || (f .gated && anyIn outside (gateFloats other (gateStart (f .full))))) settings-floats
       ∙ ap (λ (b : Bool). anyIn outside (settingsFloats file (f .full)) || b)
-      (and-under (f .gated) (λ e. ap (anyIn outside) (gate-floats (gateStart (f .full)) (gate-late (f .full)) (before file f framed .gate e))))
+      (and-under (f .gated) (λ e. ap (anyIn outside) (gate-floats (gateStart (f .full)) (gate-late (f .full)) (before-points file f framed .gate e))))
 
   settings-in-same : (g : EdgeGate) → 27 ≤ f .points → settingsIn other g ≡ switched (settingsIn file g) (byteAt other 22) (byteAt other 23)
   unfolding settingsIn
@@ -147,13 +147,13 @@ module _ (file other : List ℕ) (f : Layout) (framed : framingOf file ≡ Frame
   -- settings with the other file's switches, if they have any
   pub settings-alike : settingsOf other f ≡ cond (f .full) (switched (settingsOf file f) (byteAt other 22) (byteAt other 23)) (settingsOf file f)
   unfolding settingsOf
-  settings-alike = rw edge-same (go (f .full) (before file f framed .long) (edgeShapeOf file f))
+  settings-alike = rw edge-same (go (f .full) (before-points file f framed .long) (edgeShapeOf file f))
     where
       go : (b : Bool) → (b ≡ true → 27 ≤ f .points) → (g : EdgeGate)
           → cond b (settingsIn other g) (defaultsFor (floatAt other 3) g)
           ≡ cond b (switched (cond b (settingsIn file g) (defaultsFor (floatAt file 3) g)) (byteAt other 22) (byteAt other 23)) (cond b (settingsIn file g) (defaultsFor (floatAt file 3) g))
       go true l g = settings-in-same g (l refl)
-      go false l g = rw (low-word 3 (omega arith) (omega (arith, before file f framed .short)))
+      go false l g = rw (low-word 3 (omega arith) (omega (arith, before-points file f framed .short)))
 
   -- ---- the ruling
 
@@ -169,7 +169,7 @@ pub same-headed : (file : List ℕ) (n : ℕ) → Headed file file n
 same-headed file n = record { size = refl; head = λ k l. refl }
 
 module _ (file other : List ℕ) (f : Layout) (framed : framingOf file ≡ Framed f) (h : Headed file other (f .points)) where
-  alike : Alike file other f
+  alike : SameHeader file other f
   alike = record { size = h .size; same = λ k m l. h .head k m }
 
   pub frame-same : framingOf other ≡ Framed f
@@ -183,12 +183,12 @@ module _ (file other : List ℕ) (f : Layout) (framed : framingOf file ≡ Frame
   settings-same = settings-alike file other f framed alike ∙ go (f .full) refl
     where
       go : (b : Bool) → f .full ≡ b → cond b (switched (settingsOf file f) (byteAt other 22) (byteAt other 23)) (settingsOf file f) ≡ settingsOf file f
-      go true t = let l = before file f framed .long t in rw (h .head 22 (omega arith), h .head 23 (omega arith)) (own-switches t)
+      go true t = let l = before-points file f framed .long t in rw (h .head 22 (omega arith), h .head 23 (omega arith)) (own-switches t)
       go false t = refl
 
   flags-same : badFlag other f ≡ badFlag file f
   unfolding badFlag
-  flags-same = and-under (f .full) (λ e. let l = before file f framed .long e in rw (h .head 17 (omega arith), h .head 22 (omega arith), h .head 23 (omega arith)))
+  flags-same = and-under (f .full) (λ e. let l = before-points file f framed .long e in rw (h .head 17 (omega arith), h .head 22 (omega arith), h .head 23 (omega arith)))
 
   -- a file with this header is ruled on by it, and then by its own points
   pub carried : (room : ℕ) → rulingOf other room ≡ ruled refused (rulingFor (settingsOf file f) (pointsIn other (f .points) (f .count))) (headerRefusals file room (Framed f))

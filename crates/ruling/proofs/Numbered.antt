@@ -33,7 +33,7 @@ unfoldable pub firstNumbers : ℕ → List ℕ
 unfolding listOf
 firstNumbers n = listOf n (λ (i : ℕ). i)
 
-pub map-numbers : {B : Type 0} (g : ℕ → B) (n : ℕ) → map g (firstNumbers n) ≡ listOf n g
+map-numbers : {B : Type 0} (g : ℕ → B) (n : ℕ) → map g (firstNumbers n) ≡ listOf n g
 unfolding firstNumbers
 map-numbers g n =
     is-list (g 0) n g (map g (listOf n (λ (i : ℕ). i))) (length-map (listOf n (λ (i : ℕ). i)) g ∙ length-list n (λ (i : ℕ). i))

@@ -123,10 +123,10 @@ module _ (a b : ℤ) (ps qs : List Point) (o : AllDisplaced a b ps qs) (wp : All
   at-place : (g : ℕ → Point) (k : ℕ) → k < length places → getD (map g places) k nowhere ≡ g (getD places k 0)
   at-place g k h = getD-any (map g places) k nowhere (g 0) (omega (arith, length-map places g)) ∙ List·getD-map g places k 0
 
-  pub sizes-same : length (cellOrder qs) ≡ length (cellOrder ps)
+  sizes-same : length (cellOrder qs) ≡ length (cellOrder ps)
   sizes-same = rw (old-order, new-order) (length-map places new ∙ sym (length-map places old))
 
-  pub points-moved : (k : ℕ) → k < length (cellOrder ps) → Moved a b (getD (cellOrder ps) k nowhere) (getD (cellOrder qs) k nowhere)
+  points-moved : (k : ℕ) → k < length (cellOrder ps) → Moved a b (getD (cellOrder ps) k nowhere) (getD (cellOrder qs) k nowhere)
   points-moved k h =
       let l : k < length places = omega (arith, ap length old-order, length-map places old) in
       rw (old-order, new-order, at-place old k l, at-place new k l) (point-moved (getD places k 0) (all-at (λ (i : ℕ). i < n) 0 places places-below k l))

@@ -3,7 +3,7 @@ use mathlib.Core.Path.{_≡_, sym, ap, _∙_}
 use mathlib.Core.List.{List, [], map, List·Permᴰ, List·Permᴰ·nil, List·Permᴰ·cons, List·Permᴰ·swap, List·Permᴰ·trans}
 use Prim.Native.Nat.{ℕ, _+_, _*_}
 use native.Mathlib.Omega.{arith}
-use lib.ListN.{getD, take, drop, length-map, List·getD-map}
+use lib.ListN.{drop, length-map, List·getD-map}
 use lib.Seq.{getD-take, getD-drop}
 use Rattle.folds.specs.Among.{any-order, pair-order}
 use Rattle.folds.specs.Lists.{All, listOf, length-list, list-at, is-list}

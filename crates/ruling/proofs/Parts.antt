@@ -21,7 +21,7 @@ use Rattle.points.specs.Refusals.{pointRefusals, numberFor, cellOrder}
 use Rattle.ruling.specs.Ruling.{Ruling, refused, accepted, rulingFor, rulingOf}
 use Rattle.ruling.proofs.Given.{by-points}
 
-abbrev pub rulingBy : List ℕ → Reading → Ruling
+abbrev rulingBy : List ℕ → Reading → Ruling
 rulingBy file (Refused k) = refused k
 rulingBy file (Accepted h) = rulingFor (h .settings) (pointsIn file (h .points) (h .count))
 

@@ -41,7 +41,7 @@ use Rattle.ruling.proofs.Numbered.{sorted-by-number}
 -- ---- lists by place
 
 -- no two at different places pass
-pub pair-none : {A : Type 0} (t : A → A → Bool) (d : A) (l : List A) → pairIn t l ≡ false → (i j : ℕ) → i < j → j < length l → t (getD l i d) (getD l j d) ≡ false
+pair-none : {A : Type 0} (t : A → A → Bool) (d : A) (l : List A) → pairIn t l ≡ false → (i j : ℕ) → i < j → j < length l → t (getD l i d) (getD l j d) ≡ false
 pair-none t d [] e i j ij jn = absurd (omega arith)
 pair-none t d (a ∷ l) e i zero ij jn = absurd (omega arith)
 pair-none t d (a ∷ l) e zero (suc j) ij jn = all-at (λ b. t a b ≡ false) d l (none-in (t a) l (or-none (anyIn (t a) l) (pairIn t l) e .0)) j (omega arith)
@@ -85,7 +85,7 @@ pub record Apart (ps : List Point) : Type 0 where
   pub apart : pairIn sameCell ps ≡ false
 
 module _ (ps : List Point) (h : Apart ps) where
-  pub ranged-at : (i : ℕ) → i < length ps → Ranged (getD ps i nowhere)
+  ranged-at : (i : ℕ) → i < length ps → Ranged (getD ps i nowhere)
   ranged-at = all-at Ranged nowhere ps (all-in-range ps (h .words) (h .in-range))
 
   -- their keys differ
@@ -118,7 +118,7 @@ module _ (ps : List Point) (h : Apart ps) where
   pub one-order : (qs : List Point) → List·Permᴰ ps qs → cellOrder ps ≡ cellOrder qs
   one-order qs p = order-free comesBefore (At nowhere ps) ordered p all-listed
 
-  pub sorted-apart : Apart (cellOrder ps)
+  sorted-apart : Apart (cellOrder ps)
   sorted-apart = record {
     words = sort-all comesBefore Words ps (h .words);
     in-range = sym (any-order offRange (sort-perm comesBefore ps)) ∙ h .in-range;
@@ -140,7 +140,7 @@ module _ (ps : List Point) (h : Apart ps) where
       ∙ ap (sort second) (sym own)
 
 -- the points, sorted, are ready for the tables of the grid
-pub in-cell-order : (ps : List Point) → Apart ps → length ps ≤ maxPoints → CellOrder (cellOrder ps)
+in-cell-order : (ps : List Point) → Apart ps → length ps ≤ maxPoints → CellOrder (cellOrder ps)
 in-cell-order ps h few =
     let o = sorted-apart ps h in
     order-by-keys (cellOrder ps) (omega (arith, sort-length comesBefore ps)) (λ k b. ranged-at (cellOrder ps) o k b .cell)

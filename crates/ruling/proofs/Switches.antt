@@ -1,32 +1,32 @@
 -- "Changing only the two switches": the file stays accepted, with the same points, and of its settings the two switches alone change.
 -- Assumes nothing.
-use mathlib.Core.Path.{_≡_, refl, sym, _∙_}
-use mathlib.Core.Bool.{Bool, true, false, _||_}
+use mathlib.Core.Path.{_≡_, sym, _∙_}
+use mathlib.Core.Bool.{true, false, _||_}
 use mathlib.Core.List.{List}
 use mathlib.Core.Logic.{inl, inr}
-use Prim.Native.Nat.{ℕ, _+_, _*_, _<_}
+use Prim.Native.Nat.{ℕ, _+_, _*_}
 use native.Mathlib.Omega.{arith}
 use Rattle.folds.specs.Below.{or-none}
 use Rattle.folds.specs.Lists.{list-ext}
 use Rattle.refusals.proofs.Laws.{none-passes}
 use Rattle.cells.specs.Points.{Point, nowhere}
-use Rattle.sheet_file.specs.Bytes.{Bytes, byteAt}
+use Rattle.sheet_file.specs.Bytes.{byteAt}
 use Rattle.sheet_file.specs.Frame.{framingOf, layoutOf}
 use Rattle.sheet_file.specs.Refusals.{settingsOf, noFlag, badFlag, headerRefusals}
 use Rattle.sheet_file.specs.declared.Layout.{Layout}
 use Rattle.sheet_file.specs.declared.Settings.{Settings}
 use Rattle.sheet_file.specs.declared.Framing.the-variants.{Framed}
-use Rattle.sheet_file.proofs.Fields.{before}
+use Rattle.sheet_file.proofs.Fields.{before-points}
 use Rattle.points.specs.Records.{ithPoint, pointsIn}
 use Rattle.points.proofs.Located.{point-same}
 use Rattle.ruling.specs.Ruling.{refused, accepted, rulingFor, rulingOf, applies}
 use Rattle.ruling.specs.Switches.{Switched, switched}
 use Rattle.ruling.proofs.Given.{other-settings, none-applies, in-file}
-use Rattle.ruling.proofs.Header.{Alike, settings-alike, carried-alike}
+use Rattle.ruling.proofs.Header.{SameHeader, settings-alike, carried-alike}
 use Rattle.ruling.proofs.Standing.{accepted-file}
 
 module _ (file other : List ℕ) (f : Layout) (h : Switched file other) (framed : framingOf file ≡ Framed f) (full : f .full ≡ true) where
-  alike : Alike file other f
+  alike : SameHeader file other f
   alike = record { size = h .size; same = λ k m l. h .rest k (l full) }
 
   flags-fine : badFlag file f ≡ false → badFlag other f ≡ false
@@ -39,7 +39,7 @@ module _ (file other : List ℕ) (f : Layout) (h : Switched file other) (framed 
   points-are : pointsIn other (f .points) (f .count) ≡ pointsIn file (f .points) (f .count)
   unfolding pointsIn
   points-are =
-      let l = before file f framed .long full in
+      let l = before-points file f framed .long full in
       list-ext nowhere (f .count) (ithPoint other (f .points)) (ithPoint file (f .points))
       (λ i b. point-same file (f .points + 20 * i) other (f .points + 20 * i) (λ k m. h .rest (f .points + 20 * i + k) (inr (omega arith))))
 

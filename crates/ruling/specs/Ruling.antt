@@ -24,15 +24,15 @@ rulingFor s ps = ruled refused (accepted s (cellOrder ps)) (pointRefusals ps)
 abbrev pub pointsOf : List ℕ → List Point
 pointsOf file = pointsIn file (layoutOf file .points) (layoutOf file .count)
 
--- the refusals of a file and a buffer: those of its header, and then those of its points
+-- and of a file and a buffer: by its header, and then by its points with its settings
+unfoldable pub rulingOf : List ℕ → ℕ → Ruling
+unfolding headerRefusals rulingFor
+rulingOf file room = ruled refused (rulingFor (settingsOf file (layoutOf file)) (pointsOf file)) (headerRefusals file room (framingOf file))
+
+-- the refusals of a file and a buffer in one list, by which it is ruled so (`in-one-list`): those of its header, then those of its points
 unfoldable pub refusalsOf : List ℕ → ℕ → List Refusal
 unfolding headerRefusals pointRefusals
 refusalsOf file room = headerRefusals file room (framingOf file) ++ pointRefusals (pointsOf file)
-
--- and of a file and a buffer
-unfoldable pub rulingOf : List ℕ → ℕ → Ruling
-unfolding refusalsOf
-rulingOf file room = ruled refused (accepted (settingsOf file (layoutOf file)) (cellOrder (pointsOf file))) (refusalsOf file room)
 
 -- the condition of number k holds
 unfoldable pub applies : List ℕ → ℕ → ℕ → Bool

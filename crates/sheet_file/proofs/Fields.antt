@@ -106,13 +106,13 @@ module _ (file : List ℕ) (f : Layout) where
 
   -- ---- the data of tags 1 and 2 end before the points, and those of tag 3 with the file
 
-  pub record Before : Type 0 where
+  pub record BeforePoints : Type 0 where
     pub short : 10 ≤ f .points
     pub long : f .full ≡ true → 27 ≤ f .points
     pub gate : f .gated ≡ true → gateStart (f .full) + 17 ≤ f .points
     pub ends : f .points + 20 * f .count ≡ length file
 
-  before-gate : (at : ℕ) (full : Bool) → 7 ≤ at → at + 3 ≡ gateStart full → (full ≡ true → 24 ≤ at) → GateAt at full → Before
+  before-gate : (at : ℕ) (full : Bool) → 7 ≤ at → at + 3 ≡ gateStart full → (full ≡ true → 24 ≤ at) → GateAt at full → BeforePoints
   before-gate at full l g h (gate-there u e) =
       let p = points-in (at + 20) full true e in
       let r : gateStart (f .full) ≡ gateStart full = ap gateStart (p .full-is) in
@@ -121,14 +121,14 @@ module _ (file : List ℕ) (f : Layout) where
       let p = points-in at full false e in
       record { short = omega arith; long = λ b. omega (arith, h (sym (p .full-is) ∙ b)); gate = λ b. absurd (false≢true (sym (p .gated-is) ∙ b)); ends = omega arith }
 
-  pub before : framingOf file ≡ Framed f → Before
-  before e = go (fields-of e)
+  pub before-points : framingOf file ≡ Framed f → BeforePoints
+  before-points e = go (fields-of e)
     where
-      go : Fields → Before
+      go : Fields → BeforePoints
       go (full-settings t g) = before-gate 24 true (omega arith) refl (λ b. omega arith) g
       go (short-settings u t g) = before-gate 7 false (omega arith) refl (λ b. absurd (false≢true b)) g
 
   pub framed-held : framingOf file ≡ Framed f → Held file f
   framed-held e =
-      let b = before e in
+      let b = before-points e in
       record { short = omega arith; long = λ t. omega (arith, b .long t); gate = λ t. omega (arith, b .gate t); fit = omega arith }

@@ -154,9 +154,6 @@ module _ (file : List ℕ) where
           gate-framed at (length (w .points)) full (rw q (field-there (field 1 (w .settings)) g (field 3 (w .points)) 2 at 17 (omega arith) n))
           (last-in (field 1 (w .settings) ++ field 2 g) (w .points) (at + 20) (simp length-append (omega arith)) (q ∙ sym (append-assoc (field 1 (w .settings)) (field 2 g) (field 3 (w .points)))) (w .twenties))
 
-  pub misframed-not-well : misframed file ≡ true → WellFramed file → ⊥
-  misframed-not-well e w = true≢false (sym e ∙ well-framed w)
-
   pub accepted-well : Bytes file → misframed file ≡ false → WellFramed file
   accepted-well b e = go (framingOf file) refl e
     where

@@ -19,7 +19,7 @@ abbrev pub SameBytes : ℕ → List ℕ → ℕ → List ℕ → ℕ → Type 0
 SameBytes n file at other to = (k : ℕ) → k < n → getD other (to + k) 0 ≡ getD file (at + k) 0
 
 module _ (file : List ℕ) (at : ℕ) (other : List ℕ) (to : ℕ) where
-  pub byte-same : SameBytes 1 file at other to → getD other to 0 ≡ getD file at 0
+  byte-same : SameBytes 1 file at other to → getD other to 0 ≡ getD file at 0
   byte-same h = let z : to + 0 ≡ to = omega arith in let y : at + 0 ≡ at = omega arith in rw (z, y) at (h 0 (omega arith))
 
   pub le16-same : SameBytes 2 file at other to → le16 other to ≡ le16 file at

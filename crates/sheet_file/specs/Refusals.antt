@@ -1,9 +1,11 @@
 -- The settings of a sheet file, the conditions of the numbers 1 to 5, and what is read of a file and the length of a result buffer.
 -- Assumes nothing.
+use mathlib.Core.Path.{_≡_}
 use mathlib.Core.Bool.{Bool, true, false, cond, not, _&&_, _||_}
 use mathlib.Core.List.{List, [], _∷_}
-use Prim.Native.Nat.{ℕ, _+_, _*_}
+use Prim.Native.Nat.{ℕ, _+_, _*_, _≤_}
 use lib.Dec.{eqb, ltb}
+use lib.ListN.{length}
 use lib.Ieee.{Float}
 use Rattle.folds.specs.Arith.{f32}
 use Rattle.folds.specs.Among.{anyIn}
@@ -11,7 +13,7 @@ use Rattle.view.specs.View.{maxPoints}
 use Rattle.refusals.specs.First.{Refusal, ruled}
 use Rattle.sheet_file.specs.Bytes.{byteAt, le16, le32}
 use Rattle.sheet_file.specs.Limit.{outside}
-use Rattle.sheet_file.specs.Frame.{framingOf, layoutIn, gateStart}
+use Rattle.sheet_file.specs.Frame.{framingOf, layoutIn, gateStart, Held}
 use Rattle.sheet_file.specs.declared.Layout.{Layout}
 use Rattle.sheet_file.specs.declared.Framing.{Framing}
 use Rattle.sheet_file.specs.declared.Framing.the-variants.{Framed, Misframed}
@@ -111,6 +113,24 @@ gateFloats file at = floatAt file (at + 1) ∷ floatAt file (at + 5) ∷ floatAt
 -- "5. A float of tag 1 or 2 is not finite or exceeds 16,384 in magnitude."
 unfoldable pub badFloat : List ℕ → Layout → Bool
 badFloat file f = anyIn outside (settingsFloats file (f .full)) || (f .gated && anyIn outside (gateFloats file (gateStart (f .full))))
+
+-- ---- what is asked before a float is read: that it stands in the file, and that the condition of number 5 fails for it
+
+pub record FloatHeld (file : List ℕ) (at : ℕ) : Type 0 where
+  pub fits : at + 4 ≤ length file
+  pub inside : outside (floatAt file at) ≡ false
+
+pub record SettingsHeld (file : List ℕ) : Type 0 where
+  pub fits : 24 ≤ length file
+  pub inside : anyIn outside (settingsFloats file true) ≡ false
+
+pub record GateHeld (file : List ℕ) (at : ℕ) : Type 0 where
+  pub fits : at + 17 ≤ length file
+  pub inside : anyIn outside (gateFloats file at) ≡ false
+
+pub record FloatsHeld (file : List ℕ) (f : Layout) : Type 0 where
+  pub held : Held file f
+  pub inside : badFloat file f ≡ false
 
 -- ---- what is read
 

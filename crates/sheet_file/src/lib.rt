@@ -8,7 +8,7 @@ ghost use Rattle.folds.specs.Among.{anyIn};
 ghost use Rattle.sheet_file.specs.Bytes.{le16, le32};
 ghost use Rattle.sheet_file.specs.Limit.{outside};
 ghost use Rattle.sheet_file.specs.Frame.{fieldAt, endFrom, pointsFrom, gateFrom, framingOf, gateStart, Held};
-ghost use Rattle.sheet_file.specs.Refusals.{floatAt, defaultsFor, gateIn, edgeShapeOf, settingsOf, noFlag, badFlag, settingsFloats, gateFloats, badFloat, readingIn, readingOf};
+ghost use Rattle.sheet_file.specs.Refusals.{floatAt, defaultsFor, settingsIn, gateIn, edgeShapeOf, settingsOf, noFlag, badFlag, settingsFloats, gateFloats, badFloat, FloatHeld, SettingsHeld, GateHeld, FloatsHeld, readingIn, readingOf};
 
 // ---- numbers in the file
 
@@ -54,7 +54,7 @@ pub fn is_outside(file: &[u8], at: usize) -> bool
 
 // The f32 in the four bytes from `at` on, which is finite and at most 16,384 in magnitude.
 pub fn float_at(file: &[u8], at: usize) -> f32
-    requires { ⌜ (at + 4 ≤ length (now file)) × (outside (floatAt (now file) at) ≡ false) ⌝ }
+    requires { ⌜ FloatHeld (now file) at ⌝ }
     ensures { λ r. ⌜ r ≡ floatAt (now (file .entry)) at ⌝ }
 {
     f32::from_bits(u32_at(file, at))
@@ -237,13 +237,7 @@ fn has_bad_flag(file: &[u8], f: Layout) -> bool
     ensures { λ r. ⌜ r ≡ badFlag (now (file .entry)) f ⌝ }
 {
     if f.full {
-        if is_no_flag(file[17]) {
-            return true;
-        }
-        if is_no_flag(file[22]) {
-            return true;
-        }
-        return is_no_flag(file[23]);
+        return is_no_flag(file[17]) | is_no_flag(file[22]) | is_no_flag(file[23]);
     }
     false
 }
@@ -253,19 +247,11 @@ fn settings_outside(file: &[u8], f: Layout) -> bool
     requires { ⌜ Held (now file) f ⌝ }
     ensures { λ r. ⌜ r ≡ anyIn outside (settingsFloats (now (file .entry)) (f .full)) ⌝ }
 {
-    if is_outside(file, 3) {
-        return true;
-    }
+    let cell = is_outside(file, 3);
     if f.full {
-        if is_outside(file, 7) {
-            return true;
-        }
-        if is_outside(file, 13) {
-            return true;
-        }
-        return is_outside(file, 18);
+        return cell | is_outside(file, 7) | is_outside(file, 13) | is_outside(file, 18);
     }
-    false
+    cell
 }
 
 // Whether a float of tag 2, whose data begin at `at`, is outside the limit.
@@ -273,16 +259,10 @@ fn gate_outside(file: &[u8], at: usize) -> bool
     requires { ⌜ at + 17 ≤ length (now file) ⌝ }
     ensures { λ r. ⌜ r ≡ anyIn outside (gateFloats (now (file .entry)) at) ⌝ }
 {
-    if is_outside(file, at + 1) {
-        return true;
-    }
-    if is_outside(file, at + 5) {
-        return true;
-    }
-    if is_outside(file, at + 9) {
-        return true;
-    }
-    is_outside(file, at + 13)
+    is_outside(file, at + 1)
+        | is_outside(file, at + 5)
+        | is_outside(file, at + 9)
+        | is_outside(file, at + 13)
 }
 
 // Where the data of tag 2 begin.
@@ -310,7 +290,7 @@ fn has_bad_float(file: &[u8], f: Layout) -> bool
 
 // The edge-shape gate in the data of tag 2 from `at` on.
 fn gate_in(file: &[u8], at: usize) -> EdgeShapeParams
-    requires { ⌜ (at + 17 ≤ length (now file)) × (anyIn outside (gateFloats (now file) at) ≡ false) ⌝ }
+    requires { ⌜ GateHeld (now file) at ⌝ }
     ensures { λ r. ⌜ r ≡ gateIn (now (file .entry)) at ⌝ }
 {
     EdgeShapeParams {
@@ -323,7 +303,7 @@ fn gate_in(file: &[u8], at: usize) -> EdgeShapeParams
 }
 
 fn edge_shape_of(file: &[u8], f: Layout) -> EdgeGate
-    requires { ⌜ Held (now file) f × (badFloat (now file) f ≡ false) ⌝ }
+    requires { ⌜ FloatsHeld (now file) f ⌝ }
     ensures { λ r. ⌜ r ≡ edgeShapeOf (now (file .entry)) f ⌝ }
 {
     if f.gated {
@@ -332,23 +312,31 @@ fn edge_shape_of(file: &[u8], f: Layout) -> EdgeGate
     EdgeGate::Off
 }
 
+// The settings in the 21 bytes of tag 1.
+fn settings_in(file: &[u8], gate: EdgeGate) -> Settings
+    requires { ⌜ SettingsHeld (now file) ⌝ }
+    ensures { λ r. ⌜ r ≡ settingsIn (now (file .entry)) gate ⌝ }
+{
+    Settings {
+        cell_size: float_at(file, 3),
+        line_tol_rel: float_at(file, 7),
+        line_min_members: u16_at(file, 11),
+        local_h_tol_rel: float_at(file, 13),
+        use_step_aware: file[17] == 1,
+        step_deviation_thresh_rel: float_at(file, 18),
+        apply_wrong_label_drops: file[22] == 1,
+        apply_largest_component: file[23] == 1,
+        edge_shape: gate,
+    }
+}
+
 fn settings_of(file: &[u8], f: Layout) -> Settings
-    requires { ⌜ Held (now file) f × (badFloat (now file) f ≡ false) ⌝ }
+    requires { ⌜ FloatsHeld (now file) f ⌝ }
     ensures { λ r. ⌜ r ≡ settingsOf (now (file .entry)) f ⌝ }
 {
     let gate = edge_shape_of(file, f);
     if f.full {
-        return Settings {
-            cell_size: float_at(file, 3),
-            line_tol_rel: float_at(file, 7),
-            line_min_members: u16_at(file, 11),
-            local_h_tol_rel: float_at(file, 13),
-            use_step_aware: file[17] == 1,
-            step_deviation_thresh_rel: float_at(file, 18),
-            apply_wrong_label_drops: file[22] == 1,
-            apply_largest_component: file[23] == 1,
-            edge_shape: gate,
-        };
+        return settings_in(file, gate);
     }
     Settings::new(float_at(file, 3), gate)
 }

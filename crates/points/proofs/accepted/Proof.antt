@@ -1,6 +1,8 @@
 -- `points::accepted` meets its contract: each column is that of the points in cell order. Assumes nothing.
 use Rattle.points.proofs.Columns.{key-fits, x-inside, y-inside, key-column, index-column, x-column, y-column}
 use Rattle.points.proofs.Ordering.{entries-placed}
+use Rattle.points.specs.Entries.{EntriesHeld}
+use denote.Ref.{now}
 use mathlib.Core.Path.{refl, _∙_}
 use borrow.Author.Needs.{needs}
 use Rattle.points.proofs.accepted.Statement.{statement}
@@ -9,14 +11,18 @@ use Rattle.points.proofs.accepted.Tie as tie
 keys-requires : tie.Need-keys-requires
 keys-requires c κs = (c .before .pre .room .few, key-fits _ _ _ _ (c .before .pre))
 
+-- the entries in cell order are held
+held : (c : tie.Start) → EntriesHeld (now (c .args .file)) (c .args .at) (c .args .n) (now (c .args .entries))
+held c = record { room = c .pre .room; placed = rw (c .pre .ordered) (entries-placed _ _ _ _ (c .pre .room .few)) }
+
 indices-requires : tie.Need-indices-requires
-indices-requires c κs = (c .before .before .pre .room, rw (c .before .before .pre .ordered) (entries-placed _ _ _ _ (c .before .before .pre .room .few)))
+indices-requires c κs = held (c .before .before)
 
 coordinates-requires : tie.Need-coordinates-requires
-coordinates-requires c κs = ((c .before .before .before .pre .room, search needs), (rw (c .before .before .before .pre .ordered) (entries-placed _ _ _ _ (c .before .before .before .pre .room .few)), x-inside _ _ _ _ (c .before .before .before .pre)))
+coordinates-requires c κs = let start = c .before .before .before in record { held = held start; short = search needs; inside = x-inside _ _ _ _ (start .pre) }
 
 coordinates-requires-2 : tie.Need-coordinates-requires-2
-coordinates-requires-2 c κs = ((c .before .before .before .before .pre .room, search needs), (rw (c .before .before .before .before .pre .ordered) (entries-placed _ _ _ _ (c .before .before .before .before .pre .room .few)), y-inside _ _ _ _ (c .before .before .before .before .pre)))
+coordinates-requires-2 c κs = let start = c .before .before .before .before in record { held = held start; short = search needs; inside = y-inside _ _ _ _ (start .pre) }
 
 returns : tie.Need-returns
 returns c = let h = c .before .before .before .before .before .pre in

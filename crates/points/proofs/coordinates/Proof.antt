@@ -2,9 +2,10 @@
 use Rattle.sheet_file.specs.Refusals.{floatAt}
 use lib.Ieee.{nan, div, ofBits}
 use Rattle.folds.specs.Column.{Filling, fill-start, fill-more, filled}
+use denote.Ref.{now}
 use native.Mathlib.Omega.{arith}
 use lib.ListN.{getD, length-replicate}
-use Prim.Native.Nat.{ℕ, _+_, _-_, _*_, _%_, _≤_}
+use Prim.Native.Nat.{ℕ, _+_, _-_, _*_, _%_, _≤_, _<_}
 use mathlib.Core.Path.{_≡_}
 use borrow.Author.Needs.{needs}
 use Rattle.points.proofs.coordinates.Statement.{statement}
@@ -19,24 +20,35 @@ abbrev μ-loop : tie.MeasureT-loop
 loop-holds : tie.Need-loop-holds Inv-loop μ-loop
 loop-holds c = (search needs, fill-start _ nan _)
 
+-- the place of the entry in hand
+placed : (c : tie.In-loop Inv-loop μ-loop) → let a = c .before .before .before .args in getD (now (a .entries)) (c .before .loop .i) 0 % 4096 < a .n
+placed c = c .before .before .before .pre .held .placed (c .before .loop .i) (c .loop-test .taken)
+
 mul-float-at : tie.Need-mul-float-at Inv-loop μ-loop
-mul-float-at c = omega (arith, c .before .before .before .before .pre .1 .0 (c .before .before .loop .i) (c .before .loop-test .taken))
+mul-float-at c = omega (arith, placed (c .before))
 
 add-float-at : tie.Need-add-float-at Inv-loop μ-loop
-add-float-at c = omega (arith, c .before .before .before .before .pre .0 .0 .fit, c .before .before .before .before .pre .0 .1, c .before .before .before .before .pre .1 .0 (c .before .before .loop .i) (c .before .loop-test .taken))
+add-float-at c = omega (arith, c .before .before .before .before .pre, placed (c .before))
 
 add-float-at-2 : tie.Need-add-float-at-2 Inv-loop μ-loop
-add-float-at-2 c = omega (arith, c .before .before .before .before .pre .0 .0 .fit, c .before .before .before .before .pre .0 .1, c .before .before .before .before .pre .1 .0 (c .before .before .loop .i) (c .before .loop-test .taken))
+add-float-at-2 c = omega (arith, c .before .before .before .before .pre, placed (c .before))
 
 float-at-requires : tie.Need-float-at-requires Inv-loop μ-loop
-float-at-requires c κs = let s = c .before .before .before .before .pre in let h = s .1 .0 (c .before .before .loop .i) (c .before .loop-test .taken) in (omega (arith, s .0 .0 .fit, s .0 .1, h), s .1 .1 _ h)
+float-at-requires c κs =
+    let pre = c .before .before .before .before .pre in
+    record { fits = omega (arith, pre .held .room .fit, pre .short, placed (c .before)); inside = pre .inside _ (placed (c .before)) }
 
 loop-again : tie.Need-loop-again Inv-loop μ-loop
-loop-again c = (omega arith, fill-more _ nan _ _ (simp length-replicate (omega (arith, c .before .before .before .before .before .pre .0 .0 .few))) (c .float-at .ensures) (c .before .before .before .loop .inv .1))
+loop-again c =
+    let loop = c .before .before .before in
+    (omega arith, fill-more _ nan _ _ (simp length-replicate (omega (arith, loop .before .before .pre .held .room .few))) (c .float-at .ensures) (loop .loop .inv .1))
 
 returns : tie.Need-returns Inv-loop μ-loop
 unfolding div ofBits
-returns c = let a = c .before .before .before .args in let e : c .before .loop .i ≡ a .n = omega arith in filled (a .n) (c .before .before .before .pre .0 .0 .few) (rw e at (c .before .loop .inv .1))
+returns c =
+    let start = c .before .before .before in
+    let e : c .before .loop .i ≡ start .args .n = omega arith in
+    filled (start .args .n) (start .pre .held .room .few) (rw e at (c .before .loop .inv .1))
 
 pub coordinates-spec : {M : Type 1} → statement M
 coordinates-spec =

@@ -67,7 +67,7 @@ returns-2 c =
 some-clash-requires : tie.Need-some-clash-requires
 some-clash-requires c κs =
     let room = c .before .before .before .before .before .before .before .pre in
-    (room, rw (c .before .entries .ensures) (entries-placed _ _ _ _ (room .few)))
+    record { room = room; placed = rw (c .before .entries .ensures) (entries-placed _ _ _ _ (room .few)) }
 
 returns-3 : tie.Need-returns-3
 unfolding pointRefusals
@@ -78,7 +78,7 @@ returns-3 c =
 some-clash-requires-2 : tie.Need-some-clash-requires-2
 some-clash-requires-2 c κs =
     let room = c .before .before .before .before .before .before .before .before .before .before .before .pre in
-    (room, rw (c .before .entries2 .ensures) (entries-placed _ _ _ _ (room .few)))
+    record { room = room; placed = rw (c .before .entries2 .ensures) (entries-placed _ _ _ _ (room .few)) }
 
 returns-4 : tie.Need-returns-4
 unfolding pointRefusals

@@ -20,28 +20,39 @@ loop-holds : tie.Need-loop-holds Inv-loop μ-loop
 loop-holds c = (search needs, some-none _)
 
 mul-entries-clash : tie.Need-mul-entries-clash Inv-loop μ-loop
-mul-entries-clash c = omega (arith, c .before .before .before .pre .0 .few)
+mul-entries-clash c = omega (arith, c .before .before .before .pre .room .few)
 
 element-copy-out-entries-clash : tie.Need-element-copy-out-entries-clash Inv-loop μ-loop
-element-copy-out-entries-clash c = omega (arith, c .before .before .before .pre .0 .few)
+element-copy-out-entries-clash c = omega (arith, c .before .before .before .pre .room .few)
 
 mul-entries-clash-2 : tie.Need-mul-entries-clash-2 Inv-loop μ-loop
-mul-entries-clash-2 c = omega (arith, c .before .before .before .before .pre .0 .few)
+mul-entries-clash-2 c = omega (arith, c .before .before .before .before .pre .room .few)
 
 element-copy-out-entries-clash-2 : tie.Need-element-copy-out-entries-clash-2 Inv-loop μ-loop
-element-copy-out-entries-clash-2 c = omega (arith, c .before .before .before .before .pre .0 .few)
+element-copy-out-entries-clash-2 c = omega (arith, c .before .before .before .before .pre .room .few)
 
 entries-clash-requires : tie.Need-entries-clash-requires Inv-loop μ-loop
-entries-clash-requires c κs = let s = c .before .before .before .before .before in let i = c .before .before .before .loop .i in (omega (arith, s .pre .0 .fit, s .pre .1 i (omega arith)), omega (arith, s .pre .0 .fit, s .pre .1 (i + 1) (omega arith)))
+entries-clash-requires c κs =
+    let pre = c .before .before .before .before .before .pre in
+    let i = c .before .before .before .loop .i in
+    (omega (arith, pre .room .fit, pre .placed i (omega arith)), omega (arith, pre .room .fit, pre .placed (i + 1) (omega arith)))
 
 returns : tie.Need-returns Inv-loop μ-loop
-returns c = let a = c .before .before .before .before .before .before .before .args in sym (some-yes _ (a .n - 1) (c .before .before .before .before .before .loop .i) (omega arith) (sym (c .before .entries-clash .ensures) ∙ c .if1 .taken))
+returns c =
+    let loop = c .before .before .before .before .before in
+    let a = loop .before .before .args in
+    sym (some-yes _ (a .n - 1) (loop .loop .i) (omega arith) (sym (c .before .entries-clash .ensures) ∙ c .if1 .taken))
 
 loop-again : tie.Need-loop-again Inv-loop μ-loop
-loop-again c = (search needs, some-more _ (c .before .before .before .before .before .loop .i) ∙ rw (c .before .before .before .before .before .loop .inv .1) (sym (c .before .entries-clash .ensures) ∙ c .if1 .left))
+loop-again c =
+    let loop = c .before .before .before .before .before in
+    (search needs, some-more _ (loop .loop .i) ∙ rw (loop .loop .inv .1) (sym (c .before .entries-clash .ensures) ∙ c .if1 .left))
 
 returns-2 : tie.Need-returns-2 Inv-loop μ-loop
-returns-2 c = let a = c .before .before .before .args in let e : c .before .loop .i ≡ a .n - 1 = omega arith in sym (rw e at (c .before .loop .inv .1))
+returns-2 c =
+    let a = c .before .before .before .args in
+    let e : c .before .loop .i ≡ a .n - 1 = omega arith in
+    sym (rw e at (c .before .loop .inv .1))
 
 pub some-clash-spec : {M : Type 1} → statement M
 some-clash-spec =

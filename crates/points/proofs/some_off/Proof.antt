@@ -13,9 +13,9 @@ use borrow.Author.Needs.{needs}
 use Rattle.points.proofs.some_off.Statement.{statement}
 use Rattle.points.proofs.some_off.Tie as tie
 
-listed : (s : List ℕ) (at n : ℕ) (b : Bool) → anyIn (offBy b) (pointsIn s at n) ≡ some (λ (k : ℕ). offBy b (ithPoint s at k)) n
+listed : (file : List ℕ) (at n : ℕ) (b : Bool) → anyIn (offBy b) (pointsIn file at n) ≡ some (λ (k : ℕ). offBy b (ithPoint file at k)) n
 unfolding pointsIn
-listed s at n b = any-list (ithPoint s at) n (offBy b)
+listed file at n b = any-list (ithPoint file at) n (offBy b)
 
 abbrev Inv-loop : tie.InvT-loop
 Inv-loop file at n by-limit i₀ i = (i ≤ n) × (some (λ (k : ℕ). offBy by-limit (ithPoint file at k)) i ≡ false)
@@ -30,13 +30,21 @@ is-off-requires : tie.Need-is-off-requires Inv-loop μ-loop
 is-off-requires c κs = omega (arith, c .before .before .before .pre .fit)
 
 returns : tie.Need-returns Inv-loop μ-loop
-returns c = let a = c .before .before .before .before .before .args in sym (listed (now (a .file)) (a .at) (a .n) (a .by-limit) ∙ some-yes _ (a .n) (c .before .before .before .loop .i) (c .before .before .loop-test .taken) (sym (c .before .is-off .ensures) ∙ c .if1 .taken))
+returns c =
+    let loop = c .before .before .before in
+    let a = loop .before .before .args in
+    sym (listed (now (a .file)) (a .at) (a .n) (a .by-limit) ∙ some-yes _ (a .n) (loop .loop .i) (c .before .before .loop-test .taken) (sym (c .before .is-off .ensures) ∙ c .if1 .taken))
 
 loop-again : tie.Need-loop-again Inv-loop μ-loop
-loop-again c = (search needs, some-more _ (c .before .before .before .loop .i) ∙ rw (c .before .before .before .loop .inv .1) (sym (c .before .is-off .ensures) ∙ c .if1 .left))
+loop-again c =
+    let loop = c .before .before .before in
+    (search needs, some-more _ (loop .loop .i) ∙ rw (loop .loop .inv .1) (sym (c .before .is-off .ensures) ∙ c .if1 .left))
 
 returns-2 : tie.Need-returns-2 Inv-loop μ-loop
-returns-2 c = let a = c .before .before .before .args in let e : c .before .loop .i ≡ a .n = omega arith in sym (listed (now (a .file)) (a .at) (a .n) (a .by-limit) ∙ rw e at (c .before .loop .inv .1))
+returns-2 c =
+    let a = c .before .before .before .args in
+    let e : c .before .loop .i ≡ a .n = omega arith in
+    sym (listed (now (a .file)) (a .at) (a .n) (a .by-limit) ∙ rw e at (c .before .loop .inv .1))
 
 pub some-off-spec : {M : Type 1} → statement M
 some-off-spec =

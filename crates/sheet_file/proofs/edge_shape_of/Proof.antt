@@ -1,12 +1,15 @@
 -- `sheet_file::edge_shape_of` meets its contract: with tag 2 or without it. Assumes nothing.
-use Rattle.sheet_file.proofs.Laws.{gate-inside}
+use Rattle.sheet_file.proofs.Floats.{gate-inside}
 use Rattle.sheet_file.specs.Refusals.{edgeShapeOf}
 use borrow.Author.Needs.{needs}
 use Rattle.sheet_file.proofs.edge_shape_of.Statement.{statement}
 use Rattle.sheet_file.proofs.edge_shape_of.Tie as tie
 
 gate-in-requires : tie.Need-gate-in-requires
-gate-in-requires c κs = rw (c .gate-start .ensures) (c .before .before .before .pre .0 .gate (c .before .if1 .taken), gate-inside _ _ (c .before .before .before .pre .1) (c .before .if1 .taken))
+gate-in-requires c κs =
+    let h = c .before .before .before .pre in
+    let t = c .before .if1 .taken in
+    rw (c .gate-start .ensures) (record { fits = h .held .gate t; inside = gate-inside _ _ (h .inside) t })
 
 returns : tie.Need-returns
 unfolding edgeShapeOf

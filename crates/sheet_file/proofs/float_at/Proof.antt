@@ -5,7 +5,7 @@ use Rattle.sheet_file.proofs.float_at.Statement.{statement}
 use Rattle.sheet_file.proofs.float_at.Tie as tie
 
 float-from-bits-result : tie.Need-float-from-bits-result
-float-from-bits-result c = rw (c .u32-at .ensures) (inside-no-nan _ (c .before .before .pre .1))
+float-from-bits-result c = rw (c .u32-at .ensures) (inside-no-nan _ (c .before .before .pre .inside))
 
 returns : tie.Need-returns
 returns c = rw (c .u32-at .ensures)

@@ -1,10 +1,9 @@
 -- `sheet_file::points_from` meets its contract: each test of the code is one of the definition. Assumes nothing.
-use Rattle.sheet_file.specs.Frame.{fieldAt, endFrom, pointsFrom}
+use Rattle.sheet_file.specs.Frame.{fieldAt, pointsFrom}
 use Rattle.sheet_file.specs.Bytes.{le16}
 use denote.Ref.{now}
 use lib.ListN.{length}
 use Prim.Native.Nat.{_+_}
-use mathlib.Core.Path.{sym, _∙_}
 use native.Mathlib.Omega.{arith}
 use borrow.Author.Tests.{lt-leb, eq-eqb, ne-eqb}
 use borrow.Author.Needs.{needs}

@@ -1,7 +1,7 @@
 -- What follows where no float of tag 1 or 2 is outside the limit. Assumes nothing.
 use mathlib.Core.Path.{_≡_}
 use mathlib.Core.Bool.{true, false, _&&_}
-use mathlib.Core.List.{List, [], _∷_}
+use mathlib.Core.List.{List}
 use Prim.Native.Nat.{ℕ}
 use lib.Ieee.{Float}
 use Rattle.folds.specs.Below.{or-none}
@@ -9,7 +9,7 @@ use Rattle.folds.specs.Among.{anyIn, none-in}
 use Rattle.folds.specs.Lists.{All}
 use Rattle.sheet_file.specs.Limit.{outside}
 use Rattle.sheet_file.specs.Frame.{gateStart}
-use Rattle.sheet_file.specs.Refusals.{floatAt, settingsFloats, gateFloats, badFloat}
+use Rattle.sheet_file.specs.Refusals.{settingsFloats, gateFloats, badFloat}
 use Rattle.sheet_file.specs.declared.Layout.{Layout}
 
 -- all are finite and at most 16,384 in magnitude
@@ -24,8 +24,8 @@ module _ (file : List ℕ) (f : Layout) (h : badFloat file f ≡ false) where
   pub settings-inside : Inside (settingsFloats file (f .full))
   settings-inside = none-in outside (settingsFloats file (f .full)) (parts .0)
 
-  pub full-inside : f .full ≡ true → Inside (floatAt file 3 ∷ floatAt file 7 ∷ floatAt file 13 ∷ floatAt file 18 ∷ [])
-  full-inside t = rw t at settings-inside
+  pub full-inside : f .full ≡ true → anyIn outside (settingsFloats file true) ≡ false
+  full-inside t = rw t at (parts .0)
 
   pub gate-inside : f .gated ≡ true → anyIn outside (gateFloats file (gateStart (f .full))) ≡ false
   gate-inside t = rw t at (parts .1)
