@@ -6,6 +6,7 @@ use native.Mathlib.Nat.{le-antisymm, le-of-suc-le-suc, lt-of-not-le, le-dest, mu
 use native.Mathlib.Omega.{arith}
 use lib.Dec.{T, leb, ltb, leb→le, nleb→lt, ltb→lt, nltb→le}
 use Rattle.float.specs.Root.{NearRoot, floorRoot, nearRoot}
+use Rattle.float.specs.Constants.{hiddenBit}
 use Rattle.float.proofs.Squares.{next-square, odd-square, double-square, square-le}
 
 -- r is the root of n, rounded down
@@ -68,7 +69,7 @@ near-of-remainder n (suc k) h =
 range : (n s : ℕ) → 2 ^ 46 ≤ n → n ≤ 2 ^ 48 - 2 ^ 24 → Remainder n s → (2 ^ 23 ≤ s) × (s < 2 ^ 24)
 range n s l h p = (le-of-suc-le-suc (omega (arith, lt-of-not-le low)), lt-of-not-le (λ (g : 2 ^ 24 ≤ s). far (le-dest g .0) (le-dest g .1)))
   where
-    low : s + 1 ≤ 8388608 → ⊥
+    low : s + 1 ≤ hiddenBit → ⊥
     low g = omega (arith, square-le {a = s} {b = 8388607} (omega arith), p .1)
 
     far : (d : ℕ) → 2 ^ 24 + d ≡ s → ⊥

@@ -1,63 +1,20 @@
 -- The pivot is the first entry of largest magnitude at or below the diagonal. Assumes nothing.
-use mathlib.Core.Bool.{Bool, true, false, cond, _&&_, _||_, false≢true, true≢false}
+use mathlib.Core.Bool.{Bool, true, false, cond, true≢false}
 use mathlib.Core.List.{List}
 use mathlib.Core.Logic.{⊎-elim}
 use mathlib.Core.Path.{_≡_, refl, sym, _∙_}
-use Prim.Native.Nat.{ℕ, zero, suc, _+_, _-_, _*_, _≤_, _<_}
-use native.Mathlib.Nat.{eq-or-lt-of-le, le-refl, mul-right-comm, mul-le-mul-right, mul-lt-mul-of-pos-right, lt-of-mul-lt-mul-right}
+use Prim.Native.Nat.{ℕ, zero, suc, _+_, _-_, _≤_, _<_}
+use native.Mathlib.Nat.{eq-or-lt-of-le, le-refl}
 use native.Mathlib.Omega.{arith}
-use lib.Dec.{eqb, ltb}
-use lib.Ieee.{Float, nan, inf, fin, up, down, lt, eq, le}
-use lib.Ieee.Fits.{down-pos}
-use borrow.Author.Tests.{ltb-true, eqb-true, lt-ltb, le-ltb}
-use Rattle.folds.specs.Below.{not-true, and-left, first, firstIn, first-more, first-from}
+use lib.Dec.{ltb}
+use lib.Ieee.{Float, lt, le}
+use borrow.Author.Tests.{lt-ltb, le-ltb}
+use Rattle.folds.specs.Below.{not-true, first, firstIn, first-more, first-from}
 use Rattle.folds.specs.Run.{run, upTo, run-keeps}
 use Rattle.float.specs.Scalar.{absOf}
+use Rattle.float.proofs.Order.{below-through, not-below-itself, below-at-most}
 use Rattle.linear.specs.Rows.{entry}
 use Rattle.linear.specs.Linear.{larger, betterRow, nextLarger, pivotRow}
-
--- ---- the order of magnitudes; nothing is below a NaN, and a NaN is below nothing
-
--- x / p < y / q ≤ z / r
-between : (x y z p q r : ℕ) → 0 < r → x * q < y * p → y * r ≤ z * q → x * r < z * p
-between x y z p q r R h k =
-    let a : x * q * r < y * p * r = mul-lt-mul-of-pos-right h R in
-    let b : y * r * p ≤ z * q * p = mul-le-mul-right p k in
-    lt-of-mul-lt-mul-right q (omega (arith, a, b, mul-right-comm x q r, mul-right-comm y p r, mul-right-comm z q p))
-
-at-most : (a b : ℕ) (c : Bool) → ltb a b || (eqb a b && c) ≡ true → a ≤ b
-at-most a b c h = go (ltb a b) refl h
-  where
-    go : (t : Bool) → ltb a b ≡ t → t || (eqb a b && c) ≡ true → a ≤ b
-    go true e h = omega (arith, ltb-true a b e)
-    go false e h = omega (arith, eqb-true a b (and-left (eqb a b) c h))
-
-below-through : (x y z : Float) → lt (absOf x) (absOf y) ≡ true → le (absOf y) (absOf z) ≡ true → lt (absOf x) (absOf z) ≡ true
-unfolding absOf lt eq le
-below-through nan y z h k = absurd (false≢true h)
-below-through (inf s) nan z h k = absurd (false≢true h)
-below-through (inf s) (inf t) z h k = absurd (false≢true h)
-below-through (inf s) (fin t n d) z h k = absurd (false≢true h)
-below-through (fin s m e) nan z h k = absurd (false≢true h)
-below-through (fin s m e) (inf t) nan h k = absurd (false≢true k)
-below-through (fin s m e) (inf t) (inf r) h k = refl
-below-through (fin s m e) (inf t) (fin r o g) h k = absurd (false≢true k)
-below-through (fin s m e) (fin t n d) nan h k = absurd (false≢true k)
-below-through (fin s m e) (fin t n d) (inf r) h k = refl
-below-through (fin s m e) (fin t n d) (fin r o g) h k =
-    lt-ltb (m * up e * down g) (o * up g * down e)
-    (between (m * up e) (n * up d) (o * up g) (down e) (down d) (down g) (down-pos g) (ltb-true (m * up e * down d) (n * up d * down e) h)
-    (at-most (n * up d * down g) (o * up g * down d) true k))
-
-not-below-itself : (x : Float) → lt (absOf x) (absOf x) ≡ false
-unfolding absOf lt
-not-below-itself nan = refl
-not-below-itself (inf s) = refl
-not-below-itself (fin s m e) = le-ltb (m * up e * down e) (m * up e * down e) (le-refl (m * up e * down e))
-
-below-at-most : (x y : Float) → lt x y ≡ true → le x y ≡ true
-unfolding le
-below-at-most x y h = rw h
 
 -- ---- the search by larger entries
 
