@@ -64,7 +64,7 @@ normal b k m e l h g =
     digits = omega arith
 
 -- the root of a value a / 2 ^ 149
-pub root-of-value : (y : Float) (a : ℕ) → 0 < a → HasValue y false a (2 ^ 149) → rootOf y ≡ rootUnits (2 * a)
+root-of-value : (y : Float) (a : ℕ) → 0 < a → HasValue y false a (2 ^ 149) → rootOf y ≡ rootUnits (2 * a)
 unfolding rootOf
 root-of-value nan a A h = absurd h
 root-of-value (inf s) a A h = absurd h
@@ -101,7 +101,7 @@ module _ (n m w : ℕ) (l : 2 ^ 23 ≤ m) (h : m < 2 ^ 24) (g : 2 ≤ w) (e : n 
       let v : m * P < 16777216 * P = mul-lt-mul-of-pos-right h (subst (λ (v : ℕ). 0 < v) (sym p) (pow-pos j)) in
       (omega arith, omega arith)
 
-  pub digits4-is : digits4 n ≡ w / 2
+  digits4-is : digits4 n ≡ w / 2
   unfolding digits4
   digits4-is =
       let t = places (w - 2) (2 ^ (w - 2)) refl (omega arith) in
@@ -129,7 +129,7 @@ module _ (n m w : ℕ) (l : 2 ^ 23 ≤ m) (h : m < 2 ^ 24) (g : 2 ≤ w) (e : n 
   pub scaled-exact : scaled n * 4 ^ digits4 n ≡ n * 4 ^ 24
   scaled-exact = ap (λ (x : ℕ). x * 4 ^ digits4 n) scaled-is ∙ ap (λ (d : ℕ). m * 2 ^ (23 + w % 2) * 4 ^ d) digits4-is ∙ sym whole
 
-  pub root-of-significand : rootUnits n ≡ odd 24 false (nearRoot (m * 2 ^ (23 + w % 2))) (w / 2 + 50) 149
+  root-of-significand : rootUnits n ≡ odd 24 false (nearRoot (m * 2 ^ (23 + w % 2))) (w / 2 + 50) 149
   unfolding rootUnits
   root-of-significand = ap (λ (r : ℕ). odd 24 false (nearRoot r) (digits4 n + 50) 149) scaled-is ∙ ap (λ (d : ℕ). odd 24 false (nearRoot (m * 2 ^ (23 + w % 2))) (d + 50) 149) digits4-is
 

@@ -14,32 +14,32 @@ use Rattle.folds.specs.Run.{run, upTo, run-keeps}
 use Rattle.float.specs.Scalar.{absOf}
 use Rattle.float.proofs.Order.{below-through, not-below-itself, below-at-most}
 use Rattle.linear.specs.Rows.{entry}
-use Rattle.linear.specs.Linear.{larger, betterRow, nextLarger, pivotRow}
+use Rattle.linear.specs.Linear.{largerThan, betterRow, nextLarger, pivotRow}
 
 -- ---- the search by larger entries
 
 module _ (m : List (List Float)) (i best k : ℕ) {largest size : Float} (h : k < 8) (p : largest ≡ absOf (entry m best i)) (q : size ≡ absOf (entry m k i)) where
-  pub next-found : lt largest size ≡ true → k ≡ first (larger m i best) k 8
-  next-found e = sym (first-more (larger m i best) k 8 h ∙ rw (← p, ← q, e))
+  pub next-found : lt largest size ≡ true → k ≡ first (largerThan m i best) k 8
+  next-found e = sym (first-more (largerThan m i best) k 8 h ∙ rw (← p, ← q, e))
 
-  pub next-passed : lt largest size ≡ false → first (larger m i best) (k + 1) 8 ≡ first (larger m i best) k 8
-  next-passed e = sym (first-more (larger m i best) k 8 h ∙ rw (← p, ← q, e))
+  pub next-passed : lt largest size ≡ false → first (largerThan m i best) (k + 1) 8 ≡ first (largerThan m i best) k 8
+  next-passed e = sym (first-more (largerThan m i best) k 8 h ∙ rw (← p, ← q, e))
 
 -- the pivot's row, where k is the next row with a larger entry than row best's, or 8
 abbrev pub searched : List (List Float) → ℕ → ℕ → ℕ → ℕ
 searched m i best k = cond (ltb k 8) (run (betterRow m i) (k + 1) 8 k) best
 
-upTo-next : (m : List (List Float)) (i best n from : ℕ) → from + n ≡ 8 → upTo (betterRow m i) n from best ≡ searched m i best (firstIn (larger m i best) n from)
+upTo-next : (m : List (List Float)) (i best n from : ℕ) → from + n ≡ 8 → upTo (betterRow m i) n from best ≡ searched m i best (firstIn (largerThan m i best) n from)
 unfolding upTo firstIn betterRow run
 upTo-next m i best zero from e = sym (rw (le-ltb from 8 (omega arith)))
-upTo-next m i best (suc n) from e = go (larger m i best from) (upTo-next m i best n (from + 1) (omega arith))
+upTo-next m i best (suc n) from e = go (largerThan m i best from) (upTo-next m i best n (from + 1) (omega arith))
   where
-    go : (t : Bool) → upTo (betterRow m i) n (from + 1) best ≡ searched m i best (firstIn (larger m i best) n (from + 1))
-        → upTo (betterRow m i) n (from + 1) (cond t from best) ≡ searched m i best (cond t from (firstIn (larger m i best) n (from + 1)))
+    go : (t : Bool) → upTo (betterRow m i) n (from + 1) best ≡ searched m i best (firstIn (largerThan m i best) n (from + 1))
+        → upTo (betterRow m i) n (from + 1) (cond t from best) ≡ searched m i best (cond t from (firstIn (largerThan m i best) n (from + 1)))
     go true h = let l : n ≡ 8 - (from + 1) = omega arith in rw (lt-ltb from 8 (omega arith), l)
     go false h = h
 
-pub search-next : (m : List (List Float)) (i best from : ℕ) → from ≤ 8 → run (betterRow m i) from 8 best ≡ searched m i best (nextLarger m i best from)
+search-next : (m : List (List Float)) (i best from : ℕ) → from ≤ 8 → run (betterRow m i) from 8 best ≡ searched m i best (nextLarger m i best from)
 unfolding run nextLarger first
 search-next m i best from h = upTo-next m i best (8 - from) from (omega arith)
 
@@ -55,7 +55,7 @@ search-ends m i best k h = rw (le-ltb k 8 h)
 
 pub next-after : (m : List (List Float)) (i best from : ℕ) → from ≤ nextLarger m i best from
 unfolding nextLarger
-next-after m i best from = first-from (larger m i best) from 8
+next-after m i best from = first-from (largerThan m i best) from 8
 
 -- ---- the search
 
