@@ -5,12 +5,18 @@ use Prim.Native.Nat.{ℕ, zero, suc, _+_, _-_, _*_, _/_, _%_, _^_, _≤_, _<_}
 use native.Mathlib.Nat.{le-antisymm, le-of-suc-le-suc, lt-of-not-le, le-dest, mul-comm, mul-add, add-mul, pow-succ'}
 use native.Mathlib.Omega.{arith}
 use lib.Dec.{T, leb, ltb, leb→le, nleb→lt, ltb→lt, nltb→le}
-use Rattle.float.specs.Root.{NearRoot, floorRoot, nearRoot}
+use Rattle.float.specs.Root.{floorRoot, nearRoot}
+use Rattle.float.specs.Constants.{hiddenBit}
 use Rattle.float.proofs.Squares.{next-square, odd-square, double-square, square-le}
 
 -- r is the root of n, rounded down
-abbrev pub Floor : ℕ → ℕ → Type 0
+abbrev Floor : ℕ → ℕ → Type 0
 Floor n r = (r * r ≤ n) × (n < (r + 1) * (r + 1))
+
+-- s is the whole number nearest to the root of n: s - 1/2 < √n < s + 1/2, doubled and squared. Both are strict, so there is no tie.
+pub record NearRoot (n s : ℕ) : Type 0 where
+  pub above : (2 * s - 1) * (2 * s - 1) < 4 * n
+  pub below : 4 * n < (2 * s + 1) * (2 * s + 1)
 
 -- the remainder n - s * s lies from 1 - s to s
 abbrev pub Remainder : ℕ → ℕ → Type 0
@@ -68,7 +74,7 @@ near-of-remainder n (suc k) h =
 range : (n s : ℕ) → 2 ^ 46 ≤ n → n ≤ 2 ^ 48 - 2 ^ 24 → Remainder n s → (2 ^ 23 ≤ s) × (s < 2 ^ 24)
 range n s l h p = (le-of-suc-le-suc (omega (arith, lt-of-not-le low)), lt-of-not-le (λ (g : 2 ^ 24 ≤ s). far (le-dest g .0) (le-dest g .1)))
   where
-    low : s + 1 ≤ 8388608 → ⊥
+    low : s + 1 ≤ hiddenBit → ⊥
     low g = omega (arith, square-le {a = s} {b = 8388607} (omega arith), p .1)
 
     far : (d : ℕ) → 2 ^ 24 + d ≡ s → ⊥

@@ -14,15 +14,16 @@ use lib.Ieee.Fits.{down-pos, and-l, and-r}
 use lib.Ieee.Digits.{size-lt, size-le}
 use lib.Ieee.Exact.{HasValue, odd-sign}
 use Rattle.float.specs.Root.{digits4, scaled, nearRoot, rootUnits, rootOf}
+use Rattle.float.specs.Constants.{signBit, hiddenBit, infinityBits}
 use Rattle.float.proofs.Near.{significand}
 
-pub ofBits-is : (b : ℕ) → ofBits binary32 b ≡ ofFields binary32 (leb 2147483648 b) (b % 2147483648 / 8388608) (b % 8388608)
+pub ofBits-is : (b : ℕ) → ofBits binary32 b ≡ ofFields binary32 (leb signBit b) (b % signBit / hiddenBit) (b % hiddenBit)
 unfolding ofBits
 ofBits-is b = refl
 
-under-ones : (s : Bool) (t x : ℕ) → suc x < 255 → ofFields binary32 s (suc x) t ≡ odd 24 s (8388608 + t) x 149
+under-ones : (s : Bool) (t x : ℕ) → suc x < 255 → ofFields binary32 s (suc x) t ≡ odd 24 s (hiddenBit + t) x 149
 unfolding ofFields
-under-ones s t x h = cond-no (eqb (suc x) 255) (cond (eqb t 0) (inf s) nan) (odd 24 s (8388608 + t) x 149) (not-T (eqb (suc x) 255) (λ (u : T (eqb (suc x) 255)). differ (eqb→eq (suc x) 255 u)))
+under-ones s t x h = cond-no (eqb (suc x) 255) (cond (eqb t 0) (inf s) nan) (odd 24 s (hiddenBit + t) x 149) (not-T (eqb (suc x) 255) (λ (u : T (eqb (suc x) 255)). differ (eqb→eq (suc x) 255 u)))
   where
     differ : suc x ≡ 255 → ⊥
     differ e = omega arith
@@ -32,38 +33,38 @@ unfolding ofFields
 at-zero s t = refl
 
 -- the three fields of a pattern without a sign
-fields : (b : ℕ) → b < 2147483648 → ofBits binary32 b ≡ ofFields binary32 false (b / 8388608) (b % 8388608)
+fields : (b : ℕ) → b < signBit → ofBits binary32 b ≡ ofFields binary32 false (b / hiddenBit) (b % hiddenBit)
 fields b h =
     ofBits-is b
-    ∙ ap (λ (s : Bool). ofFields binary32 s (b % 2147483648 / 8388608) (b % 8388608)) (is-false (leb 2147483648 b) (not-T (leb 2147483648 b) (λ (u : T (leb 2147483648 b)). not-le-of-lt h (leb→le 2147483648 b u))))
-    ∙ ap (λ (x : ℕ). ofFields binary32 false (x / 8388608) (b % 8388608)) (mod-eq-of-lt h)
+    ∙ ap (λ (s : Bool). ofFields binary32 s (b % signBit / hiddenBit) (b % hiddenBit)) (is-false (leb signBit b) (not-T (leb signBit b) (λ (u : T (leb signBit b)). not-le-of-lt h (leb→le signBit b u))))
+    ∙ ap (λ (x : ℕ). ofFields binary32 false (x / hiddenBit) (b % hiddenBit)) (mod-eq-of-lt h)
 
-pub subnormal : (b : ℕ) → b < 8388608 → ofBits binary32 b ≡ odd 24 false b 0 149
+pub subnormal : (b : ℕ) → b < hiddenBit → ofBits binary32 b ≡ odd 24 false b 0 149
 subnormal b h =
     fields b (omega arith)
-    ∙ ap (λ (x : ℕ). ofFields binary32 false x (b % 8388608)) (zero-field)
-    ∙ at-zero false (b % 8388608)
+    ∙ ap (λ (x : ℕ). ofFields binary32 false x (b % hiddenBit)) (zero-field)
+    ∙ at-zero false (b % hiddenBit)
     ∙ ap (λ (x : ℕ). odd 24 false x 0 149) (mod-eq-of-lt h)
   where
-    zero-field : b / 8388608 ≡ 0
+    zero-field : b / hiddenBit ≡ 0
     zero-field = omega arith
 
 -- the pattern of a normal value, from its exponent's field and its significand of 24 bits
-pub normal : (b k m : ℕ) → b ≡ k * 8388608 + m → 8388608 ≤ m → m < 16777216 → k < 254 → ofBits binary32 b ≡ odd 24 false m k 149
+pub normal : (b k m : ℕ) → b ≡ k * hiddenBit + m → hiddenBit ≤ m → m < 16777216 → k < 254 → ofBits binary32 b ≡ odd 24 false m k 149
 normal b k m e l h g =
     fields b (omega arith)
-    ∙ ap (λ (x : ℕ). ofFields binary32 false x (b % 8388608)) field
-    ∙ under-ones false (b % 8388608) k (omega arith)
+    ∙ ap (λ (x : ℕ). ofFields binary32 false x (b % hiddenBit)) field
+    ∙ under-ones false (b % hiddenBit) k (omega arith)
     ∙ ap (λ (x : ℕ). odd 24 false x k 149) digits
   where
-    field : b / 8388608 ≡ suc k
+    field : b / hiddenBit ≡ suc k
     field = omega arith
 
-    digits : 8388608 + b % 8388608 ≡ m
+    digits : hiddenBit + b % hiddenBit ≡ m
     digits = omega arith
 
 -- the root of a value a / 2 ^ 149
-pub root-of-value : (y : Float) (a : ℕ) → 0 < a → HasValue y false a (2 ^ 149) → rootOf y ≡ rootUnits (2 * a)
+root-of-value : (y : Float) (a : ℕ) → 0 < a → HasValue y false a (2 ^ 149) → rootOf y ≡ rootUnits (2 * a)
 unfolding rootOf
 root-of-value nan a A h = absurd h
 root-of-value (inf s) a A h = absurd h
@@ -96,11 +97,11 @@ module _ (n m w : ℕ) (l : 2 ^ 23 ≤ m) (h : m < 2 ^ 24) (g : 2 ≤ w) (e : n 
       let x : m * (P * 4) ≡ m * P * 4 = sym (mul-assoc m P 4) in
       let y : 2 ^ w ≡ P * 4 = ap (λ (z : ℕ). 2 ^ z) q ∙ pow-add 2 j 2 ∙ ap (λ (z : ℕ). z * 4) (sym p) in
       let z : n * 33554432 ≡ m * P * 4 = e ∙ ap (λ (v : ℕ). m * v) y ∙ x in
-      let u : 8388608 * P ≤ m * P = mul-le-mul-right P l in
+      let u : hiddenBit * P ≤ m * P = mul-le-mul-right P l in
       let v : m * P < 16777216 * P = mul-lt-mul-of-pos-right h (subst (λ (v : ℕ). 0 < v) (sym p) (pow-pos j)) in
       (omega arith, omega arith)
 
-  pub digits4-is : digits4 n ≡ w / 2
+  digits4-is : digits4 n ≡ w / 2
   unfolding digits4
   digits4-is =
       let t = places (w - 2) (2 ^ (w - 2)) refl (omega arith) in
@@ -128,14 +129,14 @@ module _ (n m w : ℕ) (l : 2 ^ 23 ≤ m) (h : m < 2 ^ 24) (g : 2 ≤ w) (e : n 
   pub scaled-exact : scaled n * 4 ^ digits4 n ≡ n * 4 ^ 24
   scaled-exact = ap (λ (x : ℕ). x * 4 ^ digits4 n) scaled-is ∙ ap (λ (d : ℕ). m * 2 ^ (23 + w % 2) * 4 ^ d) digits4-is ∙ sym whole
 
-  pub root-of-significand : rootUnits n ≡ odd 24 false (nearRoot (m * 2 ^ (23 + w % 2))) (w / 2 + 50) 149
+  root-of-significand : rootUnits n ≡ odd 24 false (nearRoot (m * 2 ^ (23 + w % 2))) (w / 2 + 50) 149
   unfolding rootUnits
   root-of-significand = ap (λ (r : ℕ). odd 24 false (nearRoot r) (digits4 n + 50) 149) scaled-is ∙ ap (λ (d : ℕ). odd 24 false (nearRoot (m * 2 ^ (23 + w % 2))) (d + 50) 149) digits4-is
 
 -- The pattern of a root. The value of b is q * 2 ^ k / 2 ^ 149, and m * 2 ^ w / 2 ^ 175 with a significand m of 24 bits.
 pub pattern-of-root : (b r q k m w : ℕ) → ofBits binary32 b ≡ odd 24 false q k 149 → 0 < q → 2 ^ 23 ≤ m → m < 2 ^ 24 → 2 ≤ w → w < 280
     → 2 * (q * 2 ^ k) * 2 ^ 25 ≡ m * 2 ^ w → r ≡ (w / 2 + 50) * 2 ^ 23 + nearRoot (m * 2 ^ (23 + w % 2))
-    → (r < 0x7f80_0000) × (ofBits binary32 r ≡ rootOf (ofBits binary32 b))
+    → (r < infinityBits) × (ofBits binary32 r ≡ rootOf (ofBits binary32 b))
 pattern-of-root b r q k m w e Q l h g f d p =
     let s = significand m (w % 2) l h (omega arith) in (
       omega (arith, s),

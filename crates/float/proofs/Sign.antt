@@ -8,6 +8,7 @@ use lib.Dec.{leb, eqb}
 use lib.Ieee.{nan, inf, binary32, odd, ofFields, ofBits, nanBits}
 use lib.Ieee.Bits.{nanBits-above}
 use Rattle.float.specs.Scalar.{absOf}
+use Rattle.float.specs.Constants.{hiddenBit, signBit, firstNanBits}
 use Rattle.float.proofs.Pattern.{ofBits-is}
 
 abs-odd : (d : ℕ) (s : Bool) (q k l : ℕ) → absOf (odd d s q k l) ≡ odd d false q k l
@@ -24,25 +25,25 @@ abs-cond false t s q k = abs-odd 24 s q k 149
 abs-fields : (s : Bool) (x t : ℕ) → absOf (ofFields binary32 s x t) ≡ ofFields binary32 false x t
 unfolding ofFields
 abs-fields s zero t = abs-odd 24 s t 0 149
-abs-fields s (suc x) t = abs-cond (eqb (suc x) 255) (eqb t 0) s (8388608 + t) x
+abs-fields s (suc x) t = abs-cond (eqb (suc x) 255) (eqb t 0) s (hiddenBit + t) x
 
-pub abs-bits : (b : ℕ) → ofBits binary32 (b % 2147483648) ≡ absOf (ofBits binary32 b)
+pub abs-bits : (b : ℕ) → ofBits binary32 (b % signBit) ≡ absOf (ofBits binary32 b)
 abs-bits b =
-    ofBits-is (b % 2147483648)
-    ∙ ap (λ (s : Bool). ofFields binary32 s (b % 2147483648 % 2147483648 / 8388608) (b % 2147483648 % 8388608)) (lt-leb 2147483648 (b % 2147483648) (omega arith))
-    ∙ ap (λ (x : ℕ). ofFields binary32 false (x / 8388608) (b % 2147483648 % 8388608)) same
-    ∙ ap (λ (x : ℕ). ofFields binary32 false (b % 2147483648 / 8388608) x) digits
-    ∙ sym (ap absOf (ofBits-is b) ∙ abs-fields (leb 2147483648 b) (b % 2147483648 / 8388608) (b % 8388608))
+    ofBits-is (b % signBit)
+    ∙ ap (λ (s : Bool). ofFields binary32 s (b % signBit % signBit / hiddenBit) (b % signBit % hiddenBit)) (lt-leb signBit (b % signBit) (omega arith))
+    ∙ ap (λ (x : ℕ). ofFields binary32 false (x / hiddenBit) (b % signBit % hiddenBit)) same
+    ∙ ap (λ (x : ℕ). ofFields binary32 false (b % signBit / hiddenBit) x) digits
+    ∙ sym (ap absOf (ofBits-is b) ∙ abs-fields (leb signBit b) (b % signBit / hiddenBit) (b % hiddenBit))
   where
-    same : b % 2147483648 % 2147483648 ≡ b % 2147483648
+    same : b % signBit % signBit ≡ b % signBit
     same = omega arith
 
-    digits : b % 2147483648 % 8388608 ≡ b % 8388608
+    digits : b % signBit % hiddenBit ≡ b % hiddenBit
     digits = omega arith
 
 -- whether a pattern is a NaN's does not turn on the sign
-pub abs-no-nan : (b : ℕ) → nanBits binary32 (b % 2147483648) ≡ nanBits binary32 b
-abs-no-nan b = nanBits-above binary32 (b % 2147483648) ∙ ap (λ (x : ℕ). leb 2139095041 x) same ∙ sym (nanBits-above binary32 b)
+pub abs-no-nan : (b : ℕ) → nanBits binary32 (b % signBit) ≡ nanBits binary32 b
+abs-no-nan b = nanBits-above binary32 (b % signBit) ∙ ap (λ (x : ℕ). leb firstNanBits x) same ∙ sym (nanBits-above binary32 b)
   where
-    same : b % 2147483648 % 2147483648 ≡ b % 2147483648
+    same : b % signBit % signBit ≡ b % signBit
     same = omega arith

@@ -15,6 +15,7 @@ use lib.Ieee.Fits.{down-pos}
 use lib.Ieee.Compare.{differs-from-itself}
 use lib.Ieee.Exact.{HasValue, odd-sign}
 use Rattle.float.specs.Root.{rootOf}
+use Rattle.float.specs.Constants.{signBit, infinityBits, hiddenBit}
 use Rattle.float.proofs.Pattern.{ofBits-is}
 
 pub root-of-nan : (x : Float) → ne x x ≡ true → x ≡ rootOf x
@@ -33,7 +34,7 @@ pub root-of-zero : ofBits binary32 0 ≡ rootOf (ofBits binary32 0)
 unfolding rootOf ofBits
 root-of-zero = refl
 
-pub root-of-minus-zero : ofBits binary32 0x8000_0000 ≡ rootOf (ofBits binary32 0x8000_0000)
+pub root-of-minus-zero : ofBits binary32 signBit ≡ rootOf (ofBits binary32 signBit)
 unfolding rootOf ofBits
 root-of-minus-zero = refl
 
@@ -41,7 +42,7 @@ pub root-of-one : ofBits binary32 0x3f80_0000 ≡ rootOf (ofBits binary32 0x3f80
 unfolding rootOf ofBits
 root-of-one = refl
 
-pub root-of-infinity : ofBits binary32 0x7f80_0000 ≡ rootOf (ofBits binary32 0x7f80_0000)
+pub root-of-infinity : ofBits binary32 infinityBits ≡ rootOf (ofBits binary32 infinityBits)
 unfolding rootOf ofBits
 root-of-infinity = refl
 
@@ -69,22 +70,22 @@ either true true q k Q = infinite
 either true false q k Q = no-number
 either false d q k Q = digits q k Q
 
-minus-fields : (x t : ℕ) → 0 < x * 8388608 + t → Rootless (ofFields binary32 true x t)
+minus-fields : (x t : ℕ) → 0 < x * hiddenBit + t → Rootless (ofFields binary32 true x t)
 unfolding ofFields
 minus-fields zero t h = digits t 0 (omega arith)
-minus-fields (suc x) t h = either (eqb (suc x) 255) (eqb t 0) (8388608 + t) x (omega arith)
+minus-fields (suc x) t h = either (eqb (suc x) 255) (eqb t 0) (hiddenBit + t) x (omega arith)
 
 plus-fields : (x t : ℕ) → x ≡ 255 → 0 < t → Rootless (ofFields binary32 false x t)
 unfolding ofFields
 plus-fields zero t h g = absurd (omega arith)
 plus-fields (suc x) t h g = rw (eq-eqb (suc x) 255 h, ne-eqb t 0 (omega arith)) no-number
 
-rootless : (b : ℕ) → 0x7f80_0000 < b → b < 2 ^ 32 → (b ≡ 0x8000_0000 → ⊥) → Rootless (ofBits binary32 b)
-rootless b l h n = subst Rootless (sym (ofBits-is b)) (go (decLt b 2147483648))
+rootless : (b : ℕ) → infinityBits < b → b < 2 ^ 32 → (b ≡ signBit → ⊥) → Rootless (ofBits binary32 b)
+rootless b l h n = subst Rootless (sym (ofBits-is b)) (go (decLt b signBit))
   where
-    go : Dec (b < 2147483648) → Rootless (ofFields binary32 (leb 2147483648 b) (b % 2147483648 / 8388608) (b % 8388608))
-    go (yes g) = rw (lt-leb 2147483648 b g) (plus-fields (b % 2147483648 / 8388608) (b % 8388608) (omega arith) (omega arith))
-    go (no g) = rw (le-leb 2147483648 b (omega (arith, g))) (minus-fields (b % 2147483648 / 8388608) (b % 8388608) (omega (arith, n, g)))
+    go : Dec (b < signBit) → Rootless (ofFields binary32 (leb signBit b) (b % signBit / hiddenBit) (b % hiddenBit))
+    go (yes g) = rw (lt-leb signBit b g) (plus-fields (b % signBit / hiddenBit) (b % hiddenBit) (omega arith) (omega arith))
+    go (no g) = rw (le-leb signBit b (omega (arith, g))) (minus-fields (b % signBit / hiddenBit) (b % hiddenBit) (omega (arith, n, g)))
 
 nan-of : {y : Float} → Rootless y → rootOf y ≡ nan
 unfolding rootOf
@@ -92,5 +93,5 @@ nan-of no-number = refl
 nan-of infinite = refl
 nan-of (negative m e) = refl
 
-pub no-root : (b : ℕ) → 0x7f80_0000 < b → b < 2 ^ 32 → (b ≡ 0x8000_0000 → ⊥) → rootOf (ofBits binary32 b) ≡ nan
+pub no-root : (b : ℕ) → infinityBits < b → b < 2 ^ 32 → (b ≡ signBit → ⊥) → rootOf (ofBits binary32 b) ≡ nan
 no-root b l h n = nan-of (rootless b l h n)

@@ -67,8 +67,8 @@ pub record Stepped (n r q : ℕ) : Type 0 where
   pub less : n < r * r → q < r
   pub bound : n < (r + 1) * (r + 1) → q ≤ r + 1
 
-pub stepped : (n r q : ℕ) → 0 < r → q ≡ (r + n / r) / 2 → Stepped n r q
-stepped n r q R e = rw e (record { above = newton-above n r R; half = omega arith; less = newton-less n r; bound = newton-bound n r R })
+pub newton-stepped : (n r q : ℕ) → 0 < r → q ≡ (r + n / r) / 2 → Stepped n r q
+newton-stepped n r q R e = rw e (record { above = newton-above n r R; half = omega arith; less = newton-less n r; bound = newton-bound n r R })
 
 -- a first guess r of at least 2 ^ 22
 pub first-step : (n r q : ℕ) → n < 2 ^ 48 → 0x40_0000 ≤ r → r ≤ 2 ^ 25 → q ≡ (r + n / r) / 2 → q < 2 ^ 26

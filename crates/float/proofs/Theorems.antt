@@ -11,9 +11,9 @@ use lib.IntN.{ℤ, pos, negsuc}
 use lib.Ieee.{Float, fin, binary32, down, fits, ofBits, ofInt, div, round}
 use lib.Ieee.Exact.{HasValue, odd-sign}
 use Rattle.float.specs.Constants.{zero, quarter, half, one, two, four, minusOne, epsilon, negligible, lineTolerance, localTolerance, overlongRatio, globalOverlongRatio, duplicateFraction, frontierTolerance}
-use Rattle.float.specs.Root.{NearRoot, digits4, scaled, units, nearRoot, rootUnits, rootOf}
+use Rattle.float.specs.Root.{digits4, scaled, units, nearRoot, rootUnits, rootOf}
 use Rattle.float.specs.Scalar.{over30Degrees}
-use Rattle.float.proofs.Near.{Remainder, shifted, remainder, near-of-remainder, significand}
+use Rattle.float.proofs.Near.{NearRoot, Remainder, shifted, remainder, near-of-remainder, significand}
 use Rattle.float.proofs.Pattern.{leading, held, scaled-is, scaled-exact}
 use Rattle.float.proofs.Squares.{odd-square}
 
@@ -106,13 +106,13 @@ unfolding rootOf ofBits
 root-of-least = refl
 
 -- "14,529,495 / 2^24 is over 30 degrees; 14,529,496 / 2^24 is not."
-pub over : over30Degrees (div binary32 (ofInt binary32 (pos 14529495)) (ofInt binary32 (pos (2 ^ 24)))) ≡ true
+pub degrees-over : over30Degrees (div binary32 (ofInt binary32 (pos 14529495)) (ofInt binary32 (pos (2 ^ 24)))) ≡ true
 unfolding over30Degrees div ofInt
-over = refl
+degrees-over = refl
 
-pub not-over : over30Degrees (div binary32 (ofInt binary32 (pos 14529496)) (ofInt binary32 (pos (2 ^ 24)))) ≡ false
+pub degrees-not-over : over30Degrees (div binary32 (ofInt binary32 (pos 14529496)) (ofInt binary32 (pos (2 ^ 24)))) ≡ false
 unfolding over30Degrees div ofInt
-not-over = refl
+degrees-not-over = refl
 
 -- each constant is the nearest f32 to its decimal number, sign and fraction
 pub constants : (zero ≡ round binary32 false 0 1)

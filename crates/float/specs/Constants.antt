@@ -60,7 +60,14 @@ duplicateFraction = ofBits binary32 0x3e4c_cccd
 abbrev pub frontierTolerance : Float
 frontierTolerance = ofBits binary32 0x3e99_999a
 
--- the bit pattern of +infinity, and the least of a NaN
+-- ---- bit patterns: the sign's place, the place above the significand's 23, +infinity's pattern, and the least of a NaN
+
+abbrev pub signBit : ℕ
+signBit = 0x8000_0000
+
+abbrev pub hiddenBit : ℕ
+hiddenBit = 0x80_0000
+
 abbrev pub infinityBits : ℕ
 infinityBits = 0x7f80_0000
 

@@ -1,15 +1,10 @@
 -- The root of an f32. "The root is the nearest f32, ties to even, specified over whole numbers; the significand of a subnormal is first
 -- shifted up to 24 bits. sqrt(−0) is −0, a negative gives NaN, +infinity itself."
-use Prim.Native.Nat.{ℕ, zero, suc, _+_, _-_, _*_, _/_, _^_, _<_}
+use Prim.Native.Nat.{ℕ, zero, suc, _+_, _*_, _/_, _^_}
 use mathlib.Core.Bool.{true, false, cond}
 use lib.Dec.{leb, ltb}
 use lib.IntN.{ℤ}
 use lib.Ieee.{Float, nan, inf, fin, up, down, size, odd}
-
--- s is the whole number nearest to the root of n: s - 1/2 < √n < s + 1/2, doubled and squared. Both are strict, so there is no tie.
-pub record NearRoot (n s : ℕ) : Type 0 where
-  pub above : (2 * s - 1) * (2 * s - 1) < 4 * n
-  pub below : 4 * n < (2 * s + 1) * (2 * s + 1)
 
 -- the root of an n below 4 ^ k, rounded down: a binary digit of the root for each base-4 digit of n
 unfoldable pub floorRoot : ℕ → ℕ → ℕ

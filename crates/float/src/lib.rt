@@ -2,6 +2,7 @@
 ghost use mathlib.Core.Path.{_≡_};
 ghost use Prim.Native.Nat.{_+_, _*_, _/_, _%_, _^_, _≤_, _<_};
 ghost use lib.Ieee.{binary32, ofBits, toBits};
+ghost use Rattle.float.specs.Constants.{infinityBits};
 ghost use Rattle.float.specs.Root.{floorRoot, nearRoot, rootOf};
 ghost use Rattle.float.specs.Scalar.{normOf, absOf, maxOf, minOf, clampOf, over30Degrees};
 
@@ -59,8 +60,8 @@ fn root_pattern(m: u32, w: u32) -> u32
 
 // The bit pattern of the root of a float that is finite and above 0, from that float's pattern.
 fn root_bits(b: u32) -> u32
-    requires { ⌜ (0 < b) × (b < 0x7f80_0000) ⌝ }
-    ensures { λ r. ⌜ (r < 0x7f80_0000) × (ofBits binary32 r ≡ rootOf (ofBits binary32 b)) ⌝ }
+    requires { ⌜ (0 < b) × (b < infinityBits) ⌝ }
+    ensures { λ r. ⌜ (r < infinityBits) × (ofBits binary32 r ≡ rootOf (ofBits binary32 b)) ⌝ }
 {
     if b < 0x80_0000 {
         let shift = u32::leading_zeros(b) - 8;

@@ -1,11 +1,11 @@
 // The plane projective map that takes four points to four others, by the normalised construction of Hartley and Zisserman: each four is centred
 // and scaled, eight equations are solved, and the scalings are taken back.
 ghost use mathlib.Core.Path.{_≡_};
-ghost use Rattle.homography.specs.Fit.{meanOf, meanDistance, scaleOf, normalizationOf, movedBy, normalizedBy, equationU, equationV, equationsOf, rightSide, matrixOf, normalizedMap, denormalizedMap, homographyFrom4pt, appliedTo};
+ghost use Rattle.homography.specs.Fit.{meanOfFour, meanDistance, normalizingScale, normalizationOf, movedBy, normalizedBy, equationU, equationV, equationsOf, rightSide, matrixOf, normalizedMap, denormalizedMap, homographyFrom4pt, appliedTo};
 
 mod matrix;
 
-pub struct Point {
+pub struct PlanePoint {
     pub x: f32,
     pub y: f32,
 }
@@ -24,18 +24,18 @@ pub struct Homography {
 }
 
 // The map of four points to four others, or the finding that there is none.
-pub enum Fit {
+pub enum HomographyFit {
     Found(Homography),
     NoFit,
 }
 
 fn mean(a: f32, b: f32, c: f32, d: f32) -> f32
-    ensures { λ r. ⌜ r ≡ meanOf a b c d ⌝ }
+    ensures { λ r. ⌜ r ≡ meanOfFour a b c d ⌝ }
 {
     (0.0 + a + b + c + d) / 4.0
 }
 
-fn mean_distance(p: [Point; 4], x: f32, y: f32) -> f32
+fn mean_distance(p: [PlanePoint; 4], x: f32, y: f32) -> f32
     ensures { λ r. ⌜ r ≡ meanDistance p x y ⌝ }
 {
     let a = float::norm(p[0].x - x, p[0].y - y);
@@ -46,7 +46,7 @@ fn mean_distance(p: [Point; 4], x: f32, y: f32) -> f32
 }
 
 fn scale(d: f32) -> f32
-    ensures { λ r. ⌜ r ≡ scaleOf d ⌝ }
+    ensures { λ r. ⌜ r ≡ normalizingScale d ⌝ }
 {
     if float::constants::NEGLIGIBLE < d {
         float::sqrt(2.0) / d
@@ -56,7 +56,7 @@ fn scale(d: f32) -> f32
 }
 
 // The matrix that centres and scales the four points p.
-fn normalization(p: [Point; 4]) -> [[f32; 3]; 3]
+fn normalization(p: [PlanePoint; 4]) -> [[f32; 3]; 3]
     ensures { λ r. ⌜ r ≡ normalizationOf p ⌝ }
 {
     let x = mean(p[0].x, p[1].x, p[2].x, p[3].x);
@@ -65,16 +65,16 @@ fn normalization(p: [Point; 4]) -> [[f32; 3]; 3]
     [[s, 0.0, (-s) * x], [0.0, s, (-s) * y], [0.0, 0.0, 1.0]]
 }
 
-fn moved(t: [[f32; 3]; 3], p: Point) -> Point
+fn moved(t: [[f32; 3]; 3], p: PlanePoint) -> PlanePoint
     ensures { λ r. ⌜ r ≡ movedBy t p ⌝ }
 {
-    Point {
+    PlanePoint {
         x: matrix::row_times(t, 0, p.x, p.y),
         y: matrix::row_times(t, 1, p.x, p.y),
     }
 }
 
-fn normalized(t: [[f32; 3]; 3], p: [Point; 4]) -> [Point; 4]
+fn normalized(t: [[f32; 3]; 3], p: [PlanePoint; 4]) -> [PlanePoint; 4]
     ensures { λ r. ⌜ r ≡ normalizedBy t p ⌝ }
 {
     [
@@ -85,19 +85,19 @@ fn normalized(t: [[f32; 3]; 3], p: [Point; 4]) -> [Point; 4]
     ]
 }
 
-fn equation_u(p: Point, q: Point) -> [f32; 8]
+fn equation_u(p: PlanePoint, q: PlanePoint) -> [f32; 8]
     ensures { λ r. ⌜ r ≡ equationU p q ⌝ }
 {
     [p.x, p.y, 1.0, 0.0, 0.0, 0.0, (-q.x) * p.x, (-q.x) * p.y]
 }
 
-fn equation_v(p: Point, q: Point) -> [f32; 8]
+fn equation_v(p: PlanePoint, q: PlanePoint) -> [f32; 8]
     ensures { λ r. ⌜ r ≡ equationV p q ⌝ }
 {
     [0.0, 0.0, 0.0, p.x, p.y, 1.0, (-q.y) * p.x, (-q.y) * p.y]
 }
 
-fn equations(p: [Point; 4], q: [Point; 4]) -> [[f32; 8]; 8]
+fn equations(p: [PlanePoint; 4], q: [PlanePoint; 4]) -> [[f32; 8]; 8]
     ensures { λ r. ⌜ r ≡ equationsOf p q ⌝ }
 {
     [
@@ -112,7 +112,7 @@ fn equations(p: [Point; 4], q: [Point; 4]) -> [[f32; 8]; 8]
     ]
 }
 
-fn right_side(q: [Point; 4]) -> [f32; 8]
+fn right_side(q: [PlanePoint; 4]) -> [f32; 8]
     ensures { λ r. ⌜ r ≡ rightSide q ⌝ }
 {
     [
@@ -134,14 +134,14 @@ fn matrix_of(x: [f32; 8]) -> [[f32; 3]; 3]
 }
 
 // The map m with each entry over its last.
-fn normalize_homography(m: [[f32; 3]; 3]) -> Fit
+fn normalize_homography(m: [[f32; 3]; 3]) -> HomographyFit
     ensures { λ r. ⌜ r ≡ normalizedMap m ⌝ }
 {
     let s = m[2][2];
     if float::abs(s) < float::constants::NEGLIGIBLE {
-        return Fit::NoFit;
+        return HomographyFit::NoFit;
     }
-    Fit::Found(Homography {
+    HomographyFit::Found(Homography {
         h00: m[0][0] / s,
         h01: m[0][1] / s,
         h02: m[0][2] / s,
@@ -155,18 +155,18 @@ fn normalize_homography(m: [[f32; 3]; 3]) -> Fit
 }
 
 // The scalings s and d taken back from the map m between the scaled points.
-fn denormalize_homography(m: [[f32; 3]; 3], s: [[f32; 3]; 3], d: [[f32; 3]; 3]) -> Fit
+fn denormalize_homography(m: [[f32; 3]; 3], s: [[f32; 3]; 3], d: [[f32; 3]; 3]) -> HomographyFit
     ensures { λ r. ⌜ r ≡ denormalizedMap m s d ⌝ }
 {
     let det = matrix::determinant(d);
     if det == 0.0 {
-        return Fit::NoFit;
+        return HomographyFit::NoFit;
     }
     normalize_homography(matrix::product(matrix::product(matrix::inverse(d, det), m), s))
 }
 
 // The map that takes the four points p to the four points q.
-pub fn homography_from_4pt(p: [Point; 4], q: [Point; 4]) -> Fit
+pub fn homography_from_4pt(p: [PlanePoint; 4], q: [PlanePoint; 4]) -> HomographyFit
     ensures { λ r. ⌜ r ≡ homographyFrom4pt p q ⌝ }
 {
     let s = normalization(p);
@@ -178,15 +178,15 @@ pub fn homography_from_4pt(p: [Point; 4], q: [Point; 4]) -> Fit
         let x = solution.x;
         return denormalize_homography(matrix_of(x), s, d);
     }
-    Fit::NoFit
+    HomographyFit::NoFit
 }
 
 // Where the map h takes p.
-pub fn apply(h: Homography, p: Point) -> Point
+pub fn apply(h: Homography, p: PlanePoint) -> PlanePoint
     ensures { λ r. ⌜ r ≡ appliedTo h p ⌝ }
 {
     let w = h.h20 * p.x + h.h21 * p.y + h.h22 * 1.0;
-    Point {
+    PlanePoint {
         x: (h.h00 * p.x + h.h01 * p.y + h.h02 * 1.0) / w,
         y: (h.h10 * p.x + h.h11 * p.y + h.h12 * 1.0) / w,
     }

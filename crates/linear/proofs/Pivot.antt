@@ -1,88 +1,45 @@
 -- The pivot is the first entry of largest magnitude at or below the diagonal. Assumes nothing.
-use mathlib.Core.Bool.{Bool, true, false, cond, _&&_, _||_, false≢true, true≢false}
+use mathlib.Core.Bool.{Bool, true, false, cond, true≢false}
 use mathlib.Core.List.{List}
 use mathlib.Core.Logic.{⊎-elim}
 use mathlib.Core.Path.{_≡_, refl, sym, _∙_}
-use Prim.Native.Nat.{ℕ, zero, suc, _+_, _-_, _*_, _≤_, _<_}
-use native.Mathlib.Nat.{eq-or-lt-of-le, le-refl, mul-right-comm, mul-le-mul-right, mul-lt-mul-of-pos-right, lt-of-mul-lt-mul-right}
+use Prim.Native.Nat.{ℕ, zero, suc, _+_, _-_, _≤_, _<_}
+use native.Mathlib.Nat.{eq-or-lt-of-le, le-refl}
 use native.Mathlib.Omega.{arith}
-use lib.Dec.{eqb, ltb}
-use lib.Ieee.{Float, nan, inf, fin, up, down, lt, eq, le}
-use lib.Ieee.Fits.{down-pos}
-use borrow.Author.Tests.{ltb-true, eqb-true, lt-ltb, le-ltb}
-use Rattle.folds.specs.Below.{not-true, and-left, first, firstIn, first-more, first-from}
+use lib.Dec.{ltb}
+use lib.Ieee.{Float, lt, le}
+use borrow.Author.Tests.{lt-ltb, le-ltb}
+use Rattle.folds.specs.Below.{not-true, first, firstIn, first-more, first-from}
 use Rattle.folds.specs.Run.{run, upTo, run-keeps}
 use Rattle.float.specs.Scalar.{absOf}
+use Rattle.float.proofs.Order.{below-through, not-below-itself, below-at-most}
 use Rattle.linear.specs.Rows.{entry}
-use Rattle.linear.specs.Linear.{larger, betterRow, nextLarger, pivotRow}
-
--- ---- the order of magnitudes; nothing is below a NaN, and a NaN is below nothing
-
--- x / p < y / q ≤ z / r
-between : (x y z p q r : ℕ) → 0 < r → x * q < y * p → y * r ≤ z * q → x * r < z * p
-between x y z p q r R h k =
-    let a : x * q * r < y * p * r = mul-lt-mul-of-pos-right h R in
-    let b : y * r * p ≤ z * q * p = mul-le-mul-right p k in
-    lt-of-mul-lt-mul-right q (omega (arith, a, b, mul-right-comm x q r, mul-right-comm y p r, mul-right-comm z q p))
-
-at-most : (a b : ℕ) (c : Bool) → ltb a b || (eqb a b && c) ≡ true → a ≤ b
-at-most a b c h = go (ltb a b) refl h
-  where
-    go : (t : Bool) → ltb a b ≡ t → t || (eqb a b && c) ≡ true → a ≤ b
-    go true e h = omega (arith, ltb-true a b e)
-    go false e h = omega (arith, eqb-true a b (and-left (eqb a b) c h))
-
-below-through : (x y z : Float) → lt (absOf x) (absOf y) ≡ true → le (absOf y) (absOf z) ≡ true → lt (absOf x) (absOf z) ≡ true
-unfolding absOf lt eq le
-below-through nan y z h k = absurd (false≢true h)
-below-through (inf s) nan z h k = absurd (false≢true h)
-below-through (inf s) (inf t) z h k = absurd (false≢true h)
-below-through (inf s) (fin t n d) z h k = absurd (false≢true h)
-below-through (fin s m e) nan z h k = absurd (false≢true h)
-below-through (fin s m e) (inf t) nan h k = absurd (false≢true k)
-below-through (fin s m e) (inf t) (inf r) h k = refl
-below-through (fin s m e) (inf t) (fin r o g) h k = absurd (false≢true k)
-below-through (fin s m e) (fin t n d) nan h k = absurd (false≢true k)
-below-through (fin s m e) (fin t n d) (inf r) h k = refl
-below-through (fin s m e) (fin t n d) (fin r o g) h k =
-    lt-ltb (m * up e * down g) (o * up g * down e)
-    (between (m * up e) (n * up d) (o * up g) (down e) (down d) (down g) (down-pos g) (ltb-true (m * up e * down d) (n * up d * down e) h)
-    (at-most (n * up d * down g) (o * up g * down d) true k))
-
-not-below-itself : (x : Float) → lt (absOf x) (absOf x) ≡ false
-unfolding absOf lt
-not-below-itself nan = refl
-not-below-itself (inf s) = refl
-not-below-itself (fin s m e) = le-ltb (m * up e * down e) (m * up e * down e) (le-refl (m * up e * down e))
-
-below-at-most : (x y : Float) → lt x y ≡ true → le x y ≡ true
-unfolding le
-below-at-most x y h = rw h
+use Rattle.linear.specs.Linear.{largerThan, betterRow, nextLarger, pivotRow}
 
 -- ---- the search by larger entries
 
 module _ (m : List (List Float)) (i best k : ℕ) {largest size : Float} (h : k < 8) (p : largest ≡ absOf (entry m best i)) (q : size ≡ absOf (entry m k i)) where
-  pub next-found : lt largest size ≡ true → k ≡ first (larger m i best) k 8
-  next-found e = sym (first-more (larger m i best) k 8 h ∙ rw (← p, ← q, e))
+  pub next-found : lt largest size ≡ true → k ≡ first (largerThan m i best) k 8
+  next-found e = sym (first-more (largerThan m i best) k 8 h ∙ rw (← p, ← q, e))
 
-  pub next-passed : lt largest size ≡ false → first (larger m i best) (k + 1) 8 ≡ first (larger m i best) k 8
-  next-passed e = sym (first-more (larger m i best) k 8 h ∙ rw (← p, ← q, e))
+  pub next-passed : lt largest size ≡ false → first (largerThan m i best) (k + 1) 8 ≡ first (largerThan m i best) k 8
+  next-passed e = sym (first-more (largerThan m i best) k 8 h ∙ rw (← p, ← q, e))
 
 -- the pivot's row, where k is the next row with a larger entry than row best's, or 8
 abbrev pub searched : List (List Float) → ℕ → ℕ → ℕ → ℕ
 searched m i best k = cond (ltb k 8) (run (betterRow m i) (k + 1) 8 k) best
 
-upTo-next : (m : List (List Float)) (i best n from : ℕ) → from + n ≡ 8 → upTo (betterRow m i) n from best ≡ searched m i best (firstIn (larger m i best) n from)
+upTo-next : (m : List (List Float)) (i best n from : ℕ) → from + n ≡ 8 → upTo (betterRow m i) n from best ≡ searched m i best (firstIn (largerThan m i best) n from)
 unfolding upTo firstIn betterRow run
 upTo-next m i best zero from e = sym (rw (le-ltb from 8 (omega arith)))
-upTo-next m i best (suc n) from e = go (larger m i best from) (upTo-next m i best n (from + 1) (omega arith))
+upTo-next m i best (suc n) from e = go (largerThan m i best from) (upTo-next m i best n (from + 1) (omega arith))
   where
-    go : (t : Bool) → upTo (betterRow m i) n (from + 1) best ≡ searched m i best (firstIn (larger m i best) n (from + 1))
-        → upTo (betterRow m i) n (from + 1) (cond t from best) ≡ searched m i best (cond t from (firstIn (larger m i best) n (from + 1)))
+    go : (t : Bool) → upTo (betterRow m i) n (from + 1) best ≡ searched m i best (firstIn (largerThan m i best) n (from + 1))
+        → upTo (betterRow m i) n (from + 1) (cond t from best) ≡ searched m i best (cond t from (firstIn (largerThan m i best) n (from + 1)))
     go true h = let l : n ≡ 8 - (from + 1) = omega arith in rw (lt-ltb from 8 (omega arith), l)
     go false h = h
 
-pub search-next : (m : List (List Float)) (i best from : ℕ) → from ≤ 8 → run (betterRow m i) from 8 best ≡ searched m i best (nextLarger m i best from)
+search-next : (m : List (List Float)) (i best from : ℕ) → from ≤ 8 → run (betterRow m i) from 8 best ≡ searched m i best (nextLarger m i best from)
 unfolding run nextLarger first
 search-next m i best from h = upTo-next m i best (8 - from) from (omega arith)
 
@@ -98,7 +55,7 @@ search-ends m i best k h = rw (le-ltb k 8 h)
 
 pub next-after : (m : List (List Float)) (i best from : ℕ) → from ≤ nextLarger m i best from
 unfolding nextLarger
-next-after m i best from = first-from (larger m i best) from 8
+next-after m i best from = first-from (largerThan m i best) from 8
 
 -- ---- the search
 

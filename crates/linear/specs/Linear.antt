@@ -12,22 +12,22 @@ use Rattle.folds.specs.Run.{run, upTo, down}
 use Rattle.folds.specs.Below.{some, first}
 use Rattle.float.specs.Constants.{one}
 use Rattle.float.specs.Scalar.{absOf}
-use Rattle.linear.specs.Rows.{at, rowAt, entry, withEntry}
+use Rattle.linear.specs.Rows.{entryAt, matrixRow, entry, withEntry}
 use Rattle.linear.specs.declared.Solution.{Solution}
 
 -- ---- "pivot of largest magnitude, first of equals"
 
 -- whether the entry of column i in row k is larger than that in the best row so far
-abbrev pub larger : List (List Float) → ℕ → ℕ → ℕ → Bool
-larger m i best k = lt (absOf (entry m best i)) (absOf (entry m k i))
+abbrev pub largerThan : List (List Float) → ℕ → ℕ → ℕ → Bool
+largerThan m i best k = lt (absOf (entry m best i)) (absOf (entry m k i))
 
 -- the row of the larger of the two
 unfoldable pub betterRow : List (List Float) → ℕ → ℕ → ℕ → ℕ
-betterRow m i k best = cond (larger m i best k) k best
+betterRow m i k best = cond (largerThan m i best k) k best
 
 -- the first row from `from` on with a larger entry, or 8
 unfoldable pub nextLarger : List (List Float) → ℕ → ℕ → ℕ → ℕ
-nextLarger m i best from = first (larger m i best) from 8
+nextLarger m i best from = first (largerThan m i best) from 8
 
 -- the row of column i's pivot, of the rows from i on
 unfoldable pub pivotRow : List (List Float) → ℕ → ℕ
@@ -41,14 +41,14 @@ pub record System : Type 0 where
 
 -- rows i and k exchanged, and entries i and k of the right side
 abbrev pub swapRows : List (List Float) → ℕ → ℕ → List (List Float)
-swapRows m i k = set (set m k (rowAt m i)) i (rowAt m k)
+swapRows m i k = set (set m k (matrixRow m i)) i (matrixRow m k)
 
 abbrev pub swapEntries : List Float → ℕ → ℕ → List Float
-swapEntries b i k = set (set b k (at b i)) i (at b k)
+swapEntries b i k = set (set b k (entryAt b i)) i (entryAt b k)
 
 -- entry j of row k, less the multiplier t times that of the pivot's row p
 unfoldable pub reduceEntry : List Float → ℕ → Float → ℕ → List (List Float) → List (List Float)
-reduceEntry p k t j m = withEntry m k j (entry m k j ⊕ neg (at p j) ⊗ t)
+reduceEntry p k t j m = withEntry m k j (entry m k j ⊕ neg (entryAt p j) ⊗ t)
 
 -- "multiplier = entry times 1/pivot": row k, where p is the pivot's row of column i and inverse is 1 over the pivot
 unfoldable pub reduceRow : List Float → ℕ → Float → ℕ → List (List Float) → List (List Float)
@@ -62,10 +62,10 @@ reduceRows p i inverse m = run (reduceRow p i inverse) (i + 1) 8 m
 -- column i, where row k has its pivot: "an all-zero column is passed over"
 unfoldable pub eliminateBy : ℕ → ℕ → System → System
 eliminateBy k i s =
-    let p = rowAt (s .rows) k in
-    cond (eq (at p i) zeroF)
+    let p = matrixRow (s .rows) k in
+    cond (eq (entryAt p i) zeroF)
     s
-    (record { rows = reduceRows p i (one ⊘ at p i) (swapRows (s .rows) i k); right = swapEntries (s .right) i k })
+    (record { rows = reduceRows p i (one ⊘ entryAt p i) (swapRows (s .rows) i k); right = swapEntries (s .right) i k })
 
 unfoldable pub eliminateColumn : ℕ → System → System
 eliminateColumn i s = eliminateBy (pivotRow (s .rows) i) i s
@@ -74,11 +74,11 @@ eliminateColumn i s = eliminateBy (pivotRow (s .rows) i) i s
 
 -- entry k of the right side, less t times entry i of row k
 unfoldable pub lessEntry : List (List Float) → ℕ → Float → ℕ → List Float → List Float
-lessEntry m i t k b = set b k (at b k ⊕ neg t ⊗ entry m k i)
+lessEntry m i t k b = set b k (entryAt b k ⊕ neg t ⊗ entry m k i)
 
 -- by the multipliers, column 0 first
 unfoldable pub forwardColumn : List (List Float) → ℕ → List Float → List Float
-forwardColumn m i b = run (lessEntry m i (at b i)) (i + 1) 8 b
+forwardColumn m i b = run (lessEntry m i (entryAt b i)) (i + 1) 8 b
 
 unfoldable pub forwardBy : List (List Float) → List Float → List Float
 forwardBy m b = run (forwardColumn m) 0 8 b
@@ -86,7 +86,7 @@ forwardBy m b = run (forwardColumn m) 0 8 b
 -- by the entries from the diagonal on, column 7 first
 unfoldable pub backwardColumn : List (List Float) → ℕ → List Float → List Float
 backwardColumn m i b =
-    let t = at b i ⊘ entry m i i in
+    let t = entryAt b i ⊘ entry m i i in
     run (lessEntry m i t) 0 i (set b i t)
 
 unfoldable pub backwardBy : List (List Float) → List Float → List Float

@@ -8,9 +8,9 @@ use lib.Ieee.{Float, binary32, ofInt}
 use Rattle.folds.specs.Arith.{_⊖_}
 use Rattle.folds.specs.Below.{first, firstIn}
 use Rattle.float.specs.Scalar.{normOf}
-use Rattle.homography.specs.declared.Point.{Point}
-use Rattle.homography.specs.declared.Fit.{Fit}
-use Rattle.homography.specs.declared.Fit.the-variants as fit
+use Rattle.homography.specs.declared.PlanePoint.{PlanePoint}
+use Rattle.homography.specs.declared.HomographyFit.{HomographyFit}
+use Rattle.homography.specs.declared.HomographyFit.the-variants as fit
 use Rattle.homography.specs.Fit.{homographyFrom4pt, appliedTo, fit-computes}
 use Rattle.cells.specs.Cell.{Cell}
 use Rattle.view.specs.View.{View}
@@ -24,17 +24,17 @@ abbrev pub coordinate : ℤ → Float
 coordinate z = ofInt binary32 z
 
 -- a cell as a point
-abbrev pub cellPoint : Cell → Point
+abbrev pub cellPoint : Cell → PlanePoint
 cellPoint c = record { x = coordinate (c .u); y = coordinate (c .v) }
 
 -- "A residual is a number or the finding that no fit exists": the distance of where the map takes p from q
-unfoldable pub residualBy : Fit → Point → Point → Residual
+unfoldable pub residualBy : HomographyFit → PlanePoint → PlanePoint → Residual
 residualBy (fit.Found h) p q = Value (normOf (appliedTo h p .x ⊖ q .x) (appliedTo h p .y ⊖ q .y))
 residualBy fit.NoFit p q = NoFit
 
 module _ (w : View) (cell : ℕ → Cell) where
   -- where rank k is seen. "One index stands at positions with different bits" is refused, so this is its index's position.
-  abbrev pub seenAt : ℕ → Point
+  abbrev pub seenAt : ℕ → PlanePoint
   seenAt k = record { x = w .x k; y = w .y k }
 
   -- the residual of rank k by the ranks i, j, l and m

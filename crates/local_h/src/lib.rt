@@ -1,6 +1,6 @@
 // The residual of each corner: how far the map fitted to its nearest neighbours takes its cell from where it is seen.
-use homography::Fit;
-use homography::Point;
+use homography::HomographyFit;
+use homography::PlanePoint;
 use view::MAX_POINTS;
 use view::RANKS_SIZE;
 ghost use mathlib.Core.Path.{_≡_};
@@ -190,25 +190,25 @@ fn coordinate_of(b: u32) -> f32
     (b - cells::BIAS) as f32
 }
 
-fn cell_point(key: u32) -> Point
+fn cell_point(key: u32) -> PlanePoint
     ensures { λ r. ⌜ r ≡ cellPoint (cellOfKey key) ⌝ }
 {
-    Point {
+    PlanePoint {
         x: coordinate_of(cells::u_part(key)),
         y: coordinate_of(cells::v_part(key)),
     }
 }
 
 // How far the map takes p from q.
-fn residual_by(fit: Fit, p: Point, q: Point) -> Residual
+fn residual_by(fit: HomographyFit, p: PlanePoint, q: PlanePoint) -> Residual
     ensures { λ r. ⌜ r ≡ residualBy fit p q ⌝ }
 {
     match fit {
-        Fit::Found(h) => {
+        HomographyFit::Found(h) => {
             let s = homography::apply(h, p);
             Residual::Value(float::norm(s.x - q.x, s.y - q.y))
         }
-        Fit::NoFit => Residual::NoFit,
+        HomographyFit::NoFit => Residual::NoFit,
     }
 }
 
@@ -233,13 +233,13 @@ fn residual_of(
         cell_point(keys[m]),
     ];
     let seen = [
-        Point { x: x[i], y: y[i] },
-        Point { x: x[j], y: y[j] },
-        Point { x: x[l], y: y[l] },
-        Point { x: x[m], y: y[m] },
+        PlanePoint { x: x[i], y: y[i] },
+        PlanePoint { x: x[j], y: y[j] },
+        PlanePoint { x: x[l], y: y[l] },
+        PlanePoint { x: x[m], y: y[m] },
     ];
     let fit = homography::homography_from_4pt(cells, seen);
-    residual_by(fit, cell_point(keys[k]), Point { x: x[k], y: y[k] })
+    residual_by(fit, cell_point(keys[k]), PlanePoint { x: x[k], y: y[k] })
 }
 
 // The residual of rank k.

@@ -18,20 +18,20 @@ use Rattle.median.specs.Median.{medianOf}
 
 module _ (c x : Float) (cp : T (positive c)) where
   -- whether x is over c times a
-  abbrev pub over : Float → Bool
-  over a = lt (c ⊗ a) x
+  abbrev pub overTimes : Float → Bool
+  overTimes a = lt (c ⊗ a) x
 
-  falls : (a b : Float) → T (above a) → T (above b) → T (le b a) → over a ≡ true → over b ≡ true
+  falls : (a b : Float) → T (above a) → T (above b) → T (le b a) → overTimes a ≡ true → overTimes b ≡ true
   falls a b p q h o = lt-after (c ⊗ b) (c ⊗ a) x (mul-plain c b cp q) (mul-plain c a cp p) (mul-le c b a cp q p h) o
 
-  pub over-median : (l : List Float) → All (λ (a : Float). T (above a)) l → 0 < length l → over (medianOf l) ≡ ltb (length l / 2) (count over l)
+  over-median : (l : List Float) → All (λ (a : Float). T (above a)) l → 0 < length l → overTimes (medianOf l) ≡ ltb (length l / 2) (count overTimes l)
   unfolding medianOf
   over-median l al h =
-      sorted-at lt over (λ (a : Float). T (above a)) (λ a b p q e o. falls a b p q (under a b e) o) (λ a b p q e o. falls b a q p (not-over a b p q e) o) nan l al (length l / 2) (omega arith)
+      sorted-at lt overTimes (λ (a : Float). T (above a)) (λ a b p q e o. falls a b p q (under a b e) o) (λ a b p q e o. falls b a q p (not-over a b p q e) o) nan l al (length l / 2) (omega arith)
 
   -- of the f k with t k, k below n
   pub over-median-of : (t : ℕ → Bool) (f : ℕ → Float) (n : ℕ) → ((k : ℕ) → k < n → t k ≡ true → lt zeroF (f k) ≡ true) → 0 < tally t n
-      → over (medianOf (listed t f n)) ≡ ltb (tally t n / 2) (tally (λ (k : ℕ). t k && over (f k)) n)
+      → overTimes (medianOf (listed t f n)) ≡ ltb (tally t n / 2) (tally (λ (k : ℕ). t k && overTimes (f k)) n)
   over-median-of t f n pos some =
       over-median (listed t f n) (all-listed (λ (a : Float). T (above a)) t f n (λ k l e. above-zero (f k) (pos k l e))) (omega (arith, listed-length t f n))
-      ∙ rw (listed-length t f n, count-listed over t f n)
+      ∙ rw (listed-length t f n, count-listed overTimes t f n)

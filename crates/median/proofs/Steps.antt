@@ -18,11 +18,11 @@ use Rattle.sort.proofs.Sorted.{sort-length, sort-all, sort-map, Agree}
 use Rattle.float.proofs.Order.{above-zero}
 use Rattle.float.proofs.Bits.{bits-order}
 use Rattle.median.specs.Median.{medianOf}
-use Rattle.median.specs.Packed.{positive, positives, patterns, Put, Packed}
+use Rattle.median.specs.Packed.{positiveAt, positives, patterns, Put, Packed}
 
 -- an f32 above zero
-abbrev pub Ok : Float → Type 0
-Ok a = T (above a) × T (fits binary32 a)
+abbrev pub AboveZero : Float → Type 0
+AboveZero a = T (above a) × T (fits binary32 a)
 
 map-snoc : (l : List Float) (x : Float) → patterns (l ++ (x ∷ [])) ≡ patterns l ++ (toBits binary32 x ∷ [])
 map-snoc [] x = refl
@@ -36,23 +36,23 @@ pub packed-more : (v : List Float) (k : ℕ) {c r : ℕ} {a b : List ℕ} → Pa
 unfolding positives
 packed-more v k {c} {r} {a} {b} q p = record {
   size = p .size;
-  count = tally-turn (positive v) k (p .count) refl (q .count);
-  taken = p .taken ∙ rw (q .taken, listed-more (positive v) (λ (j : ℕ). getD v j nan) k) (go (positive v k));
+  count = tally-turn (positiveAt v) k (p .count) refl (q .count);
+  taken = p .taken ∙ rw (q .taken, listed-more (positiveAt v) (λ (j : ℕ). getD v j nan) k) (go (positiveAt v k));
   float = λ j l. ⊎-elim (λ (e : j ≡ k). rw e (p .float)) (λ (m : j < k). q .float j m) (eq-or-lt-of-le (omega arith));
 }
   where
     before : List Float
-    before = listed (positive v) (λ (j : ℕ). getD v j nan) k
+    before = listed (positiveAt v) (λ (j : ℕ). getD v j nan) k
 
     go : (t : Bool) → cond t (patterns before ++ (toBits binary32 (getD v k nan) ∷ [])) (patterns before) ≡ patterns (cond t (before ++ (getD v k nan ∷ [])) before)
     go true = sym (map-snoc before (getD v k nan))
     go false = refl
 
-agree : (l : List Float) → All Ok l → Agree (toBits binary32) lt ltb l
+agree : (l : List Float) → All AboveZero l → Agree (toBits binary32) lt ltb l
 agree [] h = tt
 agree (a ∷ l) h = (each l (h .1), agree l (h .1))
   where
-    each : (m : List Float) → All Ok m → All (λ (b : Float). lt b a ≡ ltb (toBits binary32 b) (toBits binary32 a)) m
+    each : (m : List Float) → All AboveZero m → All (λ (b : Float). lt b a ≡ ltb (toBits binary32 b) (toBits binary32 a)) m
     each [] g = tt
     each (b ∷ m) g = (bits-order b a (g .0 .0) (h .0 .0) (g .0 .1) (h .0 .1), each m (g .1))
 
@@ -61,31 +61,31 @@ at-map [] i h = absurd (omega arith)
 at-map (a ∷ l) zero h = refl
 at-map (a ∷ l) (suc i) h = at-map l i (omega arith)
 
-at-all : (l : List Float) → All Ok l → (i : ℕ) → i < length l → Ok (getD l i nan)
+at-all : (l : List Float) → All AboveZero l → (i : ℕ) → i < length l → AboveZero (getD l i nan)
 at-all [] al i h = absurd (omega arith)
 at-all (a ∷ l) al zero h = al .0
 at-all (a ∷ l) al (suc i) h = at-all l (al .1) i (omega arith)
 
 -- after the sort of the first c
 module _ (v : List Float) (n c : ℕ) (a b : List ℕ) (p : Packed v n c a) (some : 0 < c) (s : b ≡ sort ltb (take c a) ++ drop c a) where
-  all-ok : All Ok (positives v n)
+  all-ok : All AboveZero (positives v n)
   unfolding positives
-  all-ok = all-listed Ok (positive v) (λ (j : ℕ). getD v j nan) n (λ k l e. (above-zero (getD v k nan) e, p .float k l))
+  all-ok = all-listed AboveZero (positiveAt v) (λ (j : ℕ). getD v j nan) n (λ k l e. (above-zero (getD v k nan) e, p .float k l))
 
   long : length (positives v n) ≡ c
   unfolding positives
-  long = listed-length (positive v) (λ (k : ℕ). getD v k nan) n ∙ sym (p .count)
+  long = listed-length (positiveAt v) (λ (k : ℕ). getD v k nan) n ∙ sym (p .count)
 
   inside : c / 2 < length (sort lt (positives v n))
   inside = omega (arith, sort-length lt (positives v n), long)
 
-  pub value : getD b (c / 2) 0 ≡ toBits binary32 (medianOf (positives v n))
+  pub middle-is : getD b (c / 2) 0 ≡ toBits binary32 (medianOf (positives v n))
   unfolding medianOf
-  value =
+  middle-is =
       rw (s, p .taken, sort-map (toBits binary32) lt ltb (positives v n) (agree (positives v n) all-ok))
       (List·getD-append (patterns (sort lt (positives v n))) (drop c a) 0 (c / 2) (omega (arith, lib.ListN.length-map (sort lt (positives v n)) (toBits binary32), inside))
       ∙ at-map (sort lt (positives v n)) (c / 2) inside ∙ rw long)
 
-  pub value-ok : Ok (medianOf (positives v n))
+  pub middle-fits : AboveZero (medianOf (positives v n))
   unfolding medianOf
-  value-ok = rw long (at-all (sort lt (positives v n)) (sort-all lt Ok (positives v n) all-ok) (c / 2) inside)
+  middle-fits = rw long (at-all (sort lt (positives v n)) (sort-all lt AboveZero (positives v n) all-ok) (c / 2) inside)

@@ -11,13 +11,13 @@ use Rattle.folds.specs.Below.{tally}
 use Rattle.folds.specs.Lists.{listed}
 use Rattle.view.specs.View.{maxPoints}
 
-abbrev pub positive : List Float → ℕ → Bool
-positive v k = lt zeroF (getD v k nan)
+abbrev pub positiveAt : List Float → ℕ → Bool
+positiveAt v k = lt zeroF (getD v k nan)
 
 -- the positive ones among the first n, in their order
 unfoldable pub positives : List Float → ℕ → List Float
 unfolding listed lt ofBits
-positives v n = listed (positive v) (λ (k : ℕ). getD v k nan) n
+positives v n = listed (positiveAt v) (λ (k : ℕ). getD v k nan) n
 
 abbrev pub patterns : List Float → List ℕ
 patterns l = map (toBits binary32) l
@@ -32,6 +32,6 @@ pub record Put (x : Float) (c r : ℕ) (a b : List ℕ) : Type 0 where
 -- the first c of b are the patterns of the positive ones below k
 pub record Packed (v : List Float) (k c : ℕ) (b : List ℕ) : Type 0 where
   pub size : length b ≡ maxPoints
-  pub count : c ≡ tally (positive v) k
+  pub count : c ≡ tally (positiveAt v) k
   pub taken : take c b ≡ patterns (positives v k)
   pub float : (j : ℕ) → j < k → T (fits binary32 (getD v j nan))

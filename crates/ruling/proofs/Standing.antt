@@ -18,7 +18,7 @@ use Rattle.cells.specs.Points.{Point, nowhere, keyOf}
 use Rattle.cells.specs.Cell.{cellOf, before}
 use Rattle.cells.proofs.Keys.{key-order}
 use Rattle.sort.specs.Sorted.{sort, Rises}
-use Rattle.sort.proofs.Sorted.{At, all-at, at-all, sort-perm, sort-length, sort-all, sort-rises, Ordered, by-key, order-free}
+use Rattle.sort.proofs.Sorted.{At, all-at, at-all, sort-perm, sort-length, sort-all, sort-rises, TotalOrder, by-key, order-free}
 use Rattle.grid.specs.InOrder.{CellOrder}
 use Rattle.grid.proofs.InOrder.{order-by-keys}
 use Rattle.sheet_file.specs.Bytes.{Bytes}
@@ -111,7 +111,7 @@ module _ (ps : List Point) (h : Apart ps) where
   all-listed : All (At nowhere ps) ps
   all-listed = at-all (At nowhere ps) nowhere ps (λ i l. record { place = i; below = l; is = refl })
 
-  ordered : Ordered comesBefore (At nowhere ps)
+  ordered : TotalOrder comesBefore (At nowhere ps)
   ordered = by-key keyOf (At nowhere ps) one-point
 
   -- "Another order is any rearrangement of the points": they have one cell order

@@ -3,7 +3,7 @@ use Prim.Native.Nat.{_+_, _*_, _^_, _≤_, _<_}
 use borrow.Author.Needs.{needs}
 use native.Mathlib.Omega.{arith}
 use Rattle.float.proofs.Near.{floor-only}
-use Rattle.float.proofs.Squares.{Stepped, stepped, first-step, product-lt, square-pos}
+use Rattle.float.proofs.Squares.{Stepped, newton-stepped, first-step, product-lt, square-pos}
 use Rattle.float.proofs.floor_root.Statement.{statement}
 use Rattle.float.proofs.floor_root.Tie as tie
 
@@ -18,7 +18,7 @@ first : (c : tie.After-newton Inv-loop μ-loop) → (0x1f_ffff ≤ c .newton .re
 first c =
     let e = c .newton .ensures in
     let g = c .before .first-guess .ensures in
-    let s = stepped _ _ _ (omega arith) e in
+    let s = newton-stepped _ _ _ (omega arith) e in
     (omega (arith, s .half), first-step _ _ _ (c .before .before .pre) (g .0) (g .1) e, s .above)
 
 newton-requires-2 : tie.Need-newton-requires-2 Inv-loop μ-loop
@@ -27,7 +27,7 @@ newton-requires-2 c κs = omega (arith, first c)
 loop-holds : tie.Need-loop-holds Inv-loop μ-loop
 loop-holds c =
     let f = first (c .before) in
-    let s = stepped _ _ _ (omega arith) (c .newton2 .ensures) in
+    let s = newton-stepped _ _ _ (omega arith) (c .newton2 .ensures) in
     (s .above, omega (arith, s .bound (f .2)))
 
 mul-loop : tie.Need-mul-loop Inv-loop μ-loop
@@ -37,7 +37,7 @@ newton-requires-3 : tie.Need-newton-requires-3 Inv-loop μ-loop
 newton-requires-3 c κs = omega (arith, square-pos _ _ (c .loop-test .taken))
 
 again : (c : tie.After-newton3 Inv-loop μ-loop) → Stepped (c .before .before .before .before .before .before .args .n) (c .before .before .loop .r) (c .newton3 .result)
-again c = stepped _ _ _ (square-pos _ _ (c .before .loop-test .taken)) (c .newton3 .ensures)
+again c = newton-stepped _ _ _ (square-pos _ _ (c .before .loop-test .taken)) (c .newton3 .ensures)
 
 loop-less : tie.Need-loop-less Inv-loop μ-loop
 loop-less c = again c .less (c .before .loop-test .taken)

@@ -6,6 +6,7 @@ use native.Mathlib.Nat.{mod-eq-of-lt}
 use native.Mathlib.Omega.{arith}
 use lib.Count.{leadingZeros}
 use Rattle.float.specs.Root.{nearRoot}
+use Rattle.float.specs.Constants.{hiddenBit}
 use Rattle.float.proofs.Pattern.{Leading, leading, subnormal, normal, pattern-of-root, moved-down, moved-up}
 use Rattle.float.proofs.root_bits.Statement.{statement}
 use Rattle.float.proofs.root_bits.Tie as tie
@@ -42,10 +43,10 @@ returns c =
 returns-2 : tie.Need-returns-2
 returns-2 c =
     let b = c .before .before .args .b in
-    let m = 8388608 + b % 8388608 in
-    let k = b / 8388608 - 1 in
-    pattern-of-root b _ m k m (b / 8388608 + 25) (normal b k m (omega arith) (omega arith) (omega arith) (omega arith)) (omega arith) (omega arith) (omega arith) (omega arith) (omega arith)
-    (moved-down m k (b / 8388608 + 25) (omega arith))
+    let m = hiddenBit + b % hiddenBit in
+    let k = b / hiddenBit - 1 in
+    pattern-of-root b _ m k m (b / hiddenBit + 25) (normal b k m (omega arith) (omega arith) (omega arith) (omega arith)) (omega arith) (omega arith) (omega arith) (omega arith) (omega arith)
+    (moved-down m k (b / hiddenBit + 25) (omega arith))
     (c .root-pattern2 .ensures)
 
 pub root-bits-spec : {M : Type 1} → statement M

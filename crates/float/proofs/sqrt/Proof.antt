@@ -6,6 +6,7 @@ use lib.Dec.{T}
 use lib.Ieee.{binary32, fits, toBits}
 use lib.Ieee.Bits.{toBits-lt}
 use Rattle.float.specs.Root.{rootOf}
+use Rattle.float.specs.Constants.{infinityBits, signBit}
 use Rattle.float.proofs.Nan.{no-nan, no-nan-pattern, zero-over-zero}
 use Rattle.float.proofs.Special.{root-of-nan, pattern, own-root, root-of-zero, root-of-minus-zero, root-of-one, root-of-infinity, no-root}
 use Rattle.float.proofs.sqrt.Statement.{statement}
@@ -42,12 +43,12 @@ returns-4 c =
 returns-5 : tie.Need-returns-5
 returns-5 c =
     let s = c .before .before .before .before .before in
-    own-root (s .args .x) 0x7f80_0000 (held s) (c .if5 .taken) root-of-infinity
+    own-root (s .args .x) infinityBits (held s) (c .if5 .taken) root-of-infinity
 
 returns-6 : tie.Need-returns-6
 returns-6 c =
     let s = c .before .before .before .before .before .before in
-    own-root (s .args .x) 0x8000_0000 (held s) (c .if6 .taken) root-of-minus-zero
+    own-root (s .args .x) signBit (held s) (c .if6 .taken) root-of-minus-zero
 
 returns-7 : tie.Need-returns-7
 returns-7 c =

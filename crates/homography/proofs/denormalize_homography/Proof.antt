@@ -9,7 +9,16 @@ returns c = rw (← c .before .determinant .ensures, c .if1 .taken)
 
 returns-2 : tie.Need-returns-2
 unfolding denormalizedMap
-returns-2 c = rw (c .normalize-homography .ensures, c .before .product2 .ensures, c .before .before .product .ensures, c .before .before .before .inverse .ensures, ← c .before .before .before .before .before .determinant .ensures, c .before .before .before .before .if1 .left)
+returns-2 c =
+    let b = c .before .before .before .before in
+    rw (
+      c .normalize-homography .ensures,
+      c .before .product2 .ensures,
+      c .before .before .product .ensures,
+      c .before .before .before .inverse .ensures,
+      ← b .before .determinant .ensures,
+      b .if1 .left,
+    )
 
 pub denormalize-homography-spec : {M : Type 1} → statement M
 denormalize-homography-spec =

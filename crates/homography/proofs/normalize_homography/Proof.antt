@@ -9,7 +9,7 @@ returns c = rw (← c .before .abs .ensures, c .if1 .taken)
 
 returns-2 : tie.Need-returns-2
 unfolding normalizedMap
-returns-2 c = rw (← c .before .before .before .before .before .before .before .before .before .before .abs .ensures, c .before .before .before .before .before .before .before .before .before .if1 .left)
+returns-2 c = let b = c .before .before .before .before .before .before .before .before .before in rw (← b .before .abs .ensures, b .if1 .left)
 
 pub normalize-homography-spec : {M : Type 1} → statement M
 normalize-homography-spec =

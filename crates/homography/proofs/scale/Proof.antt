@@ -1,14 +1,14 @@
-use Rattle.homography.specs.Fit.{scaleOf}
+use Rattle.homography.specs.Fit.{normalizingScale}
 use borrow.Author.Needs.{needs}
 use Rattle.homography.proofs.scale.Statement.{statement}
 use Rattle.homography.proofs.scale.Tie as tie
 
 returns : tie.Need-returns
-unfolding scaleOf
+unfolding normalizingScale
 returns c = rw (c .before .if1 .taken, c .sqrt .ensures)
 
 returns-2 : tie.Need-returns-2
-unfolding scaleOf
+unfolding normalizingScale
 returns-2 c = rw (c .if1 .left)
 
 pub scale-spec : {M : Type 1} → statement M

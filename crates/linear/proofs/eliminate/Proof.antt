@@ -5,7 +5,7 @@ use Prim.Native.Nat.{ℕ}
 use lib.Ieee.{Float, eq}
 use Rattle.folds.specs.Arith.{_⊘_, zeroF}
 use Rattle.float.specs.Constants.{one}
-use Rattle.linear.specs.Rows.{entry, rowAt}
+use Rattle.linear.specs.Rows.{entry, matrixRow}
 use Rattle.linear.specs.Linear.{System, pivotRow, swapRows, swapEntries, reduceRows, eliminateBy, eliminateColumn}
 use borrow.Author.Needs.{needs}
 use Rattle.linear.proofs.eliminate.Statement.{statement}
@@ -16,7 +16,7 @@ module _ (i k : ℕ) (m : List (List Float)) (y : List Float) (found : k ≡ piv
   unfolding eliminateColumn eliminateBy
   passed-over e = rw (← found, e)
 
-  cleared : (out : List (List Float)) → eq (entry m k i) zeroF ≡ false → out ≡ reduceRows (rowAt m k) i (one ⊘ entry m k i) (swapRows m i k)
+  cleared : (out : List (List Float)) → eq (entry m k i) zeroF ≡ false → out ≡ reduceRows (matrixRow m k) i (one ⊘ entry m k i) (swapRows m i k)
       → _≡_ {A = System} (eliminateColumn i (record { rows = m; right = y })) (record { rows = out; right = swapEntries y i k })
   unfolding eliminateColumn eliminateBy
   cleared out e h = rw (← found, e, h)

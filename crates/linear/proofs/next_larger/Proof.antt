@@ -1,14 +1,14 @@
 use mathlib.Core.Path.{_≡_, _∙_, sym}
 use Prim.Native.Nat.{_-_}
 use Rattle.folds.specs.Below.{first, first-end}
-use Rattle.linear.specs.Linear.{larger, nextLarger}
+use Rattle.linear.specs.Linear.{largerThan, nextLarger}
 use Rattle.linear.proofs.Pivot.{next-found, next-passed}
 use borrow.Author.Needs.{needs}
 use Rattle.linear.proofs.next_larger.Statement.{statement}
 use Rattle.linear.proofs.next_larger.Tie as tie
 
 abbrev Inv-loop : tie.InvT-loop
-Inv-loop m i best from largest k₀ k = first (larger m i best) k 8 ≡ first (larger m i best) k₀ 8
+Inv-loop m i best from largest k₀ k = first (largerThan m i best) k 8 ≡ first (largerThan m i best) k₀ 8
 
 abbrev μ-loop : tie.MeasureT-loop
 μ-loop m i best from largest k₀ k = 8 - k

@@ -1,5 +1,5 @@
-use Rattle.median.proofs.Steps.{Ok, value, value-ok}
-use Rattle.median.specs.Packed.{positive, positives}
+use Rattle.median.proofs.Steps.{AboveZero, middle-is, middle-fits}
+use Rattle.median.specs.Packed.{positiveAt, positives}
 use Rattle.float.proofs.Nan.{no-nan-pattern}
 use Rattle.float.proofs.Bits.{bits-top}
 use Rattle.median.specs.Median.{medianOf}
@@ -19,14 +19,14 @@ use Rattle.median.proofs.middle.Statement.{statement}
 use Rattle.median.proofs.middle.Tie as tie
 
 few : (c : tie.After-pack) → c .pack .result ≤ maxPoints
-few c = omega (arith, c .pack .ensures .count, tally-le (positive (c .before .before .args .v .now)) (c .before .before .args .n))
+few c = omega (arith, c .pack .ensures .count, tally-le (positiveAt (c .before .before .args .v .now)) (c .before .before .args .n))
 
 module _ (c : tie.After-sort) where
   found : getD (c .sort .last .0) (c .before .before .before .pack .result / 2) 0 ≡ toBits binary32 (medianOf (positives (c .before .before .before .before .before .args .v .now) (c .before .before .before .before .before .args .n)))
-  found = value _ _ _ _ _ (c .before .before .before .pack .ensures) (omega arith) (c .sort .ensures)
+  found = middle-is _ _ _ _ _ (c .before .before .before .pack .ensures) (omega arith) (c .sort .ensures)
 
-  found-ok : Ok (medianOf (positives (c .before .before .before .before .before .args .v .now) (c .before .before .before .before .before .args .n)))
-  found-ok = value-ok _ _ _ _ _ (c .before .before .before .pack .ensures) (omega arith) (c .sort .ensures)
+  found-ok : AboveZero (medianOf (positives (c .before .before .before .before .before .args .v .now) (c .before .before .before .before .before .args .n)))
+  found-ok = middle-fits _ _ _ _ _ (c .before .before .before .pack .ensures) (omega arith) (c .sort .ensures)
 
 -- no positive number, no median
 nothing : (l : List Float) → length l ≡ 0 → medianOf l ≡ nan
@@ -36,7 +36,7 @@ nothing (a ∷ l) h = absurd (omega arith)
 
 returns : tie.Need-returns
 unfolding div ofBits positives
-returns c = let a = c .before .before .before .args in sym (nothing (positives (a .v .now) (a .n)) (listed-length (positive (c .before .before .before .args .v .now)) (λ k. getD (c .before .before .before .args .v .now) k nan) (c .before .before .before .args .n) ∙ sym (c .before .pack .ensures .count) ∙ c .if1 .taken))
+returns c = let a = c .before .before .before .args in sym (nothing (positives (a .v .now) (a .n)) (listed-length (positiveAt (c .before .before .before .args .v .now)) (λ k. getD (c .before .before .before .args .v .now) k nan) (c .before .before .before .args .n) ∙ sym (c .before .pack .ensures .count) ∙ c .if1 .taken))
 
 sort-requires : tie.Need-sort-requires
 sort-requires c κs = (few (c .before .before), c .before .before .pack .ensures .size)

@@ -1,5 +1,5 @@
 use Rattle.median.proofs.Steps.{packed-none, packed-more}
-use Rattle.median.specs.Packed.{positive, Packed}
+use Rattle.median.specs.Packed.{positiveAt, Packed}
 use Rattle.folds.specs.Below.{tally-le}
 use native.Mathlib.Omega.{arith}
 use Prim.Native.Nat.{_-_, _≤_}
@@ -18,7 +18,7 @@ loop-holds : tie.Need-loop-holds Inv-loop μ-loop
 loop-holds c = (omega arith, packed-none _ _ (c .pre .1))
 
 put-requires : tie.Need-put-requires Inv-loop μ-loop
-put-requires c κs = let i = c .before .before .before .loop .inv .1 in (omega (arith, i .count, tally-le (positive (c .before .before .before .before .args .v .now)) (c .before .before .before .loop .k)), i .size)
+put-requires c κs = let i = c .before .before .before .loop .inv .1 in (omega (arith, i .count, tally-le (positiveAt (c .before .before .before .before .args .v .now)) (c .before .before .before .loop .k)), i .size)
 
 loop-again : tie.Need-loop-again Inv-loop μ-loop
 loop-again c = (omega arith, packed-more (c .before .before .before .before .before .args .v .now) (c .before .before .before .before .loop .k) (c .before .before .before .before .loop .inv .1) (c .put .ensures))

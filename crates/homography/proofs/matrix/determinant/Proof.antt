@@ -5,7 +5,10 @@ use Rattle.homography.proofs.matrix.determinant.Tie as tie
 
 returns : tie.Need-returns
 unfolding determinantOf
-returns c = rw (c .minor-of3 .ensures, c .before .before .before .before .before .before .minor-of2 .ensures, c .before .before .before .before .before .before .before .before .before .before .before .before .minor-of .ensures)
+returns c =
+    let c2 = c .before .before .before .before .before .before in
+    let c1 = c2 .before .before .before .before .before .before in
+    rw (c .minor-of3 .ensures, c2 .minor-of2 .ensures, c1 .minor-of .ensures)
 
 pub determinant-spec : {M : Type 1} → statement M
 determinant-spec =

@@ -1,11 +1,12 @@
 use Rattle.homography.specs.Matrix.{inverseOf}
+use mathlib.Core.Path.{refl}
 use borrow.Author.Needs.{needs}
 use Rattle.homography.proofs.matrix.inverse.Statement.{statement}
 use Rattle.homography.proofs.matrix.inverse.Tie as tie
 
 returns : tie.Need-returns
 unfolding inverseOf
-returns c = search needs
+returns c = refl
 
 pub inverse-spec : {M : Type 1} → statement M
 inverse-spec =

@@ -5,7 +5,12 @@ use Rattle.homography.proofs.matrix.product.Tie as tie
 
 returns : tie.Need-returns
 unfolding productOf
-returns c = rw (c .product-entry9 .ensures, c .before .product-entry8 .ensures, c .before .before .product-entry7 .ensures, c .before .before .before .product-entry6 .ensures, c .before .before .before .before .product-entry5 .ensures, c .before .before .before .before .before .product-entry4 .ensures, c .before .before .before .before .before .before .product-entry3 .ensures, c .before .before .before .before .before .before .before .product-entry2 .ensures, c .before .before .before .before .before .before .before .before .product-entry .ensures)
+returns c =
+    let c6 = c .before .before .before in
+    let c3 = c6 .before .before .before in
+    rw (c .product-entry9 .ensures, c .before .product-entry8 .ensures, c .before .before .product-entry7 .ensures)
+    (rw (c6 .product-entry6 .ensures, c6 .before .product-entry5 .ensures, c6 .before .before .product-entry4 .ensures)
+    (rw (c3 .product-entry3 .ensures, c3 .before .product-entry2 .ensures, c3 .before .before .product-entry .ensures)))
 
 pub product-spec : {M : Type 1} → statement M
 product-spec =
