@@ -18,7 +18,7 @@ use Rattle.view.specs.View.{View, viewAt, maxPoints}
 use Rattle.marks.specs.Arrays.{Ranks, Finite}
 use Rattle.cells.specs.Points.{Point, nowhere, keysOf, xsOf, ysOf}
 use Rattle.grid.specs.Tables.{Keys, at, nearOf, rowsOf, columnsOf, byIdxOf, rowAt, columnAt, byIdxAt}
-use Rattle.grid.specs.InOrder.{keys-ready}
+use Rattle.grid.proofs.InOrder.{keys-ready}
 use Rattle.sheet_file.specs.Limit.{outside}
 use Rattle.sheet_file.specs.Frame.{layoutOf}
 use Rattle.sheet_file.specs.declared.Settings.{Settings}

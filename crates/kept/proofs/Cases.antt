@@ -8,7 +8,8 @@ use Rattle.folds.specs.Column.{overlaid}
 use Rattle.view.specs.View.{View}
 use Rattle.cells.specs.Points.{Point, keysOf, indicesOf}
 use Rattle.grid.specs.Tables.{byIdxOf}
-use Rattle.grid.specs.Views.{viewOf, view-is}
+use Rattle.grid.specs.Views.{viewOf}
+use Rattle.grid.proofs.Views.{view-is}
 use Rattle.sheet_file.specs.Bytes.{Bytes}
 use Rattle.sheet_file.specs.declared.Settings.{Settings}
 use Rattle.points.specs.declared.Table.{Table}
