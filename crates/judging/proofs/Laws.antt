@@ -1,0 +1,81 @@
+-- The arrays of points in cell order are as the filters ask, and what is judged of them is what is judged of the points. Assumes nothing.
+use mathlib.Core.Path.{_≡_, sym, ap, _∙_}
+use mathlib.Core.Bool.{true, false, true≢false}
+use mathlib.Core.List.{List}
+use Prim.Native.Nat.{ℕ, _<_}
+use lib.Dec.{T}
+use lib.ListN.{length, getD}
+use lib.Ieee.{Float, nan, inf, fin}
+use lib.Ieee.Scale.{finite}
+use Rattle.folds.specs.Arith.{f32}
+use Rattle.folds.specs.Below.{or-none}
+use Rattle.folds.specs.Column.{column-at}
+use Rattle.view.specs.View.{View, maxPoints, viewAt, Finite}
+use Rattle.cells.specs.Points.{Point, nowhere, keysOf, indicesOf, xsOf, ysOf}
+use Rattle.cells.specs.Cell.{Cell, cellsAt, cellsOf}
+use Rattle.cells.proofs.Keys.{cells-are}
+use Rattle.grid.specs.Tables.{ranksOf}
+use Rattle.grid.specs.InOrder.{CellOrder}
+use Rattle.grid.specs.Views.{viewOf}
+use Rattle.grid.proofs.InOrder.{keys-ready}
+use Rattle.grid.proofs.Views.{view-is, ranks-ranked}
+use Rattle.grid.proofs.Standing.{keys-small}
+use Rattle.sheet_file.specs.Limit.{outside}
+use Rattle.sheet_file.specs.declared.Settings.{Settings}
+use Rattle.points.specs.Refusals.{offLimit}
+use Rattle.points.specs.Table.{Tabled}
+use Rattle.points.specs.declared.Table.{Table}
+use Rattle.drop_set.specs.Filters.{judgedOf}
+use Rattle.drop_set.specs.Given.{Celled}
+use Rattle.judged.specs.declared.Judged.{Judged}
+use Rattle.judging.specs.Judging.{Arrays, judgedBy, judgedFor}
+
+-- what the filters ask of the arrays of a table
+pub celled : (n : ℕ) (t : Table) {ranks : List ℕ} → Arrays n t → ranks ≡ ranksOf n (t .keys) (t .idx) → Celled n ranks (t .keys) (t .x) (t .y)
+celled n t a e = record {
+  ready = record { ranked = rw e (ranks-ranked n (t .keys) (t .idx) (a .keys .few)); finite-x = a .finite-x; finite-y = a .finite-y };
+  cells = keys-small (t .keys) n (a .keys);
+}
+
+inside-finite : (x : Float) → outside x ≡ false → T (finite x)
+inside-finite nan e = absurd (true≢false e)
+inside-finite (inf s) e = absurd (true≢false e)
+inside-finite (fin s m k) e = tt
+
+-- what is judged, by the arrays alone
+judgedFrom : Settings → ℕ → List ℕ → List ℕ → List Float → List Float → Judged
+judgedFrom s n keys idx xs ys = judgedOf s (viewAt n (ranksOf n keys idx) xs ys) (cellsAt keys)
+
+same-arrays : (s : Settings) {n m : ℕ} {a a′ b b′ : List ℕ} {x x′ y y′ : List Float} → n ≡ m → a ≡ a′ → b ≡ b′ → x ≡ x′ → y ≡ y′
+    → judgedOf s (viewAt n (ranksOf n a b) x y) (cellsAt a) ≡ judgedFrom s m a′ b′ x′ y′
+unfolding judgedFrom
+same-arrays s {n} {m} {a} {a′} {b} {b′} {x} {x′} {y} {y′} e f g h i =
+    ap (λ (k : ℕ). judgedFrom s k a b x y) e ∙ ap (λ (l : List ℕ). judgedFrom s m l b x y) f ∙ ap (λ (l : List ℕ). judgedFrom s m a′ l x y) g
+    ∙ ap (λ (l : List Float). judgedFrom s m a′ b′ l y) h ∙ ap (judgedFrom s m a′ b′ x′) i
+
+from-points : (s : Settings) (ps : List Point) → CellOrder ps → judgedFrom s (length ps) (keysOf ps) (indicesOf ps) (xsOf ps) (ysOf ps) ≡ judgedFor s ps
+unfolding judgedFrom judgedFor
+from-points s ps o = ap (λ (w : View). judgedOf s w (cellsAt (keysOf ps))) (view-is ps o) ∙ ap (λ (cell : ℕ → Cell). judgedOf s (viewOf ps) cell) (cells-are ps (o .inside))
+
+module _ (ps : List Point) (o : CellOrder ps) (limits : (k : ℕ) → k < length ps → offLimit (getD ps k nowhere) ≡ false) where
+  limited : (k : ℕ) → k < length ps → (outside (f32 (getD ps k nowhere .x)) ≡ false) × (outside (f32 (getD ps k nowhere .y)) ≡ false)
+  limited k h = or-none _ _ (limits k h)
+
+  finite-xs : Finite (length ps) (xsOf ps)
+  unfolding xsOf
+  finite-xs k h = rw (column-at maxPoints nan (length ps) (λ (k : ℕ). f32 (getD ps k nowhere .x)) k h) (inside-finite (f32 (getD ps k nowhere .x)) (limited k h .0))
+
+  finite-ys : Finite (length ps) (ysOf ps)
+  unfolding ysOf
+  finite-ys k h = rw (column-at maxPoints nan (length ps) (λ (k : ℕ). f32 (getD ps k nowhere .y)) k h) (inside-finite (f32 (getD ps k nowhere .y)) (limited k h .1))
+
+  module _ (n number : ℕ) (t : Table) (size : n ≡ length ps) (h : Tabled number ps t) where
+    pub arrays-ready : Arrays n t
+    arrays-ready = record {
+      keys = rw (size, h .keys-are) (keys-ready ps o);
+      finite-x = rw (size, h .xs-are) finite-xs;
+      finite-y = rw (size, h .ys-are) finite-ys;
+    }
+
+    pub judged-for : (s : Settings) → judgedBy s n t ≡ judgedFor s ps
+    judged-for s = same-arrays s size (h .keys-are) (h .indices-are) (h .xs-are) (h .ys-are) ∙ from-points s ps o

@@ -1,0 +1,22 @@
+-- `judging::judge` meets its contract. Assumes nothing.
+use mathlib.Core.Path.{refl, _∙_}
+use Rattle.judging.proofs.Laws.{celled}
+use borrow.Author.Needs.{needs}
+use Rattle.judging.proofs.judge.Statement.{statement}
+use Rattle.judging.proofs.judge.Tie as tie
+
+fill-requires : tie.Need-fill-requires
+fill-requires c κs = (c .before .before .before .before .before .before .before .pre .keys, refl)
+
+judge-requires : tie.Need-judge-requires
+judge-requires c κs =
+    let f = c .before .before .before .before in
+    let a = f .before .before .before .before .before .before .before .before in
+    celled (a .args .n) (a .args .table) (a .pre) (f .fill .ensures)
+
+returns : tie.Need-returns
+returns c = c .judge .ensures ∙ rw (c .before .before .before .before .before .fill .ensures)
+
+pub judge-spec : {M : Type 1} → statement M
+judge-spec = tie.close
+    (tie.spec fill-requires judge-requires returns)
