@@ -31,7 +31,7 @@ module _ (n : ℕ) (ranks : List ℕ) (xs ys : List Float) where
   unfolding degreeAt
   degree-same k = refl
 
-  abbrev between : ℕ → ℕ → Float
+  abbrev pub between : ℕ → ℕ → Float
   between a b = normOf (getD xs b nan ⊖ getD xs a nan) (getD ys b nan ⊖ getD ys a nan)
 
   pub kink-is : (inward k a b c : ℕ) → a ≡ rankAt w k inward → b ≡ rankAt w a inward → c ≡ rankAt w b inward

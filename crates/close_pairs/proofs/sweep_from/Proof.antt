@@ -63,10 +63,13 @@ unfolding close squareOf
 loop-again c =
     let w = c .before .before .before .before .before .before .before in
     let l = w .before .before .before .loop in
-    let g = w .before .before .before .before .before .before .args in
-    (omega arith, omega arith,
-    marked-more (λ (p m : ℕ). pairHits (g .order .now) (g .x .now) (g .y .now) (g .limit) (g .i) p m) (l .j) (l .inv .2)
-    (marked-as _ _ (λ m t. rw (w .wide2 .ensures, l .inv .3) (pair-is (g .order .now) (g .x .now) (g .y .now) (g .limit) (g .n) (g .i) (l .j) m (l .inv .0))) (c .mark-pair .ensures)), l .inv .3)
+    let g = w .before .before .before .before .before .before .args in (
+      omega arith,
+      omega arith,
+      marked-more (λ (p m : ℕ). pairHits (g .order .now) (g .x .now) (g .y .now) (g .limit) (g .i) p m) (l .j) (l .inv .2)
+          (marked-as _ _ (λ m t. rw (w .wide2 .ensures, l .inv .3) (pair-is (g .order .now) (g .x .now) (g .y .now) (g .limit) (g .n) (g .i) (l .j) m (l .inv .0))) (c .mark-pair .ensures)),
+      l .inv .3,
+    )
 
 returns : tie.Need-returns Inv-loop μ-loop
 returns c =
