@@ -28,7 +28,7 @@ pub fn v_part(key: u32) -> u32
 }
 
 // A pattern's u or v plus BIAS, modulo 2^32.
-pub fn bias(b: u32) -> u32
+fn bias(b: u32) -> u32
     ensures { λ r. ⌜ r ≡ biased b ⌝ }
 {
     std::num::wrapping_add_u32(b, BIAS)
