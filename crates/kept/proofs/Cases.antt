@@ -1,79 +1,86 @@
 -- The two cases of the ruling, as the code meets them. Assumes nothing.
-use mathlib.Core.Path.{_≡_, refl, ap, _∙_}
+use mathlib.Core.Path.{_≡_, refl, sym, ap, _∙_}
 use mathlib.Core.List.{List}
-use Prim.Native.Nat.{ℕ, _*_}
+use Prim.Native.Nat.{ℕ, _*_, _≤_}
 use native.Mathlib.Omega.{arith}
 use lib.ListN.{length}
-use Rattle.folds.specs.Column.{overlaid}
-use Rattle.view.specs.View.{View}
-use Rattle.cells.specs.Points.{Point, keysOf, indicesOf}
-use Rattle.grid.specs.Tables.{byIdxOf}
-use Rattle.grid.specs.Views.{viewOf}
-use Rattle.grid.proofs.Views.{view-is}
+use borrow.Author.Tests.{ltb-false}
+use Rattle.view.specs.View.{maxPoints}
+use Rattle.cells.specs.Points.{Point}
 use Rattle.sheet_file.specs.Bytes.{Bytes}
+use Rattle.sheet_file.specs.Frame.{layoutOf}
 use Rattle.sheet_file.specs.declared.Settings.{Settings}
-use Rattle.points.specs.declared.Table.{Table}
-use Rattle.points.specs.Table.{Tabled}
-use Rattle.ruling.specs.Ruling.{Ruling, refused, accepted, rulingOf}
-use Rattle.ruling.proofs.Given.{is-given}
+use Rattle.ruling.specs.Ruling.{Ruling, refused, accepted, rulingOf, applies}
 use Rattle.ruling.specs.Sheet.{Ruled}
-use Rattle.ruling.proofs.Standing.{sound}
 use Rattle.ruling.specs.declared.Sheet.{Sheet}
-use Rattle.rows.specs.Rows.{rowByte}
-use Rattle.kept.specs.Marks.{countIn}
-use Rattle.kept.specs.Answer.{shownOf, answerOf, rowsAfter}
-use Rattle.kept.proofs.Arrays.{sheetView, arrays-ready, rows-fit}
-use Rattle.kept.specs.Ready.{Taken, Written, shownBy}
+use Rattle.ruling.proofs.Given.{is-given, none-applies}
+use Rattle.ruling.proofs.Standing.{Sound, sound, accepted-file}
+use Rattle.judged.specs.Shown.{shownAt}
+use Rattle.judged.specs.declared.Judged.{Judged}
+use Rattle.judging.specs.Judging.{Arrays, judgedBy, judgedFor}
+use Rattle.judging.proofs.Laws.{arrays-ready, judged-for}
+use Rattle.rows.specs.Rows.{rowSize, rowsOver}
+use Rattle.kept.specs.Answer.{answerOf, rowsAfter}
 use Rattle.kept.specs.declared.Answer.{Answer}
 use Rattle.kept.specs.declared.Answer.the-variants.{Refused, Accepted}
 
--- what the table's arrays say of the points
-by-points : {B : Type 0} (f : ℕ → View → List ℕ → List ℕ → B) (n number : ℕ) (t : Table) (ps : List Point) → n ≡ length ps → Tabled number ps t
-    → f n (sheetView n (t .keys) (t .idx) (t .x) (t .y)) (t .keys) (byIdxOf n (t .idx)) ≡ f (length ps) (viewOf ps) (keysOf ps) (byIdxOf (length ps) (indicesOf ps))
-by-points f n number t ps e h =
-    rw (e, h .keys-are, h .indices-are, h .xs-are, h .ys-are) (ap (λ (v : View). f (length ps) v (keysOf ps) (byIdxOf (length ps) (indicesOf ps))) (view-is ps))
+-- the buffer has room for the rows
+pub rows-fit : (file : List ℕ) (room : ℕ) (s : Settings) (ps : List Point) → rulingOf file room ≡ accepted s ps → rowSize * length ps ≤ room
+unfolding applies
+rows-fit file room s ps e = omega (arith, accepted-file file room s ps e .size, ltb-false room (rowSize * layoutOf file .count) (none-applies file room e 3))
 
-module _ (s rows : List ℕ) (bytes : Bytes s) (r : Sheet) where
+module _ (file rows : List ℕ) (bytes : Bytes file) (r : Sheet) where
   -- the ruling is of an accepted file, and the sheet is that of its points
   record Accepting : Type 0 where
     settings : Settings
     points : List Point
-    ruled : rulingOf s (length rows) ≡ accepted settings points
+    ruled : rulingOf file (length rows) ≡ accepted settings points
     sheet : Ruled (accepted settings points) r
 
-  accepting : (x : Ruling) → rulingOf s (length rows) ≡ x → Ruled x r → r .table .number ≡ 0 → Accepting
-  accepting (refused k) e h z = absurd (omega (arith, z, h .table-is .number-is, is-given s (length rows) k e .low))
-  accepting (accepted w ps) e h z = record { settings = w; points = ps; ruled = e; sheet = h }
+  accepting : (x : Ruling) → rulingOf file (length rows) ≡ x → Ruled x r → r .table .number ≡ 0 → Accepting
+  accepting (refused k) e h z = absurd (omega (arith, z, h .table-is .number-is, is-given file (length rows) k e .low))
+  accepting (accepted s ps) e h z = record { settings = s; points = ps; ruled = e; sheet = h }
 
-  taken-by : Accepting → Taken (r .count) (r .table) rows
-  taken-by o =
-      let t = o .sheet .table-is in
-      record {
-        arrays = rw (o .sheet .count-is, t .keys-are, t .xs-are, t .ys-are) (arrays-ready (o .points) (sound s (length rows) (o .settings) (o .points) bytes (o .ruled)));
-        room = rw (o .sheet .count-is) (rows-fit s (length rows) (o .settings) (o .points) (o .ruled));
-      }
+  module _ (o : Accepting) where
+    standing : Sound (o .points)
+    standing = sound file (length rows) (o .settings) (o .points) bytes (o .ruled)
 
-  done-by : Accepting → {a : Answer} {after : List ℕ} → Written (r .settings) (r .count) (r .table) rows after a → (a ≡ answerOf s (length rows)) × (after ≡ rowsAfter s rows)
-  unfolding answerOf rowsAfter shownOf
-  done-by o {a} {after} h =
-      let w = o .settings in
-      let q = rw (o .sheet .settings-are) at h in
-      rw (o .ruled) (
-        q .answer ∙ by-points (λ n v keys byIdx. Accepted (record { points = n; components = countIn w v keys })) (r .count) 0 (r .table) (o .points) (o .sheet .count-is) (o .sheet .table-is),
-        q .rows ∙ by-points (λ n v keys byIdx. overlaid (28 * n) (rowByte (shownBy w v keys byIdx)) rows) (r .count) 0 (r .table) (o .points) (o .sheet .count-is) (o .sheet .table-is),
-      )
+    arrays-by : Arrays (r .count) (r .table)
+    arrays-by = arrays-ready (o .points) (standing .order) (standing .limits) (r .count) 0 (r .table) (o .sheet .count-is) (o .sheet .table-is)
 
-  refused-by : (x : Ruling) → rulingOf s (length rows) ≡ x → Ruled x r → (r .table .number ≡ 0 → ⊥) → (Refused (r .table .number) ≡ answerOf s (length rows)) × (rows ≡ rowsAfter s rows)
+    judged-by : judgedBy (r .settings) (r .count) (r .table) ≡ judgedFor (o .settings) (o .points)
+    judged-by =
+        ap (λ (s : Settings). judgedBy s (r .count) (r .table)) (o .sheet .settings-are)
+        ∙ judged-for (o .points) (standing .order) (standing .limits) (r .count) 0 (r .table) (o .sheet .count-is) (o .sheet .table-is) (o .settings)
+
+    fit-by : (r .count ≤ maxPoints) × (rowSize * r .count ≤ length rows)
+    fit-by = rw (o .sheet .count-is) (standing .order .few, rows-fit file (length rows) (o .settings) (o .points) (o .ruled))
+
+    done-by : {j : Judged} {after : List ℕ} → j ≡ judgedBy (r .settings) (r .count) (r .table) → after ≡ rowsOver (r .count) (shownAt j) rows
+        → (Accepted (record { points = r .count; components = j .components }) ≡ answerOf file (length rows)) × (after ≡ rowsAfter file rows)
+    unfolding answerOf rowsAfter
+    done-by {j} {after} e f =
+        let q : j ≡ judgedFor (o .settings) (o .points) = e ∙ judged-by in
+        rw (o .ruled) (
+          ap (λ (n : ℕ). Accepted (record { points = n; components = j .components })) (o .sheet .count-is) ∙ ap (λ (x : Judged). Accepted (record { points = length (o .points); components = x .components })) q,
+          f ∙ ap (λ (n : ℕ). rowsOver n (shownAt j) rows) (o .sheet .count-is) ∙ ap (λ (x : Judged). rowsOver (length (o .points)) (shownAt x) rows) q,
+        )
+
+  refused-by : (x : Ruling) → rulingOf file (length rows) ≡ x → Ruled x r → (r .table .number ≡ 0 → ⊥) → (Refused (r .table .number) ≡ answerOf file (length rows)) × (rows ≡ rowsAfter file rows)
   unfolding answerOf rowsAfter
   refused-by (refused k) e h f = rw e (ap Refused (h .table-is .number-is), refl)
-  refused-by (accepted w ps) e h f = absurd (f (h .table-is .number-is))
+  refused-by (accepted s ps) e h f = absurd (f (h .table-is .number-is))
 
-  module _ (h : Ruled (rulingOf s (length rows)) r) where
-    pub taken : r .table .number ≡ 0 → Taken (r .count) (r .table) rows
-    taken z = taken-by (accepting (rulingOf s (length rows)) refl h z)
+  module _ (h : Ruled (rulingOf file (length rows)) r) where
+    pub arrays : r .table .number ≡ 0 → Arrays (r .count) (r .table)
+    arrays z = arrays-by (accepting (rulingOf file (length rows)) refl h z)
 
-    pub done : r .table .number ≡ 0 → {a : Answer} {after : List ℕ} → Written (r .settings) (r .count) (r .table) rows after a → (a ≡ answerOf s (length rows)) × (after ≡ rowsAfter s rows)
-    done z = done-by (accepting (rulingOf s (length rows)) refl h z)
+    pub fit : r .table .number ≡ 0 → (r .count ≤ maxPoints) × (rowSize * r .count ≤ length rows)
+    fit z = fit-by (accepting (rulingOf file (length rows)) refl h z)
 
-    pub turned : (r .table .number ≡ 0 → ⊥) → (Refused (r .table .number) ≡ answerOf s (length rows)) × (rows ≡ rowsAfter s rows)
-    turned = refused-by (rulingOf s (length rows)) refl h
+    pub done : r .table .number ≡ 0 → {j : Judged} {after : List ℕ} → j ≡ judgedBy (r .settings) (r .count) (r .table) → after ≡ rowsOver (r .count) (shownAt j) rows
+        → (Accepted (record { points = r .count; components = j .components }) ≡ answerOf file (length rows)) × (after ≡ rowsAfter file rows)
+    done z = done-by (accepting (rulingOf file (length rows)) refl h z)
+
+    pub turned : (r .table .number ≡ 0 → ⊥) → (Refused (r .table .number) ≡ answerOf file (length rows)) × (rows ≡ rowsAfter file rows)
+    turned = refused-by (rulingOf file (length rows)) refl h

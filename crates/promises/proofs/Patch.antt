@@ -24,8 +24,7 @@ use Rattle.patches.specs.Search.{Offsets}
 use Rattle.patches.proofs.Surviving.{survives-lt}
 use Rattle.patches.proofs.Closure.{reach-to}
 use Rattle.patches.proofs.Labelling.{joins}
-use Rattle.patches.proofs.Lattices.{square-paired}
-use Rattle.patches.proofs.Agreeing.{square-fit}
+use Rattle.patches.proofs.Lattices.{square-paired, square-offsets}
 use Rattle.components.specs.Components.{winnerOf, inPatch, inOtherPatch, patchCount, filterOf}
 use Rattle.components.specs.WholePatches.{KeptPatch, PatchesCounted}
 use Rattle.components.proofs.Whole.{winner-kept, labels-counted}

@@ -24,8 +24,7 @@ use Rattle.sheet_file.specs.declared.Layout.{Layout}
 use Rattle.sheet_file.specs.declared.Settings.{Settings}
 use Rattle.points.specs.Records.{pointsIn}
 use Rattle.points.specs.Refusals.{offRange}
-use Rattle.components.specs.WholePatches.{WholePatch, Smallest}
-use Rattle.components.specs.Kept.{Kept, Counted}
+use Rattle.components.specs.WholePatches.{WholePatch, Smallest, KeptPatch, PatchesCounted}
 use Rattle.ruling.specs.Ruling.{accepted, rulingOf, applies}
 use Rattle.ruling.proofs.Header.{frame-same}
 use Rattle.ruling.proofs.Standing.{accepted-file, accepted-order}

@@ -1,20 +1,29 @@
 -- `kept::keep_sheet` meets its contract. Assumes nothing.
+use Rattle.kept.proofs.Cases.{arrays, fit, done, turned}
 use borrow.Author.Needs.{needs}
-use Rattle.kept.proofs.Cases.{taken, done, turned}
 use Rattle.kept.proofs.keep_sheet.Statement.{statement}
 use Rattle.kept.proofs.keep_sheet.Tie as tie
 
-keep-points-requires : tie.Need-keep-points-requires
-keep-points-requires c κs =
-    let k = c .before .before .before .before .before in
+judge-requires : tie.Need-judge-requires
+judge-requires c κs =
+    let k = c .before .before .before .before in
     let a = k .before .args in
-    taken (a .file .now) (a .rows .now) (λ i. k .shared-slice-known .given i .fits) (a .sheet) (k .before .pre) (c .before .if1 .taken)
+    arrays (a .file .now) (a .rows .now) (λ i. k .shared-slice-known .given i .fits) (a .sheet) (k .before .pre) (c .if1 .taken)
+
+write-rows-requires : tie.Need-write-rows-requires
+write-rows-requires c κs =
+    let t = c .before .before in
+    let k = t .before .before .before .before in
+    let a = k .before .args in
+    fit (a .file .now) (a .rows .now) (λ i. k .shared-slice-known .given i .fits) (a .sheet) (k .before .pre) (t .if1 .taken)
 
 returns : tie.Need-returns
 returns c =
-    let k = c .before .before .before .before .before .before .before .before in
+    let j = c .before .before .before .before in
+    let t = j .before in
+    let k = t .before .before .before .before in
     let a = k .before .args in
-    done (a .file .now) (a .rows .now) (λ i. k .shared-slice-known .given i .fits) (a .sheet) (k .before .pre) (c .before .before .before .before .if1 .taken) (c .before .before .keep-points .ensures)
+    done (a .file .now) (a .rows .now) (λ i. k .shared-slice-known .given i .fits) (a .sheet) (k .before .pre) (t .if1 .taken) (j .judge .ensures) (c .before .before .write-rows .ensures)
 
 returns-2 : tie.Need-returns-2
 returns-2 c =
@@ -23,6 +32,5 @@ returns-2 c =
     turned (a .file .now) (a .rows .now) (λ i. k .shared-slice-known .given i .fits) (a .sheet) (k .before .pre) (c .if1 .left)
 
 pub keep-sheet-spec : {M : Type 1} → statement M
-keep-sheet-spec =
-    tie.close
-    (tie.spec keep-points-requires (λ c. search needs) returns returns-2)
+keep-sheet-spec = tie.close
+    (tie.spec judge-requires write-rows-requires (λ c. search needs) returns returns-2)
