@@ -21,6 +21,10 @@ abbrev alike : Bool → Bool → Bool
 alike true b = b
 alike false b = not b
 
+pub not-not : (b : Bool) → not (not b) ≡ b
+not-not true = refl
+not-not false = refl
+
 unset : (b : Bool) → not b ≡ true → b ≡ false
 unset true e = absurd (true≢false (sym e))
 unset false e = refl
@@ -218,10 +222,6 @@ module _ (n k : ℕ) (inside : k < n) where
       some-ext _ (λ (f : ℕ). hasMark f (getD m k 0)) filterCount (λ f h. go f h (eqb f (g .filter)) refl s)
       ∙ sym (ap not (zero-means l [] e (omega arith) nothing-plain) ∙ not-not (some (λ (f : ℕ). hasMark f (getD m k 0)) filterCount))
     where
-      not-not : (b : Bool) → not (not b) ≡ b
-      not-not true = refl
-      not-not false = refl
-
       go : (f : ℕ) → f < filterCount → (b : Bool) → eqb f (g .filter) ≡ b → getD (markedByAll n l []) k 0 < 256
           → not b && hasMark f (getD (markedByAll n (l ++ g ∷ []) []) k 0) ≡ hasMark f (getD (markedByAll n l []) k 0)
       go f h true q s = sym (rw (eqb-true f (g .filter) q) (not-marked n k inside l [] (g .filter) i e a (omega arith) ∙ none-set (g .filter) i))

@@ -1,7 +1,7 @@
 -- The marks of a judged sheet, bit by bit: each is its filter's, there is no other, and a survivor's byte was 0 before the component filter.
 -- Assumes nothing.
 use mathlib.Core.Path.{_≡_, refl, sym, ap, _∙_}
-use mathlib.Core.Bool.{Bool, not, _&&_}
+use mathlib.Core.Bool.{not, _&&_}
 use mathlib.Core.List.{List, [], _∷_, _++_}
 use Prim.Native.Nat.{ℕ, _<_}
 use native.Mathlib.Omega.{arith}
@@ -16,12 +16,12 @@ use Rattle.grid.specs.Views.{viewOf}
 use Rattle.sheet_file.specs.declared.Settings.{Settings}
 use Rattle.marks.specs.Filters.{filterCount, validate, orientation, wrong, component}
 use Rattle.marks.specs.Byte.{hasMark, Marking, markedByAll}
-use Rattle.marks.proofs.Byte.{in-two, one-more, marked-by, others-than, next-zero, all-small, by-same}
+use Rattle.marks.proofs.Byte.{not-not, in-two, one-more, marked-by, others-than, next-zero, all-small, by-same}
 use Rattle.validate.specs.Validate.{validateMark}
 use Rattle.orientation.specs.Orientation.{orientationMark}
-use Rattle.drop_set.specs.Filters.{wrongMark, pointFilters, patchFilters, componentMarked, componentsIn, patchedOf, pointMarks, measuredOf, judgedOf}
+use Rattle.drop_set.specs.Filters.{wrongMark, pointFilters, patchFilters, componentMarked, patchedOf, pointMarks, measuredOf, judgedOf}
 use Rattle.judging.specs.Judging.{judgedFor}
-use Rattle.promises.specs.Words.{marksIn, hasOther, survivor, keptRank}
+use Rattle.promises.specs.Words.{survivor, keptRank}
 
 module _ (s : Settings) (w : View) (cell : ℕ → Cell) where
   abbrev all : List Marking

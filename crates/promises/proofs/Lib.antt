@@ -3,3 +3,4 @@ pub mod Patch
 pub mod RowMarks
 pub mod Moving
 pub mod Unswitched
+pub mod Theorems

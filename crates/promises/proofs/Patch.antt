@@ -18,6 +18,7 @@ use Rattle.grid.proofs.Alike.{one-index}
 use Rattle.grid.proofs.Joined.{touch-joined}
 use Rattle.sheet_file.specs.declared.Settings.{Settings}
 use Rattle.marks.specs.Marks.{isSet}
+use Rattle.marks.proofs.Byte.{not-not}
 use Rattle.patches.specs.Patches.{survives, linked, patchLabels}
 use Rattle.patches.specs.Reach.{Reach, here, step, Mirrored}
 use Rattle.patches.specs.Search.{Offsets}
@@ -31,12 +32,8 @@ use Rattle.components.proofs.Whole.{winner-kept, labels-counted}
 use Rattle.components.proofs.Marking.{mark-distinct, other-not}
 use Rattle.drop_set.specs.Filters.{sidesOf, componentMarked, componentsIn, patchedOf, measuredOf, judgedOf}
 use Rattle.judging.specs.Judging.{judgedFor}
-use Rattle.promises.specs.Words.{DistinctIndices, marksIn, hasOther, survivor, joined, keptRank}
+use Rattle.promises.specs.Words.{DistinctIndices, hasOther, survivor, joined, keptRank}
 use Rattle.promises.proofs.Bits.{dropped, survivor-is, kept-is}
-
-not-not : (b : Bool) → not (not b) ≡ b
-not-not true = refl
-not-not false = refl
 
 and-assoc : (a b c : Bool) → a && (b && c) ≡ (a && b) && c
 and-assoc true b c = refl
