@@ -5,6 +5,8 @@ use mathlib.Core.List.{List, []}
 use Prim.Native.Nat.{ℕ, _≤_}
 use lib.Dec.{eqb}
 use lib.ListN.{getD, replicate}
+use native.Mathlib.Omega.{arith}
+use Rattle.folds.specs.Below.{tally, tally-le}
 use Rattle.folds.specs.Column.{column, filled, replicate-at}
 use Rattle.folds.specs.Marked.{bit}
 use Rattle.view.specs.View.{View, maxPoints}
@@ -15,11 +17,12 @@ use Rattle.marks.specs.Marks.{isSet}
 use Rattle.marks.specs.Byte.{markedBy, markedByAll}
 use Rattle.marks.proofs.Guards.{set-is}
 use Rattle.marks.proofs.Byte.{by-same}
-use Rattle.validate.specs.Validate.{validateMark, validateMarks, residualsOf, figuresOf, boundaryIn, validatedOf}
+use Rattle.validate.specs.Validate.{validateMark, validateMarks, validatedOf}
 use Rattle.validate.specs.declared.Validated.{Validated}
 use Rattle.orientation.specs.Orientation.{orientationMark, orientationOf}
 use Rattle.wrong_label_filters.specs.WrongLabel.{wrongLabelMark, wrongLabelOf}
-use Rattle.components.specs.Components.{filterOf}
+use Rattle.components.specs.Components.{filterOf, patchCount}
+use Rattle.patches.specs.Patches.{patchLabels}
 use Rattle.components.specs.declared.ComponentFilter.{ComponentFilter}
 use Rattle.judged.specs.declared.Judged.{Judged}
 use Rattle.drop_set.specs.declared.DropSet.{DropSet}
@@ -107,3 +110,15 @@ module _ (s : Settings) (w : View) where
       → _≡_ {A = Judged} (record { marks = d .marks; components = d .components; has = m .has; value = m .value; figures = m .figures; boundary = m .boundary }) (judgedOf s w cell)
   unfolding judgedBy
   judged-is cell {m} e f = ap (judgedBy m) f ∙ ap (λ (x : Judged). judgedBy x (patchedOf s w (x .marks))) e ∙ both-parts cell
+
+-- there are at most as many patches as points
+pub components-few : (s : Settings) (w : View) (marks : List ℕ) → componentsIn s w marks ≤ w .count
+unfolding componentsIn filterOf patchCount
+components-few s w marks = go (s .«apply_largest_component»)
+  where
+    labels : List ℕ
+    labels = patchLabels w (sidesOf s) marks
+
+    go : (b : Bool) → cond b (tally (λ (k : ℕ). eqb (getD labels k 0) k) (w .count)) 0 ≤ w .count
+    go true = tally-le (λ (k : ℕ). eqb (getD labels k 0) k) (w .count)
+    go false = omega arith

@@ -1,8 +1,8 @@
 -- The arrays of points in cell order are as the filters ask, and what is judged of them is what is judged of the points. Assumes nothing.
-use mathlib.Core.Path.{_≡_, sym, ap, _∙_}
+use mathlib.Core.Path.{_≡_, ap, _∙_}
 use mathlib.Core.Bool.{true, false, true≢false}
 use mathlib.Core.List.{List}
-use Prim.Native.Nat.{ℕ, _<_}
+use Prim.Native.Nat.{ℕ, _≤_, _<_}
 use lib.Dec.{T}
 use lib.ListN.{length, getD}
 use lib.Ieee.{Float, nan, inf, fin}
@@ -25,7 +25,8 @@ use Rattle.sheet_file.specs.declared.Settings.{Settings}
 use Rattle.points.specs.Refusals.{offLimit}
 use Rattle.points.specs.Table.{Tabled}
 use Rattle.points.specs.declared.Table.{Table}
-use Rattle.drop_set.specs.Filters.{judgedOf}
+use Rattle.drop_set.specs.Filters.{judgedOf, measuredOf, patchedOf}
+use Rattle.drop_set.proofs.Laws.{components-few}
 use Rattle.drop_set.specs.Given.{Celled}
 use Rattle.judged.specs.declared.Judged.{Judged}
 use Rattle.judging.specs.Judging.{Arrays, judgedBy, judgedFor}
@@ -79,3 +80,8 @@ module _ (ps : List Point) (o : CellOrder ps) (limits : (k : ℕ) → k < length
 
     pub judged-for : (s : Settings) → judgedBy s n t ≡ judgedFor s ps
     judged-for s = same-arrays s size (h .keys-are) (h .indices-are) (h .xs-are) (h .ys-are) ∙ from-points s ps o
+
+-- there are at most as many patches as points
+pub few-components : (s : Settings) (ps : List Point) → judgedFor s ps .components ≤ length ps
+unfolding judgedFor judgedOf patchedOf viewOf
+few-components s ps = components-few s (viewOf ps) (measuredOf s (viewOf ps) (cellsOf ps) .marks)

@@ -3,7 +3,7 @@ use mathlib.Core.Path.{sym}
 use lib.Seq.{length-take-le}
 use native.Mathlib.Omega.{arith}
 use borrow.Author.Needs.{needs}
-use Rattle.sheet_listing.specs.Laws.{shown-within}
+use Rattle.sheet_listing.proofs.Laws.{shown-within}
 use Rattle.sheet.proofs.print_listing.Statement.{statement}
 use Rattle.sheet.proofs.print_listing.Tie as tie
 

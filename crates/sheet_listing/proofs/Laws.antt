@@ -10,19 +10,20 @@ use borrow.Author.Tests.{leb-true}
 use Rattle.sheet_file.specs.Bytes.{Bytes}
 use Rattle.sheet_file.specs.Grammar.{longest}
 use Rattle.ruling.proofs.Bounds.{cut-ruling}
-use Rattle.kept.specs.Answer.{rowsAfter}
+use Rattle.ruling.specs.Ruling.{rulingOf}
 use Rattle.text.specs.Answer.{Shows}
 use Rattle.text.specs.declared.Written.{Written}
 use Rattle.text.specs.declared.Written.the-variants.{Whole, NoRoom}
-use Rattle.sheet_listing.specs.Text.{rowsSize, noRows, textOf, text-is}
+use Rattle.sheet_listing.specs.Text.{rowsSize, textBy, textOf}
 
-rows-cut : (s rows : List ℕ) → Bytes s → rowsAfter (take (longest + 1) s) rows ≡ rowsAfter s rows
-unfolding rowsAfter
-rows-cut s rows b = rw (cut-ruling s b (length rows))
+-- the text, as one step
+pub text-is : (file : List ℕ) → textOf file ≡ textBy (rulingOf file rowsSize)
+unfolding textOf
+text-is file = refl
 
 -- cutting a file one byte after the length of the longest does not change what is printed
-pub cut-text : (s : List ℕ) → Bytes s → textOf (take (longest + 1) s) ≡ textOf s
-cut-text s b = text-is (take (longest + 1) s) ∙ rw (cut-ruling s b rowsSize, rows-cut s noRows b) (sym (text-is s))
+pub cut-text : (file : List ℕ) → Bytes file → textOf (take (longest + 1) file) ≡ textOf file
+cut-text file b = text-is (take (longest + 1) file) ∙ rw (cut-ruling file b rowsSize) (sym (text-is file))
 
 -- a text that is written whole ends within the buffer
 pub shown-within : {t before after : List ℕ} {r : Written} {n : ℕ} → Shows t before after r → r ≡ Whole n → n ≤ length before
