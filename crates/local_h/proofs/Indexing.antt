@@ -4,12 +4,12 @@ use mathlib.Core.List.{List}
 use mathlib.Core.Path.{_≡_, refl, sym, ap, _∙_}
 use Prim.Native.Nat.{ℕ, zero, suc, _≤_, _<_}
 use native.Mathlib.Omega.{arith}
-use lib.Dec.{eqb, ltb}
+use lib.Dec.{ltb}
 use lib.ListN.{getD, replicate, length-replicate, getD-replicate}
 use lib.Ieee.{Float, nan}
 use borrow.Author.Tests.{lt-ltb, le-ltb, ltb-true}
 use Rattle.folds.specs.Arith.{zeroF}
-use Rattle.folds.specs.Below.{fold, turn, some, last, last-ext, last-holds, last-miss, some-ext, some-fails, and-left, and-swap}
+use Rattle.folds.specs.Below.{fold, turn, some, last, last-ext, last-holds, last-miss, some-fails, and-left, and-swap}
 use Rattle.folds.specs.Column.{column, column-at, column-ext}
 use Rattle.folds.specs.Marked.{bit}
 use Rattle.folds.specs.Scattered.{Scattered, counts}
@@ -33,9 +33,9 @@ fold-value p f d e (suc n) h = go (p n) (fold-value p f d e n (omega arith))
     go false r = r
 
 -- what is read for rank k at the place of its index
-pub placed : (w : View) (t : ℕ → Bool) (value : ℕ → Float) {r : List Float} → Scattered nan (w .byIdx) t (λ k x. value k) (replicate maxPoints zeroF) (w .count) r
+pub value-placed : (w : View) (t : ℕ → Bool) (value : ℕ → Float) {r : List Float} → Scattered nan (w .byIdx) t (λ k x. value k) (replicate maxPoints zeroF) (w .count) r
     → (k : ℕ) → w .byIdx k < maxPoints → getD r (w .byIdx k) nan ≡ lastValue w t value k
-placed w t value f k h =
+value-placed w t value f k h =
     f .at (w .byIdx k) (omega (arith, length-replicate {A = Float} maxPoints zeroF))
     ∙ rw (getD-replicate {A = Float} maxPoints (w .byIdx k) zeroF nan h) (fold-value (counts (w .byIdx) t (w .byIdx k)) value zeroF (w .count) (w .count) (omega arith))
     ∙ ap (λ (j : ℕ). cond (ltb j (w .count)) (value j) zeroF) (last-ext _ _ (w .count) (w .count) (λ j l. and-swap (alike w j k) (t j)))

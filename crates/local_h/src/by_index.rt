@@ -2,8 +2,8 @@
 use view::MAX_POINTS;
 use view::RANKS_SIZE;
 ghost use mathlib.Core.Path.{_≡_};
-ghost use mathlib.Core.List.{List, []};
-ghost use Prim.Native.Nat.{ℕ, _≤_, _<_};
+ghost use mathlib.Core.List.{[]};
+ghost use Prim.Native.Nat.{ℕ, _<_};
 ghost use lib.ListN.{getD, replicate};
 ghost use lib.Ieee.{nan};
 ghost use Rattle.folds.specs.Arith.{zeroF};

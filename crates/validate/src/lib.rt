@@ -15,7 +15,6 @@ ghost use Rattle.folds.specs.Marked.{bit};
 ghost use Rattle.marks.specs.Marks.{isSet};
 ghost use Rattle.view.specs.View.{viewAt, maxPoints, Ranked};
 ghost use Rattle.cells.specs.Cell.{cellsAt};
-ghost use Rattle.edge_shape.specs.Figures.{noFigures};
 ghost use Rattle.validate.specs.Validate.{isReason, hasReason, validatedOf};
 ghost use Rattle.validate.specs.Parts.{Prepared, byRulesOf, byGateOf};
 

@@ -4,15 +4,14 @@ use mathlib.Core.Path.{_≡_, _∙_, ap}
 use native.Mathlib.Omega.{arith}
 use lib.ListN.{getD, length-replicate, replicate}
 use lib.Ieee.{Float, nan, div, ofBits}
-use Rattle.folds.specs.Arith.{_⊗_}
-use Rattle.folds.specs.Column.{column, Filling, fill-start, fill-more, filled}
+use Rattle.folds.specs.Column.{Filling, fill-start, fill-more, filled}
 use Rattle.folds.specs.Marked.{bit}
 use Rattle.cells.specs.Cell.{Cell, cellsAt}
 use Rattle.view.specs.View.{View, viewAt, maxPoints}
 use Rattle.local_h.specs.declared.Residual.{Residual}
 use Rattle.local_h.specs.declared.Residuals.{Residuals}
 use Rattle.local_h.specs.Residual.{residualAt}
-use Rattle.local_h.specs.ByIndex.{hasValue, valueOf, exceeds, isHigh, overAt, highAt, cellColumns}
+use Rattle.local_h.specs.ByIndex.{hasValue, valueOf, overAt, highAt, cellColumns}
 use borrow.Author.Needs.{needs}
 use Rattle.local_h.proofs.cell_residuals.Statement.{statement}
 use Rattle.local_h.proofs.cell_residuals.Tie as tie
@@ -51,16 +50,19 @@ loop-holds c = record {
 
 loop-again : tie.Need-loop-again Inv-loop μ-loop
 loop-again c =
-    let h = c .before .before .before .before .before in
-    let f = h .before .before .loop .inv in
+    let o = c .before .before in
+    let v = o .before .before in
+    let r = v .before .before .before in
+    let f = r .before .before .loop .inv in
     let n = length-replicate {A = ℕ} maxPoints 0 in
     let m = length-replicate {A = Float} maxPoints nan in
+    let e = r .local-h-residual .ensures in
     record {
       few = omega arith;
-      hases = fill-more (replicate maxPoints 0) 0 _ _ (omega arith) (rw (← h .local-h-residual .ensures) (c .before .before .before .has-value .ensures)) (f .hases);
-      values = fill-more (replicate maxPoints nan) nan _ _ (omega arith) (rw (← h .local-h-residual .ensures) (c .before .before .value-of .ensures)) (f .values);
-      overs = fill-more (replicate maxPoints 0) 0 _ _ (omega arith) (rw (← h .local-h-residual .ensures) (c .before .over-tolerance .ensures)) (f .overs);
-      highs = fill-more (replicate maxPoints 0) 0 _ _ (omega arith) (rw (← h .local-h-residual .ensures) (c .over-twice .ensures)) (f .highs);
+      hases = fill-more (replicate maxPoints 0) 0 _ _ (omega arith) (rw (← e) (v .before .has-value .ensures)) (f .hases);
+      values = fill-more (replicate maxPoints nan) nan _ _ (omega arith) (rw (← e) (v .value-of .ensures)) (f .values);
+      overs = fill-more (replicate maxPoints 0) 0 _ _ (omega arith) (rw (← e) (o .bit-of .ensures ∙ ap bit (o .before .exceeds-limit .ensures))) (f .overs);
+      highs = fill-more (replicate maxPoints 0) 0 _ _ (omega arith) (rw (← e) (c .bit-of2 .ensures ∙ ap bit (c .before .is-high .ensures))) (f .highs);
     }
 
 returns : tie.Need-returns Inv-loop μ-loop
@@ -69,6 +71,7 @@ returns c = let f = c .before .loop .inv in all-of _ _ _ _ _ _ _ _ _ (omega arit
 pub cell-residuals-spec : {M : Type 1} → statement M
 cell-residuals-spec =
     tie.close
-    (tie.spec Inv-loop μ-loop loop-holds (λ c κs. search needs) (λ c. search needs) (λ c. search needs) (λ c κs. search needs) (λ c. search needs)
-    (λ c κs. search needs) (λ c. search needs) (λ c. search needs) (λ c κs. search needs) (λ c. search needs) (λ c κs. search needs)
-    (λ c. search needs) (λ c. search needs) (λ c. search needs) loop-again returns)
+    (tie.spec Inv-loop μ-loop loop-holds (λ c κs. search needs) (λ c. search needs) (λ c. search needs) (λ c κs. search needs)
+    (λ c. search needs) (λ c κs. search needs) (λ c. search needs) (λ c. search needs) (λ c κs. search needs) (λ c κs. search needs)
+    (λ c. search needs) (λ c κs. search needs) (λ c κs. search needs) (λ c. search needs) (λ c. search needs) (λ c. search needs)
+    loop-again returns)

@@ -1,4 +1,4 @@
-use Prim.Native.Nat.{ℕ, _-_, _≤_, _<_}
+use Prim.Native.Nat.{_-_, _≤_, _<_}
 use mathlib.Core.List.{[]}
 use mathlib.Core.Path.{_≡_}
 use native.Mathlib.Omega.{arith}

@@ -1,6 +1,6 @@
 use Prim.Native.Nat.{ℕ, _-_, _≤_, _<_}
 use mathlib.Core.List.{[]}
-use mathlib.Core.Path.{_≡_, _∙_}
+use mathlib.Core.Path.{_≡_}
 use native.Mathlib.Omega.{arith}
 use lib.ListN.{getD, length-replicate, replicate}
 use lib.Ieee.{Float, nan, div, ofBits}
@@ -8,7 +8,7 @@ use Rattle.folds.specs.Column.{Filling, fill-start, fill-more, filled}
 use Rattle.marks.specs.Marks.{isSet}
 use Rattle.view.specs.View.{maxPoints, viewAt}
 use Rattle.local_h.specs.ByIndex.{lastValue}
-use Rattle.local_h.proofs.Indexing.{placed}
+use Rattle.local_h.proofs.Indexing.{value-placed}
 use borrow.Author.Needs.{needs}
 use Rattle.local_h.proofs.by_index.values.Statement.{statement}
 use Rattle.local_h.proofs.by_index.values.Tie as tie
@@ -30,7 +30,7 @@ loop-holds c = (omega arith, fill-start (replicate maxPoints nan) nan _)
 loop-again : tie.Need-loop-again Inv-loop μ-loop
 loop-again c = let h = c .before .before in let s = h .before .before in let a = s .args in
     let w = viewAt (a .n) (a .ranks .now) [] [] in
-    let held = placed w (isSet (a .mark .now)) (λ (k : ℕ). getD (a .value .now) k nan) (h .before .last-values .ensures) (h .loop .k) (rw (← c .index-of .ensures) (place c)) in
+    let held = value-placed w (isSet (a .mark .now)) (λ (k : ℕ). getD (a .value .now) k nan) (h .before .last-values .ensures) (h .loop .k) (rw (← c .index-of .ensures) (place c)) in
     (omega arith, fill-more (replicate maxPoints nan) nan _ _ (omega (arith, length-replicate {A = Float} maxPoints nan, s .pre .few)) (rw (c .index-of .ensures) held) (h .loop .inv .1))
 
 returns : tie.Need-returns Inv-loop μ-loop
