@@ -16,8 +16,8 @@ use Rattle.sheet_file.specs.declared.EdgeGate.the-variants.{Off, On}
 use Rattle.step.specs.Step.{stepAt, scaleAt}
 use Rattle.step.specs.Deviation.{deviates}
 use Rattle.lines.specs.Flags.{flagsAt}
-use Rattle.local_h.specs.ByIndex.{indexColumns}
-use Rattle.local_h.specs.declared.Residuals.{Residuals}
+use Rattle.residuals.specs.ByIndex.{indexColumns}
+use Rattle.residuals.specs.declared.Residuals.{Residuals}
 use Rattle.blame.specs.Marks.{Evidence, evidenceBy, isMarked}
 use Rattle.edge_shape.specs.Figures.{noFigures, indexFigures, reasonNumber}
 use Rattle.edge_shape.specs.declared.Figures.{Figures}

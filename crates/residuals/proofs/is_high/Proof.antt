@@ -1,6 +1,6 @@
 use borrow.Author.Needs.{needs}
-use Rattle.local_h.proofs.is_high.Statement.{statement}
-use Rattle.local_h.proofs.is_high.Tie as tie
+use Rattle.residuals.proofs.is_high.Statement.{statement}
+use Rattle.residuals.proofs.is_high.Tie as tie
 
 returns : tie.Need-returns
 returns c = rw (← c .before .before .exceeds-limit .ensures, c .before .if1 .taken) (c .exceeds-limit2 .ensures)

@@ -17,10 +17,10 @@ use Rattle.view.specs.View.{View, maxPoints, alike, indexHas}
 use Rattle.cells.specs.Cell.{Cell}
 use Rattle.marks.specs.Marks.{isSet, indexMarks}
 use Rattle.marks.proofs.Guards.{set-is, index-marks}
 use Rattle.local_h.specs.declared.Residual.the-variants.{NoFit}
-use Rattle.local_h.specs.declared.Residuals.{Residuals}
+use Rattle.residuals.specs.declared.Residuals.{Residuals}
 use Rattle.local_h.specs.Residual.{residualAt}
-use Rattle.local_h.specs.ByIndex.{hasValue, valueOf, overAt, highAt, cellColumns, lastFit, indexResidual, indexColumns, lastValue}
+use Rattle.residuals.specs.ByIndex.{hasValue, valueOf, overAt, highAt, cellColumns, lastFit, indexResidual, indexColumns, lastValue}
 
 -- of values stored over each other the last stays
 fold-value : (p : ℕ → Bool) (f : ℕ → Float) (d : Float) (e n : ℕ) → n ≤ e → fold (turn p (λ k x. f k)) d n ≡ cond (ltb (last p e n) e) (f (last p e n)) d

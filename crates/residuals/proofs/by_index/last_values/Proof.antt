@@ -10,8 +10,8 @@ use Rattle.folds.specs.Scattered.{Scattered, scattered-none, scattered-skip, sc
 use Rattle.marks.specs.Marks.{isSet}
 use Rattle.view.specs.View.{maxPoints, viewAt}
 use borrow.Author.Needs.{needs}
-use Rattle.local_h.proofs.by_index.last_values.Statement.{statement}
-use Rattle.local_h.proofs.by_index.last_values.Tie as tie
+use Rattle.residuals.proofs.by_index.last_values.Statement.{statement}
+use Rattle.residuals.proofs.by_index.last_values.Tie as tie
 
 abbrev Inv-loop : tie.InvT-loop
 Inv-loop ranks mark value n out₀ i₀ out i = (i ≤ n) × Scattered nan (viewAt n ranks [] [] .byIdx) (isSet mark) (λ k x. getD value k nan) (replicate maxPoints zeroF) i out

@@ -10,10 +10,10 @@ use Rattle.folds.specs.Marked.{bit}
 use Rattle.float.specs.Constants.{two}
 use Rattle.view.specs.View.{View, maxPoints, alike, indexHas}
 use Rattle.cells.specs.Cell.{Cell}
 use Rattle.local_h.specs.Residual.{residualAt}
 use Rattle.local_h.specs.declared.Residual.{Residual}
 use Rattle.local_h.specs.declared.Residual.the-variants.{Value, NoFit}
-use Rattle.local_h.specs.declared.Residuals.{Residuals}
+use Rattle.residuals.specs.declared.Residuals.{Residuals}
 
 abbrev pub hasValue : Residual → Bool
 hasValue (Value x) = true

@@ -8,13 +8,13 @@ use Rattle.folds.specs.Column.{Filling, fill-start, fill-more, filled}
 use Rattle.folds.specs.Marked.{bit}
 use Rattle.cells.specs.Cell.{Cell, cellsAt}
 use Rattle.view.specs.View.{View, viewAt, maxPoints}
 use Rattle.local_h.specs.declared.Residual.{Residual}
-use Rattle.local_h.specs.declared.Residuals.{Residuals}
+use Rattle.residuals.specs.declared.Residuals.{Residuals}
 use Rattle.local_h.specs.Residual.{residualAt}
-use Rattle.local_h.specs.ByIndex.{hasValue, valueOf, overAt, highAt, cellColumns}
+use Rattle.residuals.specs.ByIndex.{hasValue, valueOf, overAt, highAt, cellColumns}
 use borrow.Author.Needs.{needs}
-use Rattle.local_h.proofs.cell_residuals.Statement.{statement}
-use Rattle.local_h.proofs.cell_residuals.Tie as tie
+use Rattle.residuals.proofs.cell_residuals.Statement.{statement}
+use Rattle.residuals.proofs.cell_residuals.Tie as tie
 
 -- the four columns up to rank k
 record CellsUpTo (w : View) (cell : ℕ → Cell) (scale : ℕ → Float) (tolerance : Float) (k : ℕ) (has : List ℕ) (value : List Float) (over high : List ℕ) : Type 0 where

@@ -7,11 +7,11 @@ use lib.Ieee.{Float, nan, div, ofBits}
 use Rattle.folds.specs.Column.{Filling, fill-start, fill-more, filled}
 use Rattle.marks.specs.Marks.{isSet}
 use Rattle.view.specs.View.{maxPoints, viewAt}
-use Rattle.local_h.specs.ByIndex.{lastValue}
-use Rattle.local_h.proofs.Indexing.{value-placed}
+use Rattle.residuals.specs.ByIndex.{lastValue}
+use Rattle.residuals.proofs.Indexing.{value-placed}
 use borrow.Author.Needs.{needs}
-use Rattle.local_h.proofs.by_index.values.Statement.{statement}
-use Rattle.local_h.proofs.by_index.values.Tie as tie
+use Rattle.residuals.proofs.by_index.values.Statement.{statement}
+use Rattle.residuals.proofs.by_index.values.Tie as tie
 
 abbrev Inv-loop : tie.InvT-loop
 Inv-loop ranks mark value n held none out₀ k₀ out k = (k ≤ n) × Filling (replicate maxPoints nan) nan (lastValue (viewAt n ranks [] []) (isSet mark) (λ (k : ℕ). getD value k nan)) k out

@@ -11,7 +11,7 @@ ghost use Rattle.folds.specs.Column.{column};
 ghost use Rattle.folds.specs.Scattered.{Scattered};
 ghost use Rattle.marks.specs.Marks.{isSet};
 ghost use Rattle.view.specs.View.{maxPoints, viewAt, Ranked};
-ghost use Rattle.local_h.specs.ByIndex.{lastValue};
+ghost use Rattle.residuals.specs.ByIndex.{lastValue};
 
 // At the place of each index the value of its last rank with a mark, or 0.
 fn last_values(

@@ -3,10 +3,10 @@ use lib.ListN.{getD}
 use lib.Ieee.{nan}
 use Rattle.cells.specs.Cell.{cellsAt}
 use Rattle.view.specs.View.{viewAt}
-use Rattle.local_h.proofs.Indexing.{gathered}
+use Rattle.residuals.proofs.Indexing.{gathered}
 use borrow.Author.Needs.{needs}
-use Rattle.local_h.proofs.index_residuals.Statement.{statement}
-use Rattle.local_h.proofs.index_residuals.Tie as tie
+use Rattle.residuals.proofs.index_residuals.Statement.{statement}
+use Rattle.residuals.proofs.index_residuals.Tie as tie
 
 returns : tie.Need-returns
 returns c =

@@ -1,8 +1,8 @@
 use mathlib.Core.Path.{sym, ap}
-use Rattle.local_h.specs.ByIndex.{exceeds}
+use Rattle.residuals.specs.ByIndex.{exceeds}
 use borrow.Author.Needs.{needs}
-use Rattle.local_h.proofs.exceeds_limit.Statement.{statement}
-use Rattle.local_h.proofs.exceeds_limit.Tie as tie
+use Rattle.residuals.proofs.exceeds_limit.Statement.{statement}
+use Rattle.residuals.proofs.exceeds_limit.Tie as tie
 
 returns : tie.Need-returns
 returns c = sym (ap (exceeds (c .before .before .before .args .limit)) (c .before .r .given .1))
