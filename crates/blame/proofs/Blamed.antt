@@ -4,46 +4,45 @@ use mathlib.Core.Bool.{Bool, true, false, cond, not, _&&_, _||_}
 use mathlib.Core.List.{List, []}
 use Prim.Native.Nat.{ℕ, _+_, _≤_, _<_}
 use native.Mathlib.Omega.{arith}
-use borrow.Author.Tests.{eqb-true, lt-ltb, le-ltb, ltb-true, le-leb, lt-leb, eq-eqb, ne-eqb}
-use lib.Dec.{eqb, ltb, leb}
-use lib.ListN.{length, getD}
+use borrow.Author.Tests.{eqb-true, lt-ltb, le-leb, lt-leb}
+use lib.Dec.{eqb, ltb}
+use lib.ListN.{getD}
 use lib.Ieee.{Float}
-use Rattle.folds.specs.Below.{first, first-holds, some, some-ext, and-left, and-false, and-true, or-false}
+use Rattle.folds.specs.Below.{first, first-holds, some, some-ext, and-false, and-true}
 use Rattle.folds.specs.Column.{column, column-at, column-ext, length-column}
 use Rattle.folds.specs.Marked.{bit, Marked, marked-none, marked-as}
 use Rattle.folds.specs.Scattered.{counts}
+use Rattle.marks.specs.Marks.{isSet}
 use Rattle.view.specs.View.{View, viewAt, maxPoints, Ranked}
+use Rattle.local_h.specs.Order.{offsetAt}
 use Rattle.local_h.specs.Base.{memberAt, onLine, isOther, isFourth, baseOf}
+use Rattle.local_h.proofs.Bases.{other-rank, serving-rank}
 use Rattle.local_h.specs.declared.Base.{Base}
 use Rattle.blame.specs.declared.Worst.{Worst}
-use Rattle.blame.specs.Marks.{Evidence, evidenceBy, rule1, rule2, rule3, rule4, isOutlier, worseOf, noOne, worstOf, blamed, isVisited, blames, isMarked, marksOf}
+use Rattle.blame.specs.Marks.{Evidence, evidenceBy, rule1, rule2, rule3, rule4, isOutlier, worseOf, noOne, worstOf, blamed, isVisited, blames, isMarked, blameMarks}
 
 -- ---- the members of a base
-
-other-there : (w : View) (k p : ℕ) → isOther w k p ≡ true → memberAt w k p < w .count
-unfolding isOther
-other-there w k p e = ltb-true (memberAt w k p) (w .count) (and-left (ltb (memberAt w k p) (w .count)) _ e)
-
-fourth-there : (w : View) (k a b c p : ℕ) → isFourth w k a b c p ≡ true → memberAt w k p < w .count
-unfolding isFourth
-fourth-there w k a b c p e = other-there w k p (and-left (isOther w k p) _ e)
 
 module _ (w : View) (k : ℕ) where
   pub a-there : baseOf w k .a < 24 → memberAt w k (baseOf w k .a) < w .count
   unfolding baseOf
-  a-there h = other-there w k _ (first-holds (isOther w k) _ 24 h)
+  a-there h = other-rank w k _ (first-holds (isOther w k) _ 24 h)
 
   pub b-there : baseOf w k .b < 24 → memberAt w k (baseOf w k .b) < w .count
   unfolding baseOf
-  b-there h = other-there w k _ (first-holds (isOther w k) _ 24 h)
+  b-there h = other-rank w k _ (first-holds (isOther w k) _ 24 h)
 
   pub c-there : baseOf w k .c < 24 → memberAt w k (baseOf w k .c) < w .count
   unfolding baseOf
-  c-there h = other-there w k _ (first-holds (isOther w k) _ 24 h)
+  c-there h = other-rank w k _ (first-holds (isOther w k) _ 24 h)
 
   pub d-there : baseOf w k .d < 24 → memberAt w k (baseOf w k .d) < w .count
   unfolding baseOf
-  d-there h = fourth-there w k _ _ _ _ (first-holds (isFourth w k _ _ _) _ 24 h)
+  d-there h =
+      let a = first (isOther w k) 0 24 in
+      let b = first (isOther w k) (a + 1) 24 in
+      let c = first (isOther w k) (b + 1) 24 in
+      serving-rank w k (onLine (offsetAt a) (offsetAt b) (offsetAt c)) (offsetAt a) (offsetAt b) (first (isFourth w k a b c) (c + 1) 24) (first-holds (isFourth w k a b c) (c + 1) 24 h)
 
 -- ---- whom a corner blames
 
@@ -82,15 +81,19 @@ module _ (w : View) (e : Evidence) (k : ℕ) where
 
 -- ---- the rules that look at an index alone
 
-module _ (f : ℕ) (high deviates : Bool) where
-  pub no-flag : f ≡ 0 → leb 2 f || ((high && leb 1 f) || (deviates && leb 1 f)) ≡ false
-  no-flag z = rw (lt-leb 2 f (omega arith), lt-leb 1 f (omega arith), and-false high) (and-false deviates)
+module _ (flags high deviates : List ℕ) (m : ℕ) where
+  -- at the place m: by its line flags
+  abbrev markHere : ℕ
+  markHere = bit (isOutlier (evidenceBy flags [] high deviates) m)
 
-  pub two-flags : 1 < f → leb 2 f || ((high && leb 1 f) || (deviates && leb 1 f)) ≡ true
-  two-flags h = rw (le-leb 2 f (omega arith))
+  pub no-flag : getD flags m 0 ≡ 0 → 0 ≡ markHere
+  no-flag z = sym (rw (lt-leb 2 (getD flags m 0) (omega arith), lt-leb 1 (getD flags m 0) (omega arith), and-false (isSet high m), and-false (isSet deviates m)))
 
-  pub one-flag : (f ≡ 0 → ⊥) → f ≤ 1 → leb 2 f || ((high && leb 1 f) || (deviates && leb 1 f)) ≡ high || deviates
-  one-flag z h = rw (lt-leb 2 f (omega arith), le-leb 1 f (omega (arith, z)), and-true high, and-true deviates)
+  pub two-flags : 1 < getD flags m 0 → 1 ≡ markHere
+  two-flags h = sym (rw (le-leb 2 (getD flags m 0) (omega arith)))
+
+  pub one-flag : (getD flags m 0 ≡ 0 → ⊥) → getD flags m 0 ≤ 1 → markHere ≡ bit (isSet high m || isSet deviates m)
+  one-flag z h = rw (lt-leb 2 (getD flags m 0) (omega arith), le-leb 1 (getD flags m 0) (omega (arith, z)), and-true (isSet high m), and-true (isSet deviates m))
 
 -- ---- all rules
 
@@ -112,17 +115,23 @@ module _ (n : ℕ) (ranks flags over high deviates : List ℕ) (ranked : Ranked 
   seen = viewAt n ranks [] []
 
   -- the marks of the rules that look at an index alone
+  abbrev aloneAt : ℕ → ℕ
+  aloneAt m = bit (isOutlier (evidenceBy flags [] high deviates) m)
+
   abbrev alone : List ℕ
-  alone = column maxPoints 0 n (λ (m : ℕ). bit (isOutlier (evidenceBy flags [] high deviates) m))
+  alone = column maxPoints 0 n aloneAt
 
   -- whom all corners blame
+  abbrev rule3Only : Evidence
+  rule3Only = evidenceBy flags over [] []
+
   abbrev blamedBySome : ℕ → Bool
-  blamedBySome m = some (λ (k : ℕ). blames seen (evidenceBy flags over [] []) k m) n
+  blamedBySome m = some (λ (k : ℕ). blames seen rule3Only k m) n
 
   all-rules : (b : List ℕ) → Marked blamedBySome alone b → (m : ℕ) → m < n → getD b m 0 ≡ bit (isMarked seen whole m)
   all-rules b t m l =
-      t .at m (omega (arith, length-column maxPoints 0 n (λ (m : ℕ). bit (isOutlier (evidenceBy flags [] high deviates) m)) (ranked .few)))
-      ∙ rw (column-at maxPoints 0 n (λ (m : ℕ). bit (isOutlier (evidenceBy flags [] high deviates) m)) m l, some-ext (λ (k : ℕ). blames seen (evidenceBy flags over [] []) k m) (counts (blamed seen (whole .flags)) (isVisited seen whole) m) n (λ k g. blames-at seen (evidenceBy flags over [] []) k m l))
+      t .at m (omega (arith, length-column maxPoints 0 n aloneAt (ranked .few)))
+      ∙ rw (column-at maxPoints 0 n aloneAt m l, some-ext (λ (k : ℕ). blames seen rule3Only k m) (counts (blamed seen (whole .flags)) (isVisited seen whole) m) n (λ k g. blames-at seen rule3Only k m l))
       (regroup (rule1 whole m) (rule2 whole m) (rule3 seen whole m) (rule4 whole m) ∙ ap bit (sym (marked-is seen whole m)))
     where
       regroup : (p q r s : Bool) → cond r 1 (bit (p || (q || s))) ≡ bit (p || (q || (r || s)))
@@ -135,8 +144,8 @@ module _ (n : ℕ) (ranks flags over high deviates : List ℕ) (ranked : Ranked 
 
   -- at each rank what stands at the place of its index
   pub by-rank : {a b r : List ℕ} → a ≡ alone → Marked blamedBySome a b → r ≡ column maxPoints 0 n (λ (k : ℕ). getD b (seen .byIdx k) 0)
-      → (xs ys : List Float) → r ≡ marksOf (viewAt n ranks xs ys) whole
-  unfolding marksOf
+      → (xs ys : List Float) → r ≡ blameMarks (viewAt n ranks xs ys) whole
+  unfolding blameMarks
   by-rank {a} {b} s t e xs ys =
       e
       ∙ column-ext maxPoints 0 n (λ (k : ℕ). getD b (seen .byIdx k) 0) (λ (k : ℕ). bit (isMarked (viewAt n ranks xs ys) whole (seen .byIdx k)))

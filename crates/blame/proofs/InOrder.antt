@@ -100,7 +100,7 @@ blamed-apart w e j k l v =
     go d z (inr h) = omega (arith, z, h .0, h .1, ap (λ (x : ℕ). e .flags x) d)
 
 -- the marks of rules 1 and 2, with which the Rust starts on rule 3
-abbrev pub marked12 : Evidence → ℕ → Bool
+abbrev marked12 : Evidence → ℕ → Bool
 marked12 e m = rule1 e m || rule2 e m
 
 fresh : (w : View) (e : Evidence) (k : ℕ) → k < w .count → isVisited w e k ≡ true → marked12 e k ≡ false

@@ -10,7 +10,7 @@ use Rattle.folds.specs.Marked.{bit}
 use Rattle.folds.specs.Scattered.{counts}
 use Rattle.marks.specs.Marks.{isSet}
 use Rattle.view.specs.View.{View, maxPoints}
-use Rattle.local_h.specs.Base.{memberAt, onLine, isOther, isFourth, baseOf}
+use Rattle.local_h.specs.Base.{memberAt, onLine, isOther, isServing, baseOf}
 use Rattle.local_h.specs.declared.Base.{Base}
 use Rattle.blame.specs.declared.Worst.{Worst}
 
@@ -62,7 +62,7 @@ module _ (w : View) (flags : ℕ → ℕ) where
 
   -- the place of the index that corner k blames, or the count where it blames none
   unfoldable pub blamed : ℕ → ℕ
-  unfolding worstOf baseOf isOther isFourth onLine first firstIn
+  unfolding worstOf baseOf isOther isServing onLine first firstIn
   blamed k = worstOf k (baseOf w k) .at
 
 -- rule 3 looks at rank k: the winning entry of an index whose residual is over the tolerance, with no line flag
@@ -83,6 +83,6 @@ unfolding blamed some
 isMarked w e m = rule1 e m || (rule2 e m || (rule3 w e m || rule4 e m))
 
 -- at each rank 1 if its index is marked, else 0
-unfoldable pub marksOf : View → Evidence → List ℕ
+unfoldable pub blameMarks : View → Evidence → List ℕ
 unfolding isMarked column
-marksOf w e = column maxPoints 0 (w .count) (λ (k : ℕ). bit (isMarked w e (w .byIdx k)))
+blameMarks w e = column maxPoints 0 (w .count) (λ (k : ℕ). bit (isMarked w e (w .byIdx k)))

@@ -9,7 +9,7 @@ ghost use Rattle.folds.specs.Below.{some};
 ghost use Rattle.folds.specs.Marked.{bit, Marked};
 ghost use Rattle.view.specs.View.{maxPoints, viewAt, Ranked};
 ghost use Rattle.local_h.specs.Base.{memberAt};
-ghost use Rattle.blame.specs.Marks.{evidenceBy, isOutlier, worseOf, blamed, isVisited, blames, marksOf};
+ghost use Rattle.blame.specs.Marks.{evidenceBy, isOutlier, worseOf, blamed, isVisited, blames, blameMarks};
 use view::MAX_POINTS;
 use view::RANKS_SIZE;
 
@@ -175,7 +175,7 @@ pub fn marks(
     n: usize,
 ) -> [u8; MAX_POINTS]
     requires { ⌜ Ranked n (now ranks) ⌝ }
-    ensures { λ r. ⌜ ((xs ys : List Float) → r ≡ marksOf (viewAt n (now (ranks .entry)) xs ys) (evidenceBy (now (flags .entry)) (now (over .entry)) (now (high .entry)) (now (deviates .entry)))) ⌝ }
+    ensures { λ r. ⌜ ((xs ys : List Float) → r ≡ blameMarks (viewAt n (now (ranks .entry)) xs ys) (evidenceBy (now (flags .entry)) (now (over .entry)) (now (high .entry)) (now (deviates .entry)))) ⌝ }
 {
     let mut held = outliers(flags, high, deviates, n);
     mark_all_blamed(ranks, flags, over, n, &mut held);

@@ -7,7 +7,7 @@ use mathlib.Core.Bool.{Bool, true, false, cond, not, _&&_, _||_}
 use mathlib.Core.List.{List}
 use Prim.Native.Nat.{ℕ, _+_}
 use lib.Dec.{eqb, ltb, leb}
-use lib.Ieee.{Float, lt, le, add, sub, mul, div, ofBits}
+use lib.Ieee.{lt, le, add, sub, mul, div, ofBits}
 use Rattle.folds.specs.Arith.{_⊕_, _⊖_, _⊗_, _⊘_}
 use Rattle.float.specs.Scalar.{maxOf, minOf, clampOf}
 use Rattle.float.specs.Constants.{epsilon}
@@ -19,8 +19,8 @@ use Rattle.sheet_file.specs.declared.EdgeShapeParams.{EdgeShapeParams}
 use Rattle.edge_shape.specs.declared.Side.{Side}
 use Rattle.edge_shape.specs.declared.Measure.{Measure}
 use Rattle.edge_shape.specs.declared.Measure.the-variants.{Absent, Held}
-use Rattle.edge_shape.specs.declared.Cell.{Cell}
-use Rattle.edge_shape.specs.declared.Cell.the-variants.{Incomplete, Complete}
+use Rattle.edge_shape.specs.declared.CellShape.{CellShape}
+use Rattle.edge_shape.specs.declared.CellShape.the-variants.{Incomplete, Complete}
 use Rattle.edge_shape.specs.declared.Reason.{Reason}
 use Rattle.edge_shape.specs.declared.Reason.the-variants.{NoReason, LowCardinalDegree, BadContinuation, NoValidAdjacentCell}
 use Rattle.edge_shape.specs.declared.Figures.{Figures}
@@ -67,28 +67,28 @@ continuationsAt w k = noted (continuationAt w prevU nextU k) (continuationAt w p
 -- ---- adjacent cells
 
 -- the cell whose least corner is rank t: its sides along u against each other, and those along v
-unfoldable pub cellAt : View → ℕ → Cell
+unfoldable pub shapeAt : View → ℕ → CellShape
 unfolding compared sideAt
-cellAt w t =
+shapeAt w t =
     cond (ltb t (w .count) && (present w t nextU && (present w t nextV && (present w (rankAt w t nextV) nextU && present w (rankAt w t nextU) nextV))))
     (Complete (compared (sideAt w nextU t) (sideAt w nextU (rankAt w t nextV))) (compared (sideAt w nextV t) (sideAt w nextV (rankAt w t nextU))))
     Incomplete
 
 -- a pair of opposite sides within the gate
-unfoldable pub within : EdgeShapeParams → Measure → Bool
+unfoldable pub withinGate : EdgeShapeParams → Measure → Bool
 unfolding lt
-within g Absent = false
-within g (Held c r) = not (lt c (g .«cell_opposite_cos_min»)) && not (lt (g .«cell_opposite_length_ratio_max») r)
+withinGate g Absent = false
+withinGate g (Held c r) = not (lt c (g .«cell_opposite_cos_min»)) && not (lt (g .«cell_opposite_length_ratio_max») r)
 
-abbrev pub isAdjacent : Cell → Bool
+abbrev pub isAdjacent : CellShape → Bool
 isAdjacent Incomplete = false
 isAdjacent (Complete a b) = true
 
-abbrev pub isValid : EdgeShapeParams → Cell → Bool
+abbrev pub isValid : EdgeShapeParams → CellShape → Bool
 isValid g Incomplete = false
-isValid g (Complete a b) = within g a && within g b
+isValid g (Complete a b) = withinGate g a && withinGate g b
 
-unfoldable pub notedCell : Measure → Cell → Measure
+unfoldable pub notedCell : Measure → CellShape → Measure
 unfolding noted
 notedCell m Incomplete = m
 notedCell m (Complete a b) = noted (noted m a) b
@@ -120,7 +120,7 @@ reasonNumber NoValidAdjacentCell = 3
 
 -- ---- all figures of rank k's cell
 
-unfoldable pub figuresBy : EdgeShapeParams → ℕ → Measure → Cell → Cell → Cell → Cell → Figures
+unfoldable pub figuresBy : EdgeShapeParams → ℕ → Measure → CellShape → CellShape → CellShape → CellShape → Figures
 unfolding reasonOf notedCell
 figuresBy g degree m a b c d =
     let adjacent = bit (isAdjacent a) + bit (isAdjacent b) + bit (isAdjacent c) + bit (isAdjacent d) in
@@ -135,10 +135,10 @@ figuresBy g degree m a b c d =
     }
 
 unfoldable pub figuresAt : EdgeShapeParams → View → ℕ → Figures
-unfolding figuresBy cellAt continuationsAt degreeAt
+unfolding figuresBy shapeAt continuationsAt degreeAt
 figuresAt g w k =
     figuresBy g (degreeAt w k) (continuationsAt w k)
-    (cellAt w (rankAt w k own)) (cellAt w (rankAt w k prevU)) (cellAt w (rankAt w k diagonal)) (cellAt w (rankAt w k prevV))
+    (shapeAt w (rankAt w k own)) (shapeAt w (rankAt w k prevU)) (shapeAt w (rankAt w k diagonal)) (shapeAt w (rankAt w k prevV))
 
 -- no figures, past the last rank
 abbrev pub noFigures : Figures

@@ -1,13 +1,14 @@
 -- What the functions of this crate are given and give on the way. Assumes nothing.
 use mathlib.Core.Path.{_≡_}
-use mathlib.Core.Bool.{Bool}
+use mathlib.Core.Bool.{Bool, cond}
 use mathlib.Core.List.{List}
 use Prim.Native.Nat.{ℕ, _≤_}
+use lib.Dec.{ltb}
 use lib.ListN.{getD}
 use lib.Ieee.{Float, nan}
 use Rattle.folds.specs.Arith.{_⊖_}
 use Rattle.folds.specs.Marked.{bit}
-use Rattle.view.specs.View.{View, viewAt, Ranked}
+use Rattle.view.specs.View.{View, viewAt, rankAt, Ranked}
 use Rattle.edges.specs.Edges.{edgesOf, edgePlace}
 use Rattle.edge_shape.specs.declared.Side.{Side}
 
@@ -15,6 +16,10 @@ use Rattle.edge_shape.specs.declared.Side.{Side}
 pub record WithEdges (n : ℕ) (ranks : List ℕ) (xs ys edges : List Float) : Type 0 where
   pub ranked : Ranked n ranks
   pub held : edges ≡ edgesOf (viewAt n ranks xs ys)
+
+-- the rank at offset d from rank a; none where there is no a
+abbrev pub rankFrom : View → ℕ → ℕ → ℕ
+rankFrom w a d = cond (ltb a (w .count)) (rankAt w a d) (w .count)
 
 -- the way's edge from rank a to rank b, with its length from the table of edges
 abbrev pub sideBy : View → List Float → ℕ → ℕ → ℕ → Side

@@ -6,12 +6,12 @@ use view::RANKS_SIZE;
 ghost use mathlib.Core.Path.{_≡_};
 ghost use mathlib.Core.Bool.{cond};
 ghost use mathlib.Core.List.{[]};
-ghost use Prim.Native.Nat.{_-_, _<_};
+ghost use Prim.Native.Nat.{_-_, _≤_, _<_};
 ghost use lib.Ieee.{lt};
 ghost use Rattle.view.specs.View.{viewAt, maxPoints};
 ghost use Rattle.edges.specs.Edges.{side};
-ghost use Rattle.edge_shape.specs.Figures.{sideAt, compared, noted, continuationAt, cellAt, within, continuationFails, isAdjacent, isValid, notedCell, reasonOf, reasonNumber, figuresBy, figuresAt, noFigures, indexFigures};
-ghost use Rattle.edge_shape.specs.Given.{WithEdges, sideBy, OneOrNone};
+ghost use Rattle.edge_shape.specs.Figures.{compared, noted, continuationAt, shapeAt, withinGate, continuationFails, isAdjacent, isValid, notedCell, reasonOf, reasonNumber, figuresBy, figuresAt, noFigures, indexFigures};
+ghost use Rattle.edge_shape.specs.Given.{WithEdges, rankFrom, sideBy, OneOrNone};
 
 // Offset (-1, -1).
 const DIAGONAL: usize = 6;
@@ -29,7 +29,7 @@ pub enum Measure {
 }
 
 // The four corners of a cell are on the sheet, or not: the measures of its two pairs of opposite sides.
-pub enum Cell {
+pub enum CellShape {
     Incomplete,
     Complete(Measure, Measure),
 }
@@ -110,6 +110,17 @@ fn ahead(way: usize) -> usize
     if way == 0 { view::NEXT_U } else { view::NEXT_V }
 }
 
+// The rank at offset d from rank a; none where there is no a.
+fn onward(ranks: &[u16; RANKS_SIZE], n: usize, a: usize, d: usize) -> usize
+    requires { ⌜ (n ≤ maxPoints) × (d < 25) ⌝ }
+    ensures { λ r. ⌜ r ≡ rankFrom (viewAt n (now (ranks .entry)) [] []) a d ⌝ }
+{
+    if n <= a {
+        return n;
+    }
+    view::rank_at(ranks, a, d)
+}
+
 // The way's edge that leads to rank k, against the one that goes on from it.
 fn continuation_at(
     ranks: &[u16; RANKS_SIZE],
@@ -125,14 +136,11 @@ fn continuation_at(
 {
     let after = ahead(way);
     let b = view::rank_at(ranks, k, 24 - after);
-    if n <= b {
-        return Measure::Absent;
-    }
     let c = view::rank_at(ranks, k, after);
+    let d = onward(ranks, n, b, after);
     if n <= c {
         return Measure::Absent;
     }
-    let d = view::rank_at(ranks, b, after);
     if n <= d {
         return Measure::Absent;
     }
@@ -150,30 +158,21 @@ fn cell_at(
     edges: &[f32; EDGES_SIZE],
     n: usize,
     t: usize,
-) -> Cell
+) -> CellShape
     requires { ⌜ WithEdges n (now ranks) (now x) (now y) (now edges) ⌝ }
-    ensures { λ r. ⌜ r ≡ cellAt (viewAt n (now (ranks .entry)) (now (x .entry)) (now (y .entry))) t ⌝ }
+    ensures { λ r. ⌜ r ≡ shapeAt (viewAt n (now (ranks .entry)) (now (x .entry)) (now (y .entry))) t ⌝ }
 {
-    if n <= t {
-        return Cell::Incomplete;
-    }
-    let right = view::rank_at(ranks, t, view::NEXT_U);
-    if n <= right {
-        return Cell::Incomplete;
-    }
-    let below = view::rank_at(ranks, t, view::NEXT_V);
-    if n <= below {
-        return Cell::Incomplete;
-    }
-    let across = view::rank_at(ranks, below, view::NEXT_U);
+    let right = onward(ranks, n, t, view::NEXT_U);
+    let below = onward(ranks, n, t, view::NEXT_V);
+    let across = onward(ranks, n, below, view::NEXT_U);
+    let down = onward(ranks, n, right, view::NEXT_V);
     if n <= across {
-        return Cell::Incomplete;
+        return CellShape::Incomplete;
     }
-    let down = view::rank_at(ranks, right, view::NEXT_V);
     if n <= down {
-        return Cell::Incomplete;
+        return CellShape::Incomplete;
     }
-    Cell::Complete(
+    CellShape::Complete(
         compare(
             side_at(x, y, edges, 0, t, right),
             side_at(x, y, edges, 0, below, across),
@@ -187,7 +186,7 @@ fn cell_at(
 
 // Whether a pair of opposite sides is within the gate.
 fn is_within(g: EdgeShapeParams, m: Measure) -> bool
-    ensures { λ r. ⌜ r ≡ within g m ⌝ }
+    ensures { λ r. ⌜ r ≡ withinGate g m ⌝ }
 {
     match m {
         Measure::Absent => false,
@@ -204,22 +203,22 @@ fn is_within(g: EdgeShapeParams, m: Measure) -> bool
 }
 
 // 1 for a complete cell, else 0.
-fn adjacent_count(c: Cell) -> u8
+fn adjacent_count(c: CellShape) -> u8
     ensures { λ r. ⌜ OneOrNone (isAdjacent c) r ⌝ }
 {
     match c {
-        Cell::Incomplete => 0,
-        Cell::Complete(_, _) => 1,
+        CellShape::Incomplete => 0,
+        CellShape::Complete(_, _) => 1,
     }
 }
 
 // 1 for a valid cell, else 0.
-fn valid_count(g: EdgeShapeParams, c: Cell) -> u8
+fn valid_count(g: EdgeShapeParams, c: CellShape) -> u8
     ensures { λ r. ⌜ OneOrNone (isValid g c) r ⌝ }
 {
     match c {
-        Cell::Incomplete => 0,
-        Cell::Complete(a, b) => {
+        CellShape::Incomplete => 0,
+        CellShape::Complete(a, b) => {
             if is_within(g, a) {
                 if is_within(g, b) {
                     return 1;
@@ -231,12 +230,12 @@ fn valid_count(g: EdgeShapeParams, c: Cell) -> u8
     }
 }
 
-fn note_cell(m: Measure, c: Cell) -> Measure
+fn note_cell(m: Measure, c: CellShape) -> Measure
     ensures { λ r. ⌜ r ≡ notedCell m c ⌝ }
 {
     match c {
-        Cell::Incomplete => m,
-        Cell::Complete(a, b) => note(note(m, a), b),
+        CellShape::Incomplete => m,
+        CellShape::Complete(a, b) => note(note(m, a), b),
     }
 }
 
@@ -295,10 +294,10 @@ fn figures_by(
     g: EdgeShapeParams,
     degree: u8,
     m: Measure,
-    a: Cell,
-    b: Cell,
-    c: Cell,
-    d: Cell,
+    a: CellShape,
+    b: CellShape,
+    c: CellShape,
+    d: CellShape,
 ) -> Figures
     ensures { λ r. ⌜ r ≡ figuresBy g degree m a b c d ⌝ }
 {

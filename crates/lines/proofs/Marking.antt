@@ -6,10 +6,10 @@ use Prim.Native.Nat.{ℕ, zero, suc, _+_, _≤_, _<_}
 use Prim.{Dec, yes, no}
 use native.Mathlib.Decide.{ℕ-discrete, decLt}
 use native.Mathlib.Omega.{arith}
-use borrow.Author.Tests.{eq-eqb, ne-eqb, eqb-true, lt-ltb, le-ltb, le-leb, lt-leb}
+use borrow.Author.Tests.{eq-eqb, ne-eqb, lt-ltb, le-ltb, le-leb, lt-leb}
 use lib.Dec.{eqb, ltb, leb}
 use lib.ListN.{length, getD, set, replicate, length-replicate, List·getD-eq-default}
-use Rattle.folds.specs.Below.{fold, some, some-one, some-no, some-ext, tally, tally-ext, and-under, and-false, and-true}
+use Rattle.folds.specs.Below.{fold, some, some-one, some-no, some-ext, tally, tally-ext, and-false, and-true}
 use Rattle.folds.specs.Lists.{over, over-listed, gather}
 use Rattle.folds.specs.Marked.{bit, Marked, marked-none, marked-one, marked-as, marked-then, marked-more, marked-column, bit-is}
 use Rattle.folds.specs.Column.{column, column-at, column-ext, filled, replicate-at}
@@ -36,13 +36,13 @@ unfolding flaggedBy
 flagged-is rule minimum l k = refl
 
 -- a line with too few members marks none
-pub too-few : (rule : LineRule) (minimum : ℕ) (a l : List ℕ) → length l < minimum → a ≡ over (markIf (flaggedBy rule minimum l)) a l
-too-few rule minimum a l h =
+pub short-line : (rule : LineRule) (minimum : ℕ) (a l : List ℕ) → length l < minimum → a ≡ over (markIf (flaggedBy rule minimum l)) a l
+short-line rule minimum a l h =
     sym (over-ext (flaggedBy rule minimum l) (λ k. false) a l (λ k. flagged-is rule minimum l k ∙ rw (lt-leb minimum (length l) h)) ∙ over-same a l)
 
 -- another marks the members that are far from it
-pub enough : (rule : LineRule) (minimum : ℕ) (line : Line) (a l : List ℕ) → minimum ≤ length l → line ≡ fitOf (rule .x) (rule .y) l → over (markIf (isFar rule line)) a l ≡ over (markIf (flaggedBy rule minimum l)) a l
-enough rule minimum line a l h e =
+pub long-line : (rule : LineRule) (minimum : ℕ) (line : Line) (a l : List ℕ) → minimum ≤ length l → line ≡ fitOf (rule .x) (rule .y) l → over (markIf (isFar rule line)) a l ≡ over (markIf (flaggedBy rule minimum l)) a l
+long-line rule minimum line a l h e =
     over-ext (isFar rule line) (flaggedBy rule minimum l) a l (λ k. rw e (sym (flagged-is rule minimum l k ∙ rw (le-leb minimum (length l) h))))
 
 -- ---- one line
@@ -66,7 +66,7 @@ line-turns p f a zero = marked-none (λ (m : ℕ). false) a (λ m. refl)
 line-turns p f a (suc n) = marked-then _ (hits p f n) (line-turns p f a n) (line-turn p f n _)
 
 -- the marks of the ranks below n with p and f
-pub line-marked : (p f : ℕ → Bool) (n : ℕ) (a : List ℕ) → Marked (λ (m : ℕ). ltb m n && (p m && f m)) a (over (markIf f) a (gather p n))
+line-marked : (p f : ℕ → Bool) (n : ℕ) (a : List ℕ) → Marked (λ (m : ℕ). ltb m n && (p m && f m)) a (over (markIf f) a (gather p n))
 unfolding hits
 line-marked p f n a =
     rw (over-listed (markIf f) a p (λ (k : ℕ). k) n)

@@ -13,11 +13,11 @@ use Rattle.folds.specs.Below.{first, first-more, first-end, first-le, first-bef
 use Rattle.folds.specs.Lists.{Gathered, gathered-skip, getD-any}
 use Rattle.folds.specs.Column.{replicate-at}
 use Rattle.view.specs.View.{maxPoints, viewAt, Ranked}
-use Rattle.lines.specs.Flags.{lineOf, isOn}
+use Rattle.lines.specs.Flags.{lineNumber, isOn}
 use Rattle.lines.specs.Lines.{Chained, Onward, Linked}
 
 -- rows and columns are ranks
-pub line-below : {n : ℕ} {ranks : List ℕ} → Ranked n ranks → (rows : Bool) (k : ℕ) → k < n → lineOf (viewAt n ranks [] []) rows k < n
+pub line-below : {n : ℕ} {ranks : List ℕ} → Ranked n ranks → (rows : Bool) (k : ℕ) → k < n → lineNumber (viewAt n ranks [] []) rows k < n
 line-below r true k h = r .rows k h
 line-below r false k h = r .columns k h
 

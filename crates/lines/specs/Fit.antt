@@ -19,9 +19,9 @@ abbrev pub valueAt : List Float → ℕ → Float
 valueAt l k = getD l k nan
 
 -- the sum of f j over the ranks j of l, in their order, divided by how many they are
-unfoldable pub meanOf : (ℕ → Float) → List ℕ → Float
+unfoldable pub meanOver : (ℕ → Float) → List ℕ → Float
 unfolding over add div ofInt ofBits
-meanOf f l = over (λ (s : Float) (j : ℕ). s ⊕ f j) zero l ⊘ ofInt binary32 (pos (length l))
+meanOver f l = over (λ (s : Float) (j : ℕ). s ⊕ f j) zero l ⊘ ofInt binary32 (pos (length l))
 
 -- the sum of (f j - a) * (g j - b) over the ranks j of l, in their order
 unfoldable pub momentOf : (ℕ → Float) → Float → (ℕ → Float) → Float → List ℕ → Float
@@ -59,8 +59,8 @@ lineAround x y c l =
 
 -- the centre of the points of l
 unfoldable pub centreOf : (ℕ → Float) → (ℕ → Float) → List ℕ → Vector
-unfolding meanOf
-centreOf x y l = record { x = meanOf x l; y = meanOf y l }
+unfolding meanOver
+centreOf x y l = record { x = meanOver x l; y = meanOver y l }
 
 -- the line fitted to the points of l, through their centre
 unfoldable pub fitOf : (ℕ → Float) → (ℕ → Float) → List ℕ → Line

@@ -34,8 +34,8 @@ unfolding isFar fitOf
 flaggedBy rule minimum l k = leb minimum (length l) && isFar rule (fitOf (rule .x) (rule .y) l) k
 
 -- the line of each rank: its row, or its column, by the line's first rank
-abbrev pub lineOf : View → Bool → ℕ → ℕ
-lineOf w rows = cond rows (w .row) (w .column)
+abbrev pub lineNumber : View → Bool → ℕ → ℕ
+lineNumber w rows = cond rows (w .row) (w .column)
 
 -- the line with this number has rank k
 abbrev pub isOn : (ℕ → ℕ) → ℕ → ℕ → Bool
@@ -56,4 +56,4 @@ flagCount byIdx rule minimum line n m = tally (counts byIdx (isFlagged rule mini
 abbrev pub flagsAt : View → (ℕ → Float) → Float → ℕ → ℕ → ℕ
 flagsAt w scale tolerance minimum m =
     let rule : LineRule = record { x = w .x; y = w .y; scale = scale; tolerance = tolerance } in
-    flagCount (w .byIdx) rule minimum (lineOf w true) (w .count) m + flagCount (w .byIdx) rule minimum (lineOf w false) (w .count) m
+    flagCount (w .byIdx) rule minimum (lineNumber w true) (w .count) m + flagCount (w .byIdx) rule minimum (lineNumber w false) (w .count) m

@@ -3,7 +3,7 @@ ghost use mathlib.Core.Path.{_≡_};
 ghost use mathlib.Core.Bool.{Bool, true};
 ghost use Prim.Native.Nat.{ℕ, _+_, _≤_, _<_};
 ghost use lib.ListN.{length, getD, take, replicate};
-ghost use mathlib.Core.List.{List, []};
+ghost use mathlib.Core.List.{[]};
 ghost use Rattle.folds.specs.Below.{first};
 ghost use Rattle.folds.specs.Lists.{Gathered, over};
 ghost use Rattle.folds.specs.Marked.{bit};
@@ -12,7 +12,7 @@ ghost use Rattle.folds.specs.Scattered.{Scattered, oneMore};
 ghost use Rattle.view.specs.View.{maxPoints, viewAt, Ranked};
 ghost use Rattle.marks.specs.Marks.{isSet};
 ghost use Rattle.lines.specs.Fit.{valueAt, largerEigenvalue, directionOf, lineThrough, centreOf, lineAround, fitOf, distanceOf};
-ghost use Rattle.lines.specs.Flags.{ruleBy, isFar, flaggedBy, lineOf, isFlagged, flagsAt};
+ghost use Rattle.lines.specs.Flags.{ruleBy, isFar, flaggedBy, lineNumber, isFlagged, flagsAt};
 ghost use Rattle.lines.specs.Lines.{Members, Chained, Onward, Linked, markIf};
 use view::MAX_POINTS;
 use view::RANKS_SIZE;
@@ -184,7 +184,7 @@ fn mark_flagged(
 // The line of rank k: the first rank of its row, or of its column.
 fn line_of(ranks: &[u16; RANKS_SIZE], rows: bool, k: usize) -> usize
     requires { ⌜ k < maxPoints ⌝ }
-    ensures { λ r. ⌜ r ≡ lineOf (viewAt 0 (now (ranks .entry)) [] []) rows k ⌝ }
+    ensures { λ r. ⌜ r ≡ lineNumber (viewAt 0 (now (ranks .entry)) [] []) rows k ⌝ }
 {
     if rows {
         return view::row_of(ranks, k);
@@ -200,7 +200,7 @@ fn chain(
     head: &mut [u16; MAX_POINTS],
 ) -> [u16; MAX_POINTS]
     requires { ⌜ Ranked n (now ranks) × (now head ≡ replicate maxPoints n) ⌝ }
-    ensures { λ r. ⌜ Chained n (lineOf (viewAt n (now (ranks .entry)) [] []) rows) 0 (now (head .exit)) r ⌝ }
+    ensures { λ r. ⌜ Chained n (lineNumber (viewAt n (now (ranks .entry)) [] []) rows) 0 (now (head .exit)) r ⌝ }
 {
     let mut next = [0u16; MAX_POINTS];
     let mut i = n;
@@ -240,7 +240,7 @@ fn flagged(
     minimum: u16,
 ) -> [u8; MAX_POINTS]
     requires { ⌜ Ranked n (now ranks) ⌝ }
-    ensures { λ r. ⌜ r ≡ columnOf maxPoints 0 n (λ (k : ℕ). bit (isFlagged (ruleBy (now (x .entry)) (now (y .entry)) (now (scale .entry)) tolerance) minimum (lineOf (viewAt n (now (ranks .entry)) [] []) rows) n k)) ⌝ }
+    ensures { λ r. ⌜ r ≡ columnOf maxPoints 0 n (λ (k : ℕ). bit (isFlagged (ruleBy (now (x .entry)) (now (y .entry)) (now (scale .entry)) tolerance) minimum (lineNumber (viewAt n (now (ranks .entry)) [] []) rows) n k)) ⌝ }
 {
     let mut head = [n as u16; MAX_POINTS];
     let next = chain(ranks, rows, n, &mut head);

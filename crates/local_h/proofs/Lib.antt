@@ -2,5 +2,4 @@ pub mod Ordered
 pub mod Coordinate
 pub mod Searching
 pub mod Bases
-pub mod Indexing
 pub mod Worked

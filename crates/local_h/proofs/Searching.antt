@@ -4,7 +4,7 @@ use mathlib.Core.Bool.{Bool, true, false}
 use Prim.Native.Nat.{ℕ, _+_, _≤_, _<_}
 use native.Mathlib.Omega.{arith}
 use Rattle.folds.specs.Below.{first, first-more, first-end}
-use Rattle.local_h.specs.Places.{Next}
+use Rattle.local_h.specs.Places.{FirstPlace}
 
 pub record Searching (p : ℕ → Bool) (start i : ℕ) : Type 0 where
   pub from : start ≤ i
@@ -18,8 +18,8 @@ module _ (p : ℕ → Bool) (start : ℕ) where
   pub search-more : (i : ℕ) → i < 24 → p i ≡ false → Searching p start i → Searching p start (i + 1)
   search-more i h e s = record { from = omega (arith, s .from); near = omega arith; left = rw (first-more p i 24 h, e) at (s .left) }
 
-  pub search-found : (i : ℕ) → i < 24 → p i ≡ true → Searching p start i → Next p start i
+  pub search-found : (i : ℕ) → i < 24 → p i ≡ true → Searching p start i → FirstPlace p start i
   search-found i h e s = record { is = sym (rw (first-more p i 24 h, e)) ∙ s .left; from = s .from; near = s .near }
 
-  pub search-end : (i : ℕ) → 24 ≤ i → Searching p start i → Next p start i
+  pub search-end : (i : ℕ) → 24 ≤ i → Searching p start i → FirstPlace p start i
   search-end i h s = record { is = sym (first-end p i 24 h) ∙ s .left; from = s .from; near = s .near }

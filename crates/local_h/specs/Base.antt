@@ -24,9 +24,13 @@ module _ (w : View) where
   unfoldable pub isOther : ℕ → ℕ → Bool
   isOther k p = ltb (memberAt k p) (w .count) && not (alike w (memberAt k p) k)
 
-  -- place p serves as the fourth, after the places a, b and c
-  unfoldable pub isFourth : ℕ → ℕ → ℕ → ℕ → ℕ → Bool
-  isFourth k a b c p = isOther k p && not (onLine (offsetAt a) (offsetAt b) (offsetAt c) && onLine (offsetAt a) (offsetAt b) (offsetAt p))
+  -- place p serves, where the line through the offsets e and f is to be left or not
+  unfoldable pub isServing : ℕ → Bool → ℕ → ℕ → ℕ → Bool
+  isServing k leave e f p = not (leave && onLine e f (offsetAt p)) && isOther k p
+
+  -- it serves as the fourth, after the places a, b and c
+  abbrev pub isFourth : ℕ → ℕ → ℕ → ℕ → ℕ → Bool
+  isFourth k a b c p = isServing k (onLine (offsetAt a) (offsetAt b) (offsetAt c)) (offsetAt a) (offsetAt b) p
 
   -- the base of rank k, by places in the order; a place of 24 or more is none, and then so are those after it
   unfoldable pub baseOf : ℕ → Base

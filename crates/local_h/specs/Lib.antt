@@ -2,4 +2,3 @@ pub mod Order
 pub mod Base
 pub mod Places
 pub mod Residual
-pub mod ByIndex

@@ -6,7 +6,7 @@ use Rattle.folds.specs.Below.{first}
 use Rattle.view.specs.View.{maxPoints}
 
 -- r is the first place from i on with p, of the 24
-pub record Next (p : ℕ → Bool) (i r : ℕ) : Type 0 where
+pub record FirstPlace (p : ℕ → Bool) (i r : ℕ) : Type 0 where
   pub is : r ≡ first p i 24
   pub from : i ≤ r
   pub near : r ≤ i + 24

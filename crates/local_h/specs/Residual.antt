@@ -1,6 +1,6 @@
 -- The residual of a corner: how far the map fitted to its base takes its cell from where it is seen. Assumes nothing.
-use mathlib.Core.Bool.{Bool, true, false, not, cond}
-use mathlib.Core.List.{List, [], _∷_}
+use mathlib.Core.Bool.{Bool, true, cond}
+use mathlib.Core.List.{[], _∷_}
 use Prim.Native.Nat.{ℕ}
 use lib.IntN.{ℤ}
 use lib.Dec.{ltb}
@@ -14,7 +14,7 @@ use Rattle.homography.specs.declared.HomographyFit.the-variants as fit
 use Rattle.homography.specs.Fit.{homographyFrom4pt, appliedTo, fit-computes}
 use Rattle.cells.specs.Cell.{Cell}
 use Rattle.view.specs.View.{View}
-use Rattle.local_h.specs.Base.{memberAt, onLine, isOther, isFourth, baseOf}
+use Rattle.local_h.specs.Base.{memberAt, onLine, isOther, isServing, baseOf}
 use Rattle.local_h.specs.declared.Base.{Base}
 use Rattle.local_h.specs.declared.Residual.{Residual}
 use Rattle.local_h.specs.declared.Residual.the-variants.{Value, NoFit}
@@ -32,28 +32,28 @@ unfoldable pub residualBy : HomographyFit → PlanePoint → PlanePoint → Resi
 residualBy (fit.Found h) p q = Value (normOf (appliedTo h p .x ⊖ q .x) (appliedTo h p .y ⊖ q .y))
 residualBy fit.NoFit p q = NoFit
 
-module _ (w : View) (cell : ℕ → Cell) where
-  -- where rank k is seen. "One index stands at positions with different bits" is refused, so this is its index's position.
-  abbrev pub seenAt : ℕ → PlanePoint
-  seenAt k = record { x = w .x k; y = w .y k }
+-- where rank k is seen. "One index stands at positions with different bits" is refused, so this is its index's position.
+abbrev pub seenAt : View → ℕ → PlanePoint
+seenAt w k = record { x = w .x k; y = w .y k }
 
+module _ (w : View) (cell : ℕ → Cell) where
   -- the residual of rank k by the ranks i, j, l and m
-  unfoldable pub residualOf : ℕ → ℕ → ℕ → ℕ → ℕ → Residual
-  residualOf k i j l m =
+  unfoldable pub residualFrom : ℕ → ℕ → ℕ → ℕ → ℕ → Residual
+  residualFrom k i j l m =
       residualBy
       (homographyFrom4pt
       (cellPoint (cell i) ∷ cellPoint (cell j) ∷ cellPoint (cell l) ∷ cellPoint (cell m) ∷ [])
-      (seenAt i ∷ seenAt j ∷ seenAt l ∷ seenAt m ∷ []))
+      (seenAt w i ∷ seenAt w j ∷ seenAt w l ∷ seenAt w m ∷ []))
       (cellPoint (cell k))
-      (seenAt k)
+      (seenAt w k)
 
   -- "With fewer than four there is no fit."
   unfoldable pub residualAt : ℕ → Residual
   residualAt k =
       let b = baseOf w k in
-      cond (ltb (b .d) 24) (residualOf k (memberAt w k (b .a)) (memberAt w k (b .b)) (memberAt w k (b .c)) (memberAt w k (b .d))) NoFit
+      cond (ltb (b .d) 24) (residualFrom k (memberAt w k (b .a)) (memberAt w k (b .b)) (memberAt w k (b .c)) (memberAt w k (b .d))) NoFit
 
 -- This name on an `unfolding` line opens every definition that a residual computes by.
 unfoldable pub residuals-compute : Bool
-unfolding fit-computes ofInt first firstIn onLine isOther isFourth baseOf residualBy residualOf residualAt
+unfolding fit-computes ofInt first firstIn onLine isOther isServing baseOf residualBy residualFrom residualAt
 residuals-compute = true

@@ -5,21 +5,17 @@ use view::MAX_POINTS;
 use view::RANKS_SIZE;
 ghost use mathlib.Core.Path.{_≡_};
 ghost use mathlib.Core.List.{List, []};
-ghost use Prim.Native.Nat.{ℕ, _+_, _*_, _≤_, _<_};
+ghost use Prim.Native.Nat.{_+_, _*_, _≤_, _<_};
 ghost use lib.ListN.{getD};
-ghost use lib.Ieee.{Float, nan};
-ghost use Rattle.folds.specs.Marked.{bit};
+ghost use lib.Ieee.{Float};
 ghost use lib.IntN.{pos, _-ℤ_};
-ghost use Rattle.view.specs.View.{maxPoints, viewAt, Ranked};
+ghost use Rattle.view.specs.View.{maxPoints, viewAt};
 ghost use Rattle.cells.specs.Points.{bias};
 ghost use Rattle.cells.specs.Cell.{cellOfKey, cellsAt};
 ghost use Rattle.local_h.specs.Order.{offsetAt};
-ghost use Rattle.local_h.specs.Base.{times, onLine, isOther, isFourth, baseOf};
-ghost use Rattle.local_h.specs.Places.{Next, FiveRanks};
-ghost use Rattle.local_h.specs.Residual.{coordinate, cellPoint, residualBy, residualOf, residualAt};
-ghost use Rattle.local_h.specs.ByIndex.{hasValue, valueOf, exceeds, isHigh, cellColumns, indexColumns};
-
-mod by_index;
+ghost use Rattle.local_h.specs.Base.{times, onLine, isOther, isServing, baseOf};
+ghost use Rattle.local_h.specs.Places.{FirstPlace, FiveRanks};
+ghost use Rattle.local_h.specs.Residual.{coordinate, cellPoint, seenAt, residualBy, residualFrom, residualAt};
 
 // The base of a corner, by places in the order of the 24 cells round it. A place of 24 or more is none, and then so are those after it.
 pub struct Base {
@@ -109,37 +105,21 @@ fn on_line(a: usize, b: usize, c: usize) -> bool
     product(a, b) + product(b, c) + product(c, a) == product(b, a) + product(c, b) + product(a, c)
 }
 
-// The first place from p on with a point of another index.
-fn next_other(ranks: &[u16; RANKS_SIZE], n: usize, k: usize, p: usize) -> usize
-    requires { ⌜ (n ≤ maxPoints) × (k < n) × (p < 100) ⌝ }
-    ensures { λ r. ⌜ Next (isOther (viewAt n (now (ranks .entry)) [] []) k) p r ⌝ }
-{
-    let mut i = p;
-    while i < 24 {
-        if is_other(ranks, n, k, i) {
-            return i;
-        }
-        i += 1;
-    }
-    i
-}
-
-fn is_fourth(
+// Whether place p serves: it has a point of another index, and is off the line through the offsets e and f if that line is to be left.
+fn serves(
     ranks: &[u16; RANKS_SIZE],
     n: usize,
     k: usize,
-    a: usize,
-    b: usize,
-    c: usize,
+    leave: bool,
+    e: usize,
+    f: usize,
     p: usize,
 ) -> bool
-    requires { ⌜ (n ≤ maxPoints) × (k < n) × (a < 24) × (b < 24) × (c < 24) × (p < 24) ⌝ }
-    ensures { λ r. ⌜ r ≡ isFourth (viewAt n (now (ranks .entry)) [] []) k a b c p ⌝ }
+    requires { ⌜ (n ≤ maxPoints) × (k < n) × (e < 25) × (f < 25) × (p < 24) ⌝ }
+    ensures { λ r. ⌜ r ≡ isServing (viewAt n (now (ranks .entry)) [] []) k leave e f p ⌝ }
 {
     if is_other(ranks, n, k, p) {
-        let e = offset_at(a);
-        let f = offset_at(b);
-        if on_line(e, f, offset_at(c)) {
+        if leave {
             return !on_line(e, f, offset_at(p));
         }
         return true;
@@ -147,14 +127,22 @@ fn is_fourth(
     false
 }
 
-// The first place after c that is not on one line with a, b and c.
-fn next_fourth(ranks: &[u16; RANKS_SIZE], n: usize, k: usize, a: usize, b: usize, c: usize) -> usize
-    requires { ⌜ (n ≤ maxPoints) × (k < n) × (a < b) × (b < c) × (c < 100) ⌝ }
-    ensures { λ r. ⌜ Next (isFourth (viewAt n (now (ranks .entry)) [] []) k a b c) (c + 1) r ⌝ }
+// The first place from `start` on that serves.
+fn next_place(
+    ranks: &[u16; RANKS_SIZE],
+    n: usize,
+    k: usize,
+    leave: bool,
+    e: usize,
+    f: usize,
+    start: usize,
+) -> usize
+    requires { ⌜ (n ≤ maxPoints) × (k < n) × (e < 25) × (f < 25) × (start < 100) ⌝ }
+    ensures { λ r. ⌜ FirstPlace (isServing (viewAt n (now (ranks .entry)) [] []) k leave e f) start r ⌝ }
 {
-    let mut p = c + 1;
+    let mut p = start;
     while p < 24 {
-        if is_fourth(ranks, n, k, a, b, c, p) {
+        if serves(ranks, n, k, leave, e, f, p) {
             return p;
         }
         p += 1;
@@ -167,16 +155,16 @@ pub fn pick_local_h_base(ranks: &[u16; RANKS_SIZE], n: usize, k: usize) -> Base
     requires { ⌜ (n ≤ maxPoints) × (k < n) ⌝ }
     ensures { λ r. ⌜ ((xs ys : List Float) → r ≡ baseOf (viewAt n (now (ranks .entry)) xs ys) k) ⌝ }
 {
-    let a = next_other(ranks, n, k, 0);
-    let b = next_other(ranks, n, k, a + 1);
-    let c = next_other(ranks, n, k, b + 1);
-    let d = next_fourth(ranks, n, k, a, b, c);
-    Base {
-        a: a,
-        b: b,
-        c: c,
-        d: d,
+    let a = next_place(ranks, n, k, false, 0, 0, 0);
+    let b = next_place(ranks, n, k, false, 0, 0, a + 1);
+    let c = next_place(ranks, n, k, false, 0, 0, b + 1);
+    if 24 <= c {
+        return Base { a, b, c, d: c + 1 };
     }
+    let e = offset_at(a);
+    let f = offset_at(b);
+    let d = next_place(ranks, n, k, on_line(e, f, offset_at(c)), e, f, c + 1);
+    Base { a, b, c, d }
 }
 
 // A key's part without its bias, as f32.
@@ -190,13 +178,30 @@ fn coordinate_of(b: u32) -> f32
     (b - cells::BIAS) as f32
 }
 
-fn cell_point(key: u32) -> PlanePoint
+// The cell with this key as a point.
+fn key_point(key: u32) -> PlanePoint
     ensures { λ r. ⌜ r ≡ cellPoint (cellOfKey key) ⌝ }
 {
     PlanePoint {
         x: coordinate_of(cells::u_part(key)),
         y: coordinate_of(cells::v_part(key)),
     }
+}
+
+// That of rank k.
+fn cell_point(keys: &[u32; MAX_POINTS], k: usize) -> PlanePoint
+    requires { ⌜ k < maxPoints ⌝ }
+    ensures { λ r. ⌜ r ≡ cellPoint (cellsAt (now (keys .entry)) k) ⌝ }
+{
+    key_point(keys[k])
+}
+
+// Where rank k is seen.
+fn seen_point(x: &[f32; MAX_POINTS], y: &[f32; MAX_POINTS], k: usize) -> PlanePoint
+    requires { ⌜ k < maxPoints ⌝ }
+    ensures { λ r. ⌜ r ≡ seenAt (viewAt 0 [] (now (x .entry)) (now (y .entry))) k ⌝ }
+{
+    PlanePoint { x: x[k], y: y[k] }
 }
 
 // How far the map takes p from q.
@@ -213,7 +218,7 @@ fn residual_by(fit: HomographyFit, p: PlanePoint, q: PlanePoint) -> Residual
 }
 
 // The residual of rank k by the ranks i, j, l and m.
-fn residual_of(
+fn residual_from(
     keys: &[u32; MAX_POINTS],
     x: &[f32; MAX_POINTS],
     y: &[f32; MAX_POINTS],
@@ -224,22 +229,22 @@ fn residual_of(
     m: usize,
 ) -> Residual
     requires { ⌜ FiveRanks k i j l m ⌝ }
-    ensures { λ r. ⌜ r ≡ residualOf (viewAt 0 [] (now (x .entry)) (now (y .entry))) (cellsAt (now (keys .entry))) k i j l m ⌝ }
+    ensures { λ r. ⌜ r ≡ residualFrom (viewAt 0 [] (now (x .entry)) (now (y .entry))) (cellsAt (now (keys .entry))) k i j l m ⌝ }
 {
     let cells = [
-        cell_point(keys[i]),
-        cell_point(keys[j]),
-        cell_point(keys[l]),
-        cell_point(keys[m]),
+        cell_point(keys, i),
+        cell_point(keys, j),
+        cell_point(keys, l),
+        cell_point(keys, m),
     ];
     let seen = [
-        PlanePoint { x: x[i], y: y[i] },
-        PlanePoint { x: x[j], y: y[j] },
-        PlanePoint { x: x[l], y: y[l] },
-        PlanePoint { x: x[m], y: y[m] },
+        seen_point(x, y, i),
+        seen_point(x, y, j),
+        seen_point(x, y, l),
+        seen_point(x, y, m),
     ];
     let fit = homography::homography_from_4pt(cells, seen);
-    residual_by(fit, cell_point(keys[k]), PlanePoint { x: x[k], y: y[k] })
+    residual_by(fit, cell_point(keys, k), seen_point(x, y, k))
 }
 
 // The residual of rank k.
@@ -260,119 +265,7 @@ pub fn local_h_residual(
         let j = member(ranks, k, b.b);
         let l = member(ranks, k, b.c);
         let m = member(ranks, k, b.d);
-        return residual_of(keys, x, y, k, i, j, l, m);
+        return residual_from(keys, x, y, k, i, j, l, m);
     }
     Residual::NoFit
-}
-
-// For each rank: whether there is a residual, and which, or 0; whether it is over the tolerance, and over twice the tolerance.
-pub struct Residuals {
-    pub has: [u8; MAX_POINTS],
-    pub value: [f32; MAX_POINTS],
-    pub over: [u8; MAX_POINTS],
-    pub high: [u8; MAX_POINTS],
-}
-
-fn has_value(r: Residual) -> u8
-    ensures { λ s. ⌜ s ≡ bit (hasValue r) ⌝ }
-{
-    match r {
-        Residual::Value(_) => 1,
-        Residual::NoFit => 0,
-    }
-}
-
-fn value_of(r: Residual) -> f32
-    ensures { λ s. ⌜ s ≡ valueOf r ⌝ }
-{
-    match r {
-        Residual::Value(x) => x,
-        Residual::NoFit => 0.0,
-    }
-}
-
-fn exceeds_limit(limit: f32, r: Residual) -> bool
-    ensures { λ s. ⌜ s ≡ exceeds limit r ⌝ }
-{
-    match r {
-        Residual::Value(x) => limit < x,
-        Residual::NoFit => false,
-    }
-}
-
-fn over_tolerance(limit: f32, r: Residual) -> u8
-    ensures { λ s. ⌜ s ≡ bit (exceeds limit r) ⌝ }
-{
-    if exceeds_limit(limit, r) { 1 } else { 0 }
-}
-
-fn over_twice(limit: f32, r: Residual) -> u8
-    ensures { λ s. ⌜ s ≡ bit (isHigh limit r) ⌝ }
-{
-    if exceeds_limit(limit, r) {
-        return over_tolerance(2.0 * limit, r);
-    }
-    0
-}
-
-// The residual of each rank, and its flags: the tolerance times the scale of the rank's index is the limit.
-pub fn cell_residuals(
-    ranks: &[u16; RANKS_SIZE],
-    keys: &[u32; MAX_POINTS],
-    x: &[f32; MAX_POINTS],
-    y: &[f32; MAX_POINTS],
-    scale: &[f32; MAX_POINTS],
-    n: usize,
-    tolerance: f32,
-) -> Residuals
-    requires { ⌜ n ≤ maxPoints ⌝ }
-    ensures { λ r. ⌜ r ≡ cellColumns (viewAt n (now (ranks .entry)) (now (x .entry)) (now (y .entry))) (cellsAt (now (keys .entry))) (λ (j : ℕ). getD (now (scale .entry)) j nan) tolerance ⌝ }
-{
-    let none: f32 = 0.0 / 0.0;
-    let mut has = [0u8; MAX_POINTS];
-    let mut value = [none; MAX_POINTS];
-    let mut over = [0u8; MAX_POINTS];
-    let mut high = [0u8; MAX_POINTS];
-    let mut k = 0;
-    while k < n {
-        let r = local_h_residual(ranks, keys, x, y, n, k);
-        let limit = tolerance * scale[k];
-        has[k] = has_value(r);
-        value[k] = value_of(r);
-        over[k] = over_tolerance(limit, r);
-        high[k] = over_twice(limit, r);
-        k += 1;
-    }
-    Residuals {
-        has: has,
-        value: value,
-        over: over,
-        high: high,
-    }
-}
-
-// For each rank what its index has: the residual of the index's last cell that has one, and the flags of any of its cells.
-pub fn index_residuals(
-    ranks: &[u16; RANKS_SIZE],
-    keys: &[u32; MAX_POINTS],
-    x: &[f32; MAX_POINTS],
-    y: &[f32; MAX_POINTS],
-    scale: &[f32; MAX_POINTS],
-    n: usize,
-    tolerance: f32,
-) -> Residuals
-    requires { ⌜ Ranked n (now ranks) ⌝ }
-    ensures { λ r. ⌜ r ≡ indexColumns (viewAt n (now (ranks .entry)) (now (x .entry)) (now (y .entry))) (cellsAt (now (keys .entry))) (λ (j : ℕ). getD (now (scale .entry)) j nan) tolerance ⌝ }
-{
-    let cells = cell_residuals(ranks, keys, x, y, scale, n, tolerance);
-    let has = cells.has;
-    let value = cells.value;
-    let over = cells.over;
-    let high = cells.high;
-    Residuals {
-        has: marks::by_index(ranks, &has, n),
-        value: by_index::values(ranks, &has, &value, n),
-        over: marks::by_index(ranks, &over, n),
-        high: marks::by_index(ranks, &high, n),
-    }
 }

@@ -1,6 +1,6 @@
 -- The columns of `deviations`, by what its tests found. Assumes nothing.
 use mathlib.Core.Path.{_≡_, refl, sym, ap, _∙_}
-use mathlib.Core.Bool.{Bool, true, false, _&&_}
+use mathlib.Core.Bool.{true, false, _&&_}
 use mathlib.Core.List.{List}
 use Prim.Native.Nat.{ℕ, _≤_, _<_}
 use native.Mathlib.Omega.{arith}
@@ -15,7 +15,7 @@ use Rattle.folds.specs.Column.{column, column-ext, filled, replicate-at}
 use Rattle.folds.specs.Marked.{bit}
 use Rattle.median.specs.Median.{medianOf}
 use Rattle.median.specs.Packed.{positives}
-use Rattle.step.specs.Deviation.{stepsIn, isOutside, deviates}
+use Rattle.step.specs.Deviation.{stepsIn, isStepOutside, deviates}
 
 -- the steps that an array holds
 abbrev held : List Float → ℕ → Float
@@ -29,7 +29,7 @@ steps-length : (steps : ℕ → Float) (n : ℕ) → length (stepsIn steps n) �
 unfolding stepsIn
 steps-length steps n = listed-length (λ (k : ℕ). lt zero (steps k)) steps n
 
-deviates-is : (steps : ℕ → Float) (n : ℕ) (t : Float) (m : ℕ) → deviates steps n t m ≡ lt zero t && (leb 3 (length (stepsIn steps n)) && (lt zero (steps m) && isOutside (medianOf (stepsIn steps n)) t (steps m)))
+deviates-is : (steps : ℕ → Float) (n : ℕ) (t : Float) (m : ℕ) → deviates steps n t m ≡ lt zero t && (leb 3 (length (stepsIn steps n)) && (lt zero (steps m) && isStepOutside (medianOf (stepsIn steps n)) t (steps m)))
 unfolding deviates
 deviates-is steps n t m = refl
 
@@ -38,18 +38,18 @@ module _ (steps : List Float) (size n : ℕ) (t : Float) (small : n ≤ size) wh
   none : ((m : ℕ) → deviates (held steps) n t m ≡ false) → replicate size 0 ≡ column size 0 n (λ (m : ℕ). bit (deviates (held steps) n t m))
   none h = filled n small (record { long = refl; done = λ k l. replicate-at {A = ℕ} size 0 k ∙ sym (ap bit (h k)); left = λ k l. refl })
 
-  pub off : lt zero t ≡ false → replicate size 0 ≡ column size 0 n (λ (m : ℕ). bit (deviates (held steps) n t m))
-  off h = none (λ m. deviates-is (held steps) n t m ∙ rw h)
+  pub no-threshold : lt zero t ≡ false → replicate size 0 ≡ column size 0 n (λ (m : ℕ). bit (deviates (held steps) n t m))
+  no-threshold h = none (λ m. deviates-is (held steps) n t m ∙ rw h)
 
-  pub too-few : {c : ℕ} → c ≡ tally (λ (k : ℕ). lt zero (held steps k)) n → c < 3 → replicate size 0 ≡ column size 0 n (λ (m : ℕ). bit (deviates (held steps) n t m))
-  too-few e h = none (λ m. deviates-is (held steps) n t m ∙ rw (lt-leb 3 (length (stepsIn (held steps) n)) (omega (arith, steps-length (held steps) n))) (and-false (lt zero t)))
+  pub few-steps : {c : ℕ} → c ≡ tally (λ (k : ℕ). lt zero (held steps k)) n → c < 3 → replicate size 0 ≡ column size 0 n (λ (m : ℕ). bit (deviates (held steps) n t m))
+  few-steps e h = none (λ m. deviates-is (held steps) n t m ∙ rw (lt-leb 3 (length (stepsIn (held steps) n)) (omega (arith, steps-length (held steps) n))) (and-false (lt zero t)))
 
   pub judged : {c : ℕ} {median : Float} {r : List ℕ} → lt zero t ≡ true → c ≡ tally (λ (k : ℕ). lt zero (held steps k)) n → 3 ≤ c → median ≡ medianOf (positives steps n)
-      → r ≡ column size 0 n (λ (m : ℕ). bit (lt zero (held steps m) && isOutside median t (held steps m))) → r ≡ column size 0 n (λ (m : ℕ). bit (deviates (held steps) n t m))
+      → r ≡ column size 0 n (λ (m : ℕ). bit (lt zero (held steps m) && isStepOutside median t (held steps m))) → r ≡ column size 0 n (λ (m : ℕ). bit (deviates (held steps) n t m))
   judged {c} {median} h e l d g =
       g
-      ∙ column-ext size 0 n (λ (m : ℕ). bit (lt zero (held steps m) && isOutside median t (held steps m))) (λ (m : ℕ). bit (deviates (held steps) n t m))
+      ∙ column-ext size 0 n (λ (m : ℕ). bit (lt zero (held steps m) && isStepOutside median t (held steps m))) (λ (m : ℕ). bit (deviates (held steps) n t m))
       (λ m k. sym (ap bit (is m)))
     where
-      is : (m : ℕ) → deviates (held steps) n t m ≡ lt zero (held steps m) && isOutside median t (held steps m)
+      is : (m : ℕ) → deviates (held steps) n t m ≡ lt zero (held steps m) && isStepOutside median t (held steps m)
       is m = deviates-is (held steps) n t m ∙ rw (h, le-leb 3 (length (stepsIn (held steps) n)) (omega (arith, steps-length (held steps) n)), d, steps-are steps n)

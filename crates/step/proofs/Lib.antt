@@ -1,1 +1,2 @@
 pub mod Deviating
+pub mod Finite

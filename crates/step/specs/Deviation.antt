@@ -1,24 +1,15 @@
 -- Which steps lie too far from their median: `flag_step_deviations` in step.rs. The steps are given at the places of their indices; 0
 -- is no step. Assumes nothing.
-use mathlib.Core.Path.{_≡_, refl}
-use mathlib.Core.Bool.{Bool, true, false, cond, _&&_, _||_}
+use mathlib.Core.Bool.{Bool, _&&_, _||_}
 use mathlib.Core.List.{List}
-use Prim.Native.Nat.{ℕ, _/_, _<_}
-use native.Mathlib.Omega.{arith}
-use lib.Dec.{eqb, leb}
+use Prim.Native.Nat.{ℕ}
+use lib.Dec.{leb}
 use lib.ListN.{length}
-use lib.Ieee.{Float, nan, ofBits, lt, add, mul, div}
-use lib.Ieee.Scale.{finite}
+use lib.Ieee.{Float, ofBits, lt, add, mul, div}
 use Rattle.float.specs.Constants.{zero, one}
 use Rattle.folds.specs.Arith.{_⊕_, _⊗_, _⊘_}
-use Rattle.folds.specs.Lists.{All, all-listed, listed}
+use Rattle.folds.specs.Lists.{listed}
 use Rattle.median.specs.Median.{medianOf}
-use Rattle.sort.specs.Sorted.{sort}
-use Rattle.sort.proofs.Sorted.{sort-length, sort-all, all-at}
-use Rattle.view.specs.View.{View, prevU, nextU, prevV, nextV}
-use Rattle.step.specs.Step.{axisStep, meanStep, keptStep, localStep, stepAt}
-use Rattle.step.specs.declared.Step.{Step}
-use Rattle.step.specs.declared.Step.the-variants.{Of, Absent}
 
 -- the steps of n places, in their order
 unfoldable pub stepsIn : (ℕ → Float) → ℕ → List Float
@@ -26,44 +17,13 @@ unfolding listed lt ofBits
 stepsIn steps n = listed (λ (k : ℕ). lt zero (steps k)) steps n
 
 -- "step outside median/(1+t) to median·(1+t)"
-unfoldable pub isOutside : Float → Float → Float → Bool
+unfoldable pub isStepOutside : Float → Float → Float → Bool
 unfolding lt add mul div ofBits
-isOutside median t s = lt s (median ⊘ (one ⊕ t)) || lt (median ⊗ (one ⊕ t)) s
+isStepOutside median t s = lt s (median ⊘ (one ⊕ t)) || lt (median ⊗ (one ⊕ t)) s
 
--- rule 4's test of the step at place m: "step outside median/(1+t) to median·(1+t), threshold t above 0, at least three steps"
+-- rule 4's test of the step at place m. The Rust's test that the median is positive and finite never fails (proofs/Finite.antt), so it is
+-- left out: "step outside median/(1+t) to median·(1+t), threshold t above 0, at least three steps"
 unfoldable pub deviates : (ℕ → Float) → ℕ → Float → ℕ → Bool
-unfolding lt ofBits stepsIn isOutside medianOf
+unfolding lt ofBits stepsIn isStepOutside medianOf
 deviates steps n t m =
-    lt zero t && (leb 3 (length (stepsIn steps n)) && (lt zero (steps m) && isOutside (medianOf (stepsIn steps n)) t (steps m)))
-
--- ---- The Rust's test that the median is positive and finite never fails, so it is left out.
-
-kept-finite : (a : Step) → finite (keptStep a) ≡ true
-unfolding keptStep ofBits
-kept-finite (Of s) = go (lt zero s) (finite s) refl
-  where
-    go : (p f : Bool) → finite s ≡ f → finite (cond (p && f) s zero) ≡ true
-    go true true e = e
-    go true false e = refl
-    go false f e = refl
-kept-finite Absent = refl
-
--- each step is finite
-pub step-finite : (w : View) (aware : Bool) (m : ℕ) → finite (stepAt w aware m) ≡ true
-unfolding stepAt localStep ofBits
-step-finite w aware m = go (aware && eqb (w .byIdx m) m) (localStep w m) (kept-finite (meanStep (axisStep w prevU nextU m) (axisStep w prevV nextV m)))
-  where
-    go : (b : Bool) (s : Float) → finite s ≡ true → finite (cond b s zero) ≡ true
-    go true s e = e
-    go false s e = refl
-
-abbrev Sound : Float → Type 0
-Sound s = (lt zero s ≡ true) × (finite s ≡ true)
-
--- the median of such steps is one of them
-pub median-sound : (steps : ℕ → Float) (n : ℕ) → ((k : ℕ) → k < n → finite (steps k) ≡ true) → 0 < length (stepsIn steps n)
-    → (lt zero (medianOf (stepsIn steps n)) ≡ true) × (finite (medianOf (stepsIn steps n)) ≡ true)
-unfolding stepsIn medianOf
-median-sound steps n h some =
-    let l = listed (λ (k : ℕ). lt zero (steps k)) steps n in
-    all-at Sound nan (sort lt l) (sort-all lt Sound l (all-listed Sound (λ (k : ℕ). lt zero (steps k)) steps n (λ k g e. (e, h k g)))) (length l / 2) (omega (arith, sort-length lt l))
+    lt zero t && (leb 3 (length (stepsIn steps n)) && (lt zero (steps m) && isStepOutside (medianOf (stepsIn steps n)) t (steps m)))

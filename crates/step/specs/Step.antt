@@ -13,18 +13,18 @@ use Rattle.step.specs.declared.Step.{Step}
 use Rattle.step.specs.declared.Step.the-variants.{Of, Absent}
 
 -- the distance from rank p to rank q
-unfoldable pub between : (ℕ → Float) → (ℕ → Float) → ℕ → ℕ → Float
+unfoldable pub spacing : (ℕ → Float) → (ℕ → Float) → ℕ → ℕ → Float
 unfolding normOf sub
-between x y p q = normOf (x q ⊖ x p) (y q ⊖ y p)
+spacing x y p q = normOf (x q ⊖ x p) (y q ⊖ y p)
 
 -- The step of rank m along an axis, whose neighbours are at the offsets `before` and `after`: by a central difference where both are
 -- present, by a one-sided one where one is.
 unfoldable pub axisStep : View → ℕ → ℕ → ℕ → Step
-unfolding between mul ofBits
+unfolding spacing mul ofBits
 axisStep w before after m =
     cond (present w m before)
-    (cond (present w m after) (Of (between (w .x) (w .y) (rankAt w m before) (rankAt w m after) ⊗ half)) (Of (between (w .x) (w .y) (rankAt w m before) m)))
-    (cond (present w m after) (Of (between (w .x) (w .y) m (rankAt w m after))) Absent)
+    (cond (present w m after) (Of (spacing (w .x) (w .y) (rankAt w m before) (rankAt w m after) ⊗ half)) (Of (spacing (w .x) (w .y) (rankAt w m before) m)))
+    (cond (present w m after) (Of (spacing (w .x) (w .y) m (rankAt w m after))) Absent)
 
 -- the mean of the steps along both axes, or the only one
 unfoldable pub meanStep : Step → Step → Step

@@ -11,8 +11,8 @@ ghost use Rattle.folds.specs.Below.{tally};
 ghost use Rattle.folds.specs.Column.{column};
 ghost use Rattle.folds.specs.Marked.{bit};
 ghost use Rattle.view.specs.View.{maxPoints, viewAt, Ranked};
-ghost use Rattle.step.specs.Step.{between, axisStep, meanStep, keptStep, localStep, stepAt, scaleAt};
-ghost use Rattle.step.specs.Deviation.{isOutside, deviates};
+ghost use Rattle.step.specs.Step.{spacing, axisStep, meanStep, keptStep, localStep, stepAt, scaleAt};
+ghost use Rattle.step.specs.Deviation.{isStepOutside, deviates};
 use view::MAX_POINTS;
 use view::RANKS_SIZE;
 use view::rank_at;
@@ -24,9 +24,9 @@ pub enum Step {
 }
 
 // The distance from rank p to rank q.
-fn between(x: &[f32; MAX_POINTS], y: &[f32; MAX_POINTS], p: usize, q: usize) -> f32
+fn spacing(x: &[f32; MAX_POINTS], y: &[f32; MAX_POINTS], p: usize, q: usize) -> f32
     requires { ⌜ (p < maxPoints) × (q < maxPoints) ⌝ }
-    ensures { λ r. ⌜ r ≡ between (λ (k : ℕ). getD (now (x .entry)) k nan) (λ (k : ℕ). getD (now (y .entry)) k nan) p q ⌝ }
+    ensures { λ r. ⌜ r ≡ spacing (λ (k : ℕ). getD (now (x .entry)) k nan) (λ (k : ℕ). getD (now (y .entry)) k nan) p q ⌝ }
 {
     float::norm(x[q] - x[p], y[q] - y[p])
 }
@@ -48,12 +48,12 @@ fn axis_step(
     let r = rank_at(ranks, m, after);
     if l < n {
         if r < n {
-            return Step::Of(between(x, y, l, r) * 0.5);
+            return Step::Of(spacing(x, y, l, r) * 0.5);
         }
-        return Step::Of(between(x, y, l, m));
+        return Step::Of(spacing(x, y, l, m));
     }
     if r < n {
-        return Step::Of(between(x, y, m, r));
+        return Step::Of(spacing(x, y, m, r));
     }
     Step::Absent
 }
@@ -198,7 +198,7 @@ fn how_many(steps: &[f32; MAX_POINTS], n: usize) -> usize
 }
 
 fn is_outside(median: f32, t: f32, s: f32) -> bool
-    ensures { λ r. ⌜ r ≡ isOutside median t s ⌝ }
+    ensures { λ r. ⌜ r ≡ isStepOutside median t s ⌝ }
 {
     let lo = median / (1.0 + t);
     let hi = median * (1.0 + t);
@@ -210,7 +210,7 @@ fn is_outside(median: f32, t: f32, s: f32) -> bool
 
 // 1 for a step outside the limits, else 0.
 fn outside(median: f32, t: f32, s: f32) -> u8
-    ensures { λ r. ⌜ r ≡ bit (lt zero s && isOutside median t s) ⌝ }
+    ensures { λ r. ⌜ r ≡ bit (lt zero s && isStepOutside median t s) ⌝ }
 {
     if 0.0 < s {
         if is_outside(median, t, s) {
@@ -223,7 +223,7 @@ fn outside(median: f32, t: f32, s: f32) -> u8
 // 1 for each step outside the limits, else 0.
 fn mark_outside(steps: &[f32; MAX_POINTS], n: usize, median: f32, t: f32) -> [u8; MAX_POINTS]
     requires { ⌜ n ≤ maxPoints ⌝ }
-    ensures { λ r. ⌜ r ≡ column maxPoints 0 n (λ (m : ℕ). bit (lt zero (getD (now (steps .entry)) m nan) && isOutside median t (getD (now (steps .entry)) m nan))) ⌝ }
+    ensures { λ r. ⌜ r ≡ column maxPoints 0 n (λ (m : ℕ). bit (lt zero (getD (now (steps .entry)) m nan) && isStepOutside median t (getD (now (steps .entry)) m nan))) ⌝ }
 {
     let mut out = [0u8; MAX_POINTS];
     let mut m: usize = 0;

@@ -1,5 +1,5 @@
 -- The stages of `validate`, one after the other: what the code makes of each is what the definitions say. Assumes nothing.
-use mathlib.Core.Path.{_≡_, refl, sym, ap, _∙_}
+use mathlib.Core.Path.{_≡_, refl, ap}
 use mathlib.Core.Bool.{Bool, _||_}
 use mathlib.Core.List.{List}
 use Prim.Native.Nat.{ℕ, _≤_, _<_}
@@ -18,16 +18,16 @@ use Rattle.sheet_file.specs.declared.EdgeGate.the-variants.{Off, On}
 use Rattle.step.specs.Step.{stepAt, scaleAt}
 use Rattle.step.specs.Deviation.{deviates}
 use Rattle.lines.specs.Flags.{flagsAt}
-use Rattle.local_h.specs.ByIndex.{indexColumns}
-use Rattle.local_h.specs.declared.Residuals.{Residuals}
-use Rattle.blame.specs.Marks.{evidenceBy, isMarked, marksOf}
+use Rattle.residuals.specs.ByIndex.{indexColumns}
+use Rattle.residuals.specs.declared.Residuals.{Residuals}
+use Rattle.blame.specs.Marks.{evidenceBy, isMarked, blameMarks}
 use Rattle.edge_shape.specs.Figures.{noFigures, indexFigures}
 use Rattle.edge_shape.specs.declared.Figures.{Figures}
 use Rattle.patches.specs.Boxes.{boundaryOf}
 use Rattle.validate.specs.declared.ByRules.{ByRules}
 use Rattle.validate.specs.declared.ByGate.{ByGate}
 use Rattle.validate.specs.declared.Validated.{Validated}
-use Rattle.validate.specs.Validate.{stepsOf, scalesOf, flagsOf, residualsOf, deviationsOf, evidenceOf, figuresBy, figuresOf, boundaryBy, boundaryIn, hasReason, validateMark, validateMarks, validatedOf}
+use Rattle.validate.specs.Validate.{stepsOf, scalesOf, flagsOf, residualsOf, deviationsOf, evidenceOf, gateFigures, figuresOf, boundaryIn, hasReason, validateMark, validateMarks, validatedOf}
 use Rattle.validate.specs.Parts.{byRulesOf, byGateOf}
 
 module _ (s : Settings) (w : View) (cell : ℕ → Cell) where
@@ -38,15 +38,15 @@ module _ (s : Settings) (w : View) (cell : ℕ → Cell) where
       → flags ≡ column maxPoints 0 (w .count) (flagsAt w (λ (k : ℕ). getD scales k nan) (s .«line_tol_rel») (s .«line_min_members»))
       → r ≡ indexColumns w cell (λ (j : ℕ). getD scales j nan) (s .«local_h_tol_rel»)
       → deviations ≡ column maxPoints 0 (w .count) (λ (m : ℕ). bit (deviates (λ (k : ℕ). getD steps k nan) (w .count) (s .«step_deviation_thresh_rel») m))
-      → marks ≡ marksOf w (evidenceBy flags (r .over) (r .high) deviations)
+      → marks ≡ blameMarks w (evidenceBy flags (r .over) (r .high) deviations)
       → _≡_ {A = ByRules} (record { marks = marks; has = r .has; value = r .value }) (byRulesOf s w cell)
   unfolding stepsOf scalesOf flagsOf residualsOf deviationsOf
   rules-are st sc fl re de ma = rw (ma, de, re, fl, sc, st)
 
   -- the marks of rules 1 to 4 are read as the rules
-  marked-is : (k : ℕ) → k < w .count → isSet (marksOf w (evidenceOf s w cell)) k ≡ isMarked w (evidenceOf s w cell) (w .byIdx k)
-  unfolding marksOf
-  marked-is k l = set-is maxPoints (w .count) (λ (j : ℕ). isMarked w (evidenceOf s w cell) (w .byIdx j)) (marksOf w (evidenceOf s w cell)) refl k l
+  marked-is : (k : ℕ) → k < w .count → isSet (blameMarks w (evidenceOf s w cell)) k ≡ isMarked w (evidenceOf s w cell) (w .byIdx k)
+  unfolding blameMarks
+  marked-is k l = set-is maxPoints (w .count) (λ (j : ℕ). isMarked w (evidenceOf s w cell) (w .byIdx j)) (blameMarks w (evidenceOf s w cell)) refl k l
 
   -- with rule 5
   pub all-are : {r : ByRules} {g : ByGate} {marks : List ℕ} → r ≡ byRulesOf s w cell → g ≡ byGateOf (s .«edge_shape») w cell
@@ -54,7 +54,7 @@ module _ (s : Settings) (w : View) (cell : ℕ → Cell) where
       → _≡_ {A = Validated} (record { marks = marks; has = r .has; value = r .value; figures = g .figures; boundary = g .boundary }) (validatedOf s w cell)
   unfolding validatedOf validateMarks validateMark figuresOf boundaryIn
   all-are e f h =
-      rw (h, e, f, column-ext maxPoints 0 (w .count) _ _ (λ k l. ap (λ (b : Bool). bit (b || hasReason (figuresBy (s .«edge_shape») w) k)) (marked-is k l)))
+      rw (h, e, f, column-ext maxPoints 0 (w .count) _ _ (λ k l. ap (λ (b : Bool). bit (b || hasReason (gateFigures (s .«edge_shape») w) k)) (marked-is k l)))
 
 -- ---- with and without a gate
 

@@ -16,8 +16,8 @@ use Rattle.sheet_file.specs.declared.EdgeGate.the-variants.{Off, On}
 use Rattle.step.specs.Step.{stepAt, scaleAt}
 use Rattle.step.specs.Deviation.{deviates}
 use Rattle.lines.specs.Flags.{flagsAt}
-use Rattle.local_h.specs.ByIndex.{indexColumns}
-use Rattle.local_h.specs.declared.Residuals.{Residuals}
+use Rattle.residuals.specs.ByIndex.{indexColumns}
+use Rattle.residuals.specs.declared.Residuals.{Residuals}
 use Rattle.blame.specs.Marks.{Evidence, evidenceBy, isMarked}
 use Rattle.edge_shape.specs.Figures.{noFigures, indexFigures, reasonNumber}
 use Rattle.edge_shape.specs.declared.Figures.{Figures}
@@ -26,14 +26,14 @@ use Rattle.patches.specs.Boxes.{boundaryOf}
 use Rattle.validate.specs.declared.Validated.{Validated}
 
 -- the edge figures of each rank's index. "Absent means no edge-shape gate."
-abbrev pub figuresBy : EdgeGate → View → List Figures
-figuresBy Off w = column maxPoints noFigures (w .count) (λ (k : ℕ). noFigures)
-figuresBy (On g) w = indexFigures g w
+abbrev pub gateFigures : EdgeGate → View → List Figures
+gateFigures Off w = column maxPoints noFigures (w .count) (λ (k : ℕ). noFigures)
+gateFigures (On g) w = indexFigures g w
 
 -- whether each rank's index lies on the boundary of the box of its patch of all cells
-abbrev pub boundaryBy : EdgeGate → View → (ℕ → Cell) → List ℕ
-boundaryBy Off w cell = column maxPoints 0 (w .count) (λ (k : ℕ). 0)
-boundaryBy (On g) w cell = boundaryOf w squareSides cell
+abbrev pub gateBoundary : EdgeGate → View → (ℕ → Cell) → List ℕ
+gateBoundary Off w cell = column maxPoints 0 (w .count) (λ (k : ℕ). 0)
+gateBoundary (On g) w cell = boundaryOf w squareSides cell
 
 abbrev pub isGated : EdgeGate → Bool
 isGated Off = false
@@ -52,38 +52,38 @@ module _ (s : Settings) (w : View) where
   unfoldable pub stepsOf : List Float
   stepsOf = column maxPoints nan (w .count) (stepAt w (s .«use_step_aware»))
 
-  abbrev pub stepOf : ℕ → Float
-  stepOf m = getD stepsOf m nan
+  abbrev pub indexStep : ℕ → Float
+  indexStep m = getD stepsOf m nan
 
   -- the scale of each rank's index
   unfoldable pub scalesOf : List Float
-  scalesOf = column maxPoints nan (w .count) (scaleAt w stepOf (s .«cell_size»))
+  scalesOf = column maxPoints nan (w .count) (scaleAt w indexStep (s .«cell_size»))
 
-  abbrev pub scaleOf : ℕ → Float
-  scaleOf k = getD scalesOf k nan
+  abbrev pub indexScale : ℕ → Float
+  indexScale k = getD scalesOf k nan
 
   -- the line flags of each index, at its place
   unfoldable pub flagsOf : List ℕ
-  flagsOf = column maxPoints 0 (w .count) (flagsAt w scaleOf (s .«line_tol_rel») (s .«line_min_members»))
+  flagsOf = column maxPoints 0 (w .count) (flagsAt w indexScale (s .«line_tol_rel») (s .«line_min_members»))
 
   -- whether the step of each index lies outside the limits
   unfoldable pub deviationsOf : List ℕ
-  deviationsOf = column maxPoints 0 (w .count) (λ (m : ℕ). bit (deviates stepOf (w .count) (s .«step_deviation_thresh_rel») m))
+  deviationsOf = column maxPoints 0 (w .count) (λ (m : ℕ). bit (deviates indexStep (w .count) (s .«step_deviation_thresh_rel») m))
 
   unfoldable pub figuresOf : List Figures
-  figuresOf = figuresBy (s .«edge_shape») w
+  figuresOf = gateFigures (s .«edge_shape») w
 
   module _ (cell : ℕ → Cell) where
     -- the residual of each rank's index, and whether it is over the tolerance or over twice the tolerance
     unfoldable pub residualsOf : Residuals
-    residualsOf = indexColumns w cell scaleOf (s .«local_h_tol_rel»)
+    residualsOf = indexColumns w cell indexScale (s .«local_h_tol_rel»)
 
     -- what rules 1 to 4 go by
     abbrev pub evidenceOf : Evidence
     evidenceOf = evidenceBy flagsOf (residualsOf .over) (residualsOf .high) deviationsOf
 
     unfoldable pub boundaryIn : List ℕ
-    boundaryIn = boundaryBy (s .«edge_shape») w cell
+    boundaryIn = gateBoundary (s .«edge_shape») w cell
 
     -- the validate mark of rank k's index
     unfoldable pub validateMark : ℕ → Bool

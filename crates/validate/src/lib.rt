@@ -15,7 +15,6 @@ ghost use Rattle.folds.specs.Marked.{bit};
 ghost use Rattle.marks.specs.Marks.{isSet};
 ghost use Rattle.view.specs.View.{viewAt, maxPoints, Ranked};
 ghost use Rattle.cells.specs.Cell.{cellsAt};
-ghost use Rattle.edge_shape.specs.Figures.{noFigures};
 ghost use Rattle.validate.specs.Validate.{isReason, hasReason, validatedOf};
 ghost use Rattle.validate.specs.Parts.{Prepared, byRulesOf, byGateOf};
 
@@ -55,7 +54,7 @@ fn by_rules(
     let steps = step::steps(ranks, x, y, n, s.use_step_aware);
     let scales = step::scales(ranks, &steps, n, s.cell_size);
     let flags = lines::line_flags(ranks, x, y, &scales, n, s.line_tol_rel, s.line_min_members);
-    let r = local_h::index_residuals(ranks, keys, x, y, &scales, n, s.local_h_tol_rel);
+    let r = residuals::index_residuals(ranks, keys, x, y, &scales, n, s.local_h_tol_rel);
     let has = r.has;
     let value = r.value;
     let over = r.over;

@@ -1,4 +1,5 @@
-use Rattle.edge_shape.proofs.Laws.{first-absent, second-absent, third-absent, continuation-is}
+use Rattle.edge_shape.proofs.Laws.{from-there, no-next, no-way, continuation-is}
+use Rattle.view.specs.View.{viewAt}
 use native.Mathlib.Omega.{arith}
 use borrow.Author.Needs.{needs}
 use Rattle.edge_shape.proofs.continuation_at.Statement.{statement}
@@ -10,38 +11,36 @@ sub-rank-at c = omega (arith, c .ahead .ensures)
 rank-at-requires : tie.Need-rank-at-requires
 rank-at-requires c κs = let s = c .before in (omega (arith, s .pre .2, s .pre .0 .ranked .few), omega arith)
 
-returns : tie.Need-returns
-returns c = let a = c .before .before in let s = a .before in first-absent (s .pre .0) _ _ (s .pre .1) (a .ahead .ensures .0) (c .before .rank-at .ensures) (c .if1 .taken)
-
 rank-at-requires-2 : tie.Need-rank-at-requires-2
-rank-at-requires-2 c κs = let a = c .before .before in let s = a .before in (omega (arith, s .pre .2, s .pre .0 .ranked .few), a .ahead .ensures .1)
+rank-at-requires-2 c κs = let a = c .before in let s = a .before in (omega (arith, s .pre .2, s .pre .0 .ranked .few), a .ahead .ensures .1)
+
+onward-requires : tie.Need-onward-requires
+onward-requires c κs = let a = c .before .before in (a .before .pre .0 .ranked .few, a .ahead .ensures .1)
+
+returns : tie.Need-returns
+returns c = let d = c .before in let a = d .before .before .before in let s = a .before in
+    no-next (s .pre .0) _ _ (s .pre .1) (a .ahead .ensures .0) (d .before .before .rank-at .ensures) (d .before .rank-at2 .ensures) (d .onward .ensures) (c .if1 .taken)
 
 returns-2 : tie.Need-returns-2
-returns-2 c = let p = c .before .before in let a = p .before .before in let s = a .before in
-    second-absent (s .pre .0) _ _ (s .pre .1) (a .ahead .ensures .0) (p .before .rank-at .ensures) (p .if1 .left) (c .before .rank-at2 .ensures) (c .if2 .taken)
-
-rank-at-requires-3 : tie.Need-rank-at-requires-3
-rank-at-requires-3 c κs = let p = c .before .before in let a = p .before .before in let s = a .before in (omega (arith, p .if1 .left, s .pre .0 .ranked .few), a .ahead .ensures .1)
-
-returns-3 : tie.Need-returns-3
-returns-3 c = let q = c .before .before in let p = q .before .before in let a = p .before .before in let s = a .before in
-    third-absent (s .pre .0) _ _ (s .pre .1) (a .ahead .ensures .0) (p .before .rank-at .ensures) (p .if1 .left) (q .before .rank-at2 .ensures) (q .if2 .left) (c .before .rank-at3 .ensures) (c .if3 .taken)
+returns-2 c = let d = c .before .before in let a = d .before .before .before in let s = a .before in
+    no-way (s .pre .0) _ _ (s .pre .1) (a .ahead .ensures .0) (d .before .before .rank-at .ensures) (d .before .rank-at2 .ensures) (d .onward .ensures) (c .if2 .taken)
 
 side-at-requires : tie.Need-side-at-requires
-side-at-requires c κs = let p = c .before .before .before .before in let s = p .before .before .before in
-    (s .pre .1, omega (arith, p .if1 .left, s .pre .0 .ranked .few), omega (arith, c .if3 .left, s .pre .0 .ranked .few))
+side-at-requires c κs = let d = c .before .before in let s = d .before .before .before .before in let v = s .args in
+    let b = from-there (viewAt (v .n) (v .ranks .now) (v .x .now) (v .y .now)) _ _ (d .onward .ensures) (c .if2 .left) in
+    (s .pre .1, omega (arith, b .0, s .pre .0 .ranked .few), omega (arith, c .if2 .left, s .pre .0 .ranked .few))
 
 side-at-requires-2 : tie.Need-side-at-requires-2
-side-at-requires-2 c κs = let q = c .before .before .before in let s = q .before .before .before .before .before in
-    (s .pre .1, omega (arith, s .pre .2, s .pre .0 .ranked .few), omega (arith, q .if2 .left, s .pre .0 .ranked .few))
+side-at-requires-2 c κs = let p = c .before .before in let s = p .before .before .before .before .before in
+    (s .pre .1, omega (arith, s .pre .2, s .pre .0 .ranked .few), omega (arith, p .if1 .left, s .pre .0 .ranked .few))
 
-returns-4 : tie.Need-returns-4
-returns-4 c = let r = c .before .before .before in let q = r .before .before in let p = q .before .before in let a = p .before .before in let s = a .before in
-    continuation-is (s .pre .0) _ _ (s .pre .1) (a .ahead .ensures .0) (p .before .rank-at .ensures) (p .if1 .left) (q .before .rank-at2 .ensures) (q .if2 .left) (r .before .rank-at3 .ensures)
-    (s .pre .2) (r .if3 .left) (c .compare .ensures) (c .before .before .side-at .ensures) (c .before .side-at2 .ensures)
+returns-3 : tie.Need-returns-3
+returns-3 c = let q = c .before .before .before in let d = q .before .before in let a = d .before .before .before in let s = a .before in
+    continuation-is (s .pre .0) _ _ (s .pre .1) (a .ahead .ensures .0) (d .before .before .rank-at .ensures) (d .before .rank-at2 .ensures) (d .onward .ensures)
+    (s .pre .2) (q .before .if1 .left) (q .if2 .left) (c .compare .ensures) (c .before .before .side-at .ensures) (c .before .side-at2 .ensures)
 
 pub continuation-at-spec : {M : Type 1} → statement M
 continuation-at-spec =
     tie.close
-    (tie.spec (λ c κs. search needs) sub-rank-at rank-at-requires returns rank-at-requires-2 returns-2 rank-at-requires-3 returns-3
-    side-at-requires side-at-requires-2 (λ c κs. search needs) returns-4)
+    (tie.spec (λ c κs. search needs) sub-rank-at rank-at-requires rank-at-requires-2 onward-requires returns returns-2 side-at-requires
+    side-at-requires-2 (λ c κs. search needs) returns-3)

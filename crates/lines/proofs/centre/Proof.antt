@@ -1,4 +1,4 @@
-use Rattle.lines.specs.Fit.{valueAt, centreOf, meanOf}
+use Rattle.lines.specs.Fit.{valueAt, centreOf, meanOver}
 use Rattle.folds.specs.Lists.{over, over-none, over-more}
 use Rattle.folds.specs.Arith.{_⊕_, zeroF}
 use Rattle.view.specs.View.{maxPoints}
@@ -38,14 +38,19 @@ element-copy-out-cy : tie.Need-element-copy-out-cy Inv-loop μ-loop
 element-copy-out-cy c = omega (arith, place (c .before))
 
 loop-again : tie.Need-loop-again Inv-loop μ-loop
-loop-again c = let h = c .before .before .before .before .before in (omega arith, rw (over-more _ _ (h .before .args .l .now) (h .loop .i) 0 (omega arith), ← h .loop .inv .1, c .before .before .wide .ensures), rw (over-more _ _ (h .before .args .l .now) (h .loop .i) 0 (omega arith), ← h .loop .inv .2, c .before .before .wide .ensures))
+loop-again c =
+    let w = c .before .before in
+    let h = w .before .before .before in
+    let l = h .before .args .l .now in
+    let i = h .loop .i in
+    (omega arith, rw (over-more _ _ l i 0 (omega arith), ← h .loop .inv .1, w .wide .ensures), rw (over-more _ _ l i 0 (omega arith), ← h .loop .inv .2, w .wide .ensures))
 
 int-to-float-n : tie.Need-int-to-float-n Inv-loop μ-loop
 unfolding inFloat
 int-to-float-n c = let h = c .before .before in le→leb (h .before .args .c) 16777216 (omega (arith, h .before .pre))
 
 returns : tie.Need-returns Inv-loop μ-loop
-unfolding centreOf meanOf
+unfolding centreOf meanOver
 returns c = let h = c .before .before in let e : h .loop .i ≡ h .before .args .c = omega arith in rw (length-take-le (h .before .args .c) (h .before .args .l .now) (omega (arith, h .before .pre)), ← e, h .loop .inv .1, h .loop .inv .2)
 
 pub centre-spec : {M : Type 1} → statement M

@@ -1,7 +1,7 @@
 use Rattle.lines.proofs.Walking.{chain-start, chain-more}
 use Rattle.lines.specs.Lines.{Chained}
-use Rattle.lines.specs.Flags.{lineOf}
-use Rattle.view.specs.View.{maxPoints, viewAt, Ranked}
+use Rattle.lines.specs.Flags.{lineNumber}
+use Rattle.view.specs.View.{maxPoints, viewAt}
 use Rattle.lines.proofs.Walking.{line-below}
 use mathlib.Core.List.{[]}
 use native.Mathlib.Omega.{arith}
@@ -12,7 +12,7 @@ use Rattle.lines.proofs.chain.Statement.{statement}
 use Rattle.lines.proofs.chain.Tie as tie
 
 abbrev Inv-loop : tie.InvT-loop
-Inv-loop ranks rows n head₀ next₀ i₀ head next i = (i ≤ n) × Chained n (lineOf (viewAt n ranks [] []) rows) i head next
+Inv-loop ranks rows n head₀ next₀ i₀ head next i = (i ≤ n) × Chained n (lineNumber (viewAt n ranks [] []) rows) i head next
 
 abbrev μ-loop : tie.MeasureT-loop
 μ-loop ranks rows n head₀ next₀ i₀ head next i = i

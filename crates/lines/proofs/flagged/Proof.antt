@@ -2,7 +2,7 @@ use Rattle.lines.proofs.Walking.{line-below, chain-onward, chain-linked
 use Rattle.lines.proofs.Marking.{Lines, lines-none, lines-more, lines-column}
 use Rattle.folds.specs.Below.{first, first-le}
 use Rattle.folds.specs.Lists.{Gathered}
-use Rattle.lines.specs.Flags.{ruleBy, lineOf, isOn}
+use Rattle.lines.specs.Flags.{ruleBy, lineNumber, isOn}
 use Rattle.lines.specs.Lines.{Chained}
 use Rattle.view.specs.View.{maxPoints, viewAt}
 use mathlib.Core.List.{List, []}
@@ -16,7 +16,7 @@ use Rattle.lines.proofs.flagged.Statement.{statement}
 use Rattle.lines.proofs.flagged.Tie as tie
 
 abbrev lineBy : ℕ → List ℕ → Bool → ℕ → ℕ
-lineBy n ranks rows = lineOf (viewAt n ranks [] []) rows
+lineBy n ranks rows = lineNumber (viewAt n ranks [] []) rows
 
 abbrev Inv-loop : tie.InvT-loop
 Inv-loop ranks rows x y scale n tolerance minimum head next l₀ out₀ number₀ l out number = (number ≤ n) × Chained n (lineBy n ranks rows) 0 head next × (length l ≡ maxPoints) × Lines (ruleBy x y scale tolerance) minimum (lineBy n ranks rows) n number (replicate maxPoints 0) out

@@ -46,10 +46,20 @@ element-copy-out-dy c = omega (arith, place (c .before))
 
 loop-again : tie.Need-loop-again Inv-loop μ-loop
 unfolding momentOf
-loop-again c = let h = c .before .before .before .before .before in (omega arith, rw (over-more _ _ (h .before .args .l .now) (h .loop .i) 0 (omega arith), ← h .loop .inv .1, c .before .before .wide .ensures), rw (over-more _ _ (h .before .args .l .now) (h .loop .i) 0 (omega arith), ← h .loop .inv .2, c .before .before .wide .ensures), rw (over-more _ _ (h .before .args .l .now) (h .loop .i) 0 (omega arith), ← h .loop .inv .3, c .before .before .wide .ensures))
+loop-again c =
+    let w = c .before .before in
+    let h = w .before .before .before in
+    let l = h .before .args .l .now in
+    let i = h .loop .i in (
+      omega arith,
+      rw (over-more _ _ l i 0 (omega arith), ← h .loop .inv .1, w .wide .ensures),
+      rw (over-more _ _ l i 0 (omega arith), ← h .loop .inv .2, w .wide .ensures),
+      rw (over-more _ _ l i 0 (omega arith), ← h .loop .inv .3, w .wide .ensures),
+    )
 
 returns : tie.Need-returns Inv-loop μ-loop
-returns c = let h = c .before .before .before in let a = h .before .args in whole (valueAt (a .x .now)) (valueAt (a .y .now)) (a .v) (a .l .now) (h .loop .i) (a .c) (omega arith) (h .loop .inv .1) (h .loop .inv .2) (h .loop .inv .3) (c .before .direction .ensures) (c .line-through .ensures)
+returns c = let h = c .before .before .before in let a = h .before .args in
+    whole (valueAt (a .x .now)) (valueAt (a .y .now)) (a .v) (a .l .now) (h .loop .i) (a .c) (omega arith) (h .loop .inv .1) (h .loop .inv .2) (h .loop .inv .3) (c .before .direction .ensures) (c .line-through .ensures)
 
 pub line-around-spec : {M : Type 1} → statement M
 line-around-spec =

@@ -1,4 +1,4 @@
-use Rattle.lines.specs.Flags.{ruleBy, lineOf}
+use Rattle.lines.specs.Flags.{ruleBy, lineNumber}
 use Rattle.lines.proofs.Marking.{line-counts}
 use Rattle.folds.specs.Column.{replicate-at}
 use Rattle.folds.specs.Scattered.{counted-le}
@@ -23,7 +23,7 @@ count-requires-2 c κs = let s = c .before .before .before .before .before .befo
 returns : tie.Need-returns
 returns c = let f = c .before .before .before .before .before .before in let s = f .before .before in let a = s .args in
     let w = viewAt (a .n) (a .ranks .now) (a .x .now) (a .y .now) in
-    line-counts (w .byIdx) maxPoints (a .n) (s .pre .few) (s .pre .indices) (ruleBy (a .x .now) (a .y .now) (a .scale .now) (a .tolerance)) (a .minimum) (lineOf w true) (lineOf w false)
+    line-counts (w .byIdx) maxPoints (a .n) (s .pre .few) (s .pre .indices) (ruleBy (a .x .now) (a .y .now) (a .scale .now) (a .tolerance)) (a .minimum) (lineNumber w true) (lineNumber w false)
     (f .before .flagged .ensures) (f .flagged2 .ensures) (c .before .before .before .count .ensures) (c .count2 .ensures)
 
 pub line-flags-spec : {M : Type 1} → statement M

@@ -1,4 +1,4 @@
-use Rattle.lines.proofs.Marking.{too-few, enough}
+use Rattle.lines.proofs.Marking.{short-line, long-line}
 use Rattle.lines.specs.Flags.{ruleBy, isFar}
 use Rattle.lines.specs.Lines.{markIf}
 use Rattle.folds.specs.Lists.{over, over-none, over-more}
@@ -27,7 +27,7 @@ returns : tie.Need-returns Inv-loop μ-loop
 returns c = let e = c .if1 .taken in rw e (sym (over-none _ _ (c .before .args .l .now)))
 
 returns-2 : tie.Need-returns-2 Inv-loop μ-loop
-returns-2 c = let h = c .before .before .before in too-few _ _ _ _ (rw (length-take-le (h .args .c) (h .args .l .now) (omega (arith, h .pre .0))) (omega (arith, c .before .wide .ensures)))
+returns-2 c = let h = c .before .before .before in short-line _ _ _ _ (rw (length-take-le (h .args .c) (h .args .l .now) (omega (arith, h .pre .0))) (omega (arith, c .before .wide .ensures)))
 
 loop-holds : tie.Need-loop-holds Inv-loop μ-loop
 loop-holds c = (omega arith, c .before .before .before .before .pre .1, sym (over-none _ _ (c .before .before .before .before .args .l .now)))
@@ -49,7 +49,7 @@ loop-again-2 c = let w = c .before .before in let h = w .before .before .before 
 returns-3 : tie.Need-returns-3 Inv-loop μ-loop
 returns-3 c = let h = c .before in let s = h .before .before .before .before .before in let a = s .args in
     let e : h .loop .i ≡ a .c = omega arith in
-    (rw e at (h .loop .inv .2)) ∙ enough _ _ _ _ _ (rw (length-take-le (a .c) (a .l .now) (omega (arith, s .pre .0))) (omega (arith, h .before .before .before .wide .ensures))) (h .before .fit .ensures)
+    (rw e at (h .loop .inv .2)) ∙ long-line _ _ _ _ _ (rw (length-take-le (a .c) (a .l .now) (omega (arith, s .pre .0))) (omega (arith, h .before .before .before .wide .ensures))) (h .before .fit .ensures)
 
 pub mark-flagged-spec : {M : Type 1} → statement M
 mark-flagged-spec =

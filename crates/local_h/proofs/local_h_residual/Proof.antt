@@ -20,8 +20,8 @@ member-requires-2 c κs = let f = four (c .before) in (omega arith, omega (arith
 member-requires-3 : tie.Need-member-requires-3
 member-requires-3 c κs = let f = four (c .before .before) in (omega arith, omega (arith, f .third-fourth))
 
-residual-of-requires : tie.Need-residual-of-requires
-residual-of-requires c κs =
+residual-from-requires : tie.Need-residual-from-requires
+residual-from-requires c κs =
     let f = four (c .before .before .before .before) in
     record {
       own = omega arith;
@@ -35,8 +35,9 @@ returns : tie.Need-returns
 returns c =
     let h = c .before .before .before .before in
     let a = h .before .before .before .before .args in
-    c .residual-of .ensures
-    ∙ fitted (a .n) (a .ranks .now) (a .x .now) (a .y .now) (cellsAt (a .keys .now)) (a .k) _ (h .before .before .before .pick-local-h-base .ensures (a .x .now) (a .y .now)) (h .before .if1 .taken) (h .member .ensures) (c .before .before .before .member2 .ensures) (c .before .before .member3 .ensures) (c .before .member4 .ensures)
+    c .residual-from .ensures
+    ∙ fitted (a .n) (a .ranks .now) (a .x .now) (a .y .now) (cellsAt (a .keys .now)) (a .k) _
+    (h .before .before .before .pick-local-h-base .ensures (a .x .now) (a .y .now)) (h .before .if1 .taken) (h .member .ensures) (c .before .before .before .member2 .ensures) (c .before .before .member3 .ensures) (c .before .member4 .ensures)
 
 returns-2 : tie.Need-returns-2
 returns-2 c =
@@ -46,4 +47,4 @@ returns-2 c =
 pub local-h-residual-spec : {M : Type 1} → statement M
 local-h-residual-spec =
     tie.close
-    (tie.spec (λ c κs. search needs) member-requires member-requires-2 member-requires-3 (λ c κs. search needs) residual-of-requires returns returns-2)
+    (tie.spec (λ c κs. search needs) member-requires member-requires-2 member-requires-3 (λ c κs. search needs) residual-from-requires returns returns-2)

@@ -2,7 +2,6 @@ use native.Mathlib.Nat.{mul-le-mul}
 use native.Mathlib.Omega.{arith}
 use Prim.Native.Nat.{_≤_, _*_, _/_, _%_}
 use mathlib.Core.Path.{refl}
-use borrow.Author.Needs.{needs}
 use Rattle.local_h.proofs.product.Statement.{statement}
 use Rattle.local_h.proofs.product.Tie as tie
 

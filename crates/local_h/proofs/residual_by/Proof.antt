@@ -1,4 +1,3 @@
-use mathlib.Core.Path.{sym, ap}
 use Rattle.local_h.specs.Residual.{residualBy}
 use borrow.Author.Needs.{needs}
 use Rattle.local_h.proofs.residual_by.Statement.{statement}

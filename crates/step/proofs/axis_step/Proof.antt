@@ -6,15 +6,15 @@ use Rattle.step.proofs.axis_step.Tie as tie
 
 returns : tie.Need-returns
 unfolding axisStep
-returns c = let p = c .before .before .before in rw (← p .before .rank-at .ensures, ← p .rank-at2 .ensures, lt-ltb _ _ (c .before .before .if1 .taken), lt-ltb _ _ (c .before .if2 .taken), c .between .ensures)
+returns c = let p = c .before .before .before in rw (← p .before .rank-at .ensures, ← p .rank-at2 .ensures, lt-ltb _ _ (c .before .before .if1 .taken), lt-ltb _ _ (c .before .if2 .taken), c .spacing .ensures)
 
 returns-2 : tie.Need-returns-2
 unfolding axisStep
-returns-2 c = let p = c .before .before .before in rw (← p .before .rank-at .ensures, ← p .rank-at2 .ensures, lt-ltb _ _ (c .before .before .if1 .taken), le-ltb _ _ (c .before .if2 .left), c .between2 .ensures)
+returns-2 c = let p = c .before .before .before in rw (← p .before .rank-at .ensures, ← p .rank-at2 .ensures, lt-ltb _ _ (c .before .before .if1 .taken), le-ltb _ _ (c .before .if2 .left), c .spacing2 .ensures)
 
 returns-3 : tie.Need-returns-3
 unfolding axisStep
-returns-3 c = let p = c .before .before .before in rw (← p .before .rank-at .ensures, ← p .rank-at2 .ensures, le-ltb _ _ (c .before .before .if1 .left), lt-ltb _ _ (c .before .if3 .taken), c .between3 .ensures)
+returns-3 c = let p = c .before .before .before in rw (← p .before .rank-at .ensures, ← p .rank-at2 .ensures, le-ltb _ _ (c .before .before .if1 .left), lt-ltb _ _ (c .before .if3 .taken), c .spacing3 .ensures)
 
 returns-4 : tie.Need-returns-4
 unfolding axisStep

@@ -1,4 +1,4 @@
-use Rattle.step.specs.Deviation.{isOutside}
+use Rattle.step.specs.Deviation.{isStepOutside}
 use Rattle.folds.specs.Marked.{bit}
 use Rattle.float.specs.Constants.{zero}
 use lib.Ieee.{nan, lt}
@@ -14,7 +14,7 @@ use Rattle.step.proofs.mark_outside.Statement.{statement}
 use Rattle.step.proofs.mark_outside.Tie as tie
 
 abbrev Inv-loop : tie.InvT-loop
-Inv-loop steps n median t out₀ m₀ out m = (m ≤ n) × Filling (replicate maxPoints 0) 0 (λ (m : ℕ). bit (lt zero (getD steps m nan) && isOutside median t (getD steps m nan))) m out
+Inv-loop steps n median t out₀ m₀ out m = (m ≤ n) × Filling (replicate maxPoints 0) 0 (λ (m : ℕ). bit (lt zero (getD steps m nan) && isStepOutside median t (getD steps m nan))) m out
 
 abbrev μ-loop : tie.MeasureT-loop
 μ-loop steps n median t out₀ m₀ out m = n - m
