@@ -11,7 +11,7 @@ use Rattle.float.specs.Constants.{one, two, four, negligible, rootTwo}
 use Rattle.float.specs.Root.{rootOf}
 use Rattle.float.specs.Scalar.{normOf, absOf}
 use Rattle.linear.specs.Rows.{entryAt, entry}
-use Rattle.homography.specs.Matrix.{matrix, rowTimes, determinantOf, inverseOf, productOf}
+use Rattle.matrix.specs.Matrix.{matrix, rowTimes, determinantOf, inverseOf, productOf}
 use Rattle.linear.specs.Linear.{solutionOf, solution-computes}
 use Rattle.linear.specs.declared.Solution.{Solution}
 use Rattle.homography.specs.declared.PlanePoint.{PlanePoint}

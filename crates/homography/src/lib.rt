@@ -3,8 +3,6 @@
 ghost use mathlib.Core.Path.{_≡_};
 ghost use Rattle.homography.specs.Fit.{meanOfFour, meanDistance, normalizingScale, normalizationOf, movedBy, normalizedBy, equationU, equationV, equationsOf, rightSide, matrixOf, normalizedMap, denormalizedMap, homographyFrom4pt, appliedTo};
 
-mod matrix;
-
 pub struct PlanePoint {
     pub x: f32,
     pub y: f32,

@@ -36,7 +36,10 @@ nothing (a ∷ l) h = absurd (omega arith)
 
 returns : tie.Need-returns
 unfolding div ofBits positives
-returns c = let a = c .before .before .before .args in sym (nothing (positives (a .v .now) (a .n)) (listed-length (positiveAt (c .before .before .before .args .v .now)) (λ k. getD (c .before .before .before .args .v .now) k nan) (c .before .before .before .args .n) ∙ sym (c .before .pack .ensures .count) ∙ c .if1 .taken))
+returns c =
+    let v = c .before .before .before .args .v .now in
+    let n = c .before .before .before .args .n in
+    sym (nothing (positives v n) (listed-length (positiveAt v) (λ k. getD v k nan) n ∙ sym (c .before .pack .ensures .count) ∙ c .if1 .taken))
 
 sort-requires : tie.Need-sort-requires
 sort-requires c κs = (few (c .before .before), c .before .before .pack .ensures .size)

@@ -17,7 +17,14 @@ cast-a : tie.Need-cast-a
 cast-a c = omega (arith, bits-top (c .before .args .x) (above-zero (c .before .args .x) (c .if1 .taken)) (subst T (sym (c .before .good .0 .1)) tt))
 
 returns : tie.Need-returns
-returns c = record { size = simp length-set (c .before .pre .1); count = rw (c .if1 .taken); taken = rw (c .if1 .taken, add-one (c .before .args .c)) (take-suc-set (c .before .args .a .now) (c .before .args .c) _ (omega (arith, c .before .pre .1))); float = subst T (sym (c .before .good .0 .1)) tt }
+returns c =
+    let b = c .before in
+    record {
+      size = simp length-set (b .pre .1);
+      count = rw (c .if1 .taken);
+      taken = rw (c .if1 .taken, add-one (b .args .c)) (take-suc-set (b .args .a .now) (b .args .c) _ (omega (arith, b .pre .1)));
+      float = subst T (sym (b .good .0 .1)) tt;
+    }
 
 returns-2 : tie.Need-returns-2
 returns-2 c = record { size = c .before .pre .1; count = rw (c .if1 .left); taken = rw (c .if1 .left); float = subst T (sym (c .before .good .0 .1)) tt }

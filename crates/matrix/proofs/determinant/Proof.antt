@@ -1,7 +1,7 @@
-use Rattle.homography.specs.Matrix.{determinantOf}
+use Rattle.matrix.specs.Matrix.{determinantOf}
 use borrow.Author.Needs.{needs}
-use Rattle.homography.proofs.matrix.determinant.Statement.{statement}
-use Rattle.homography.proofs.matrix.determinant.Tie as tie
+use Rattle.matrix.proofs.determinant.Statement.{statement}
+use Rattle.matrix.proofs.determinant.Tie as tie
 
 returns : tie.Need-returns
 unfolding determinantOf

@@ -1,7 +1,7 @@
 // Matrices of three rows of three.
 ghost use mathlib.Core.Path.{_≡_};
 ghost use Prim.Native.Nat.{_<_};
-ghost use Rattle.homography.specs.Matrix.{innerSum, rowTimes, productEntry, productOf, minor, determinantOf, inverseOf};
+ghost use Rattle.matrix.specs.Matrix.{innerSum, rowTimes, productEntry, productOf, minor, determinantOf, inverseOf};
 
 fn inner_sum(a: f32, b: f32, c: f32, x: f32, y: f32, z: f32) -> f32
     ensures { λ r. ⌜ r ≡ innerSum a b c x y z ⌝ }

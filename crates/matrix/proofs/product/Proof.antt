@@ -1,7 +1,7 @@
-use Rattle.homography.specs.Matrix.{productOf}
+use Rattle.matrix.specs.Matrix.{productOf}
 use borrow.Author.Needs.{needs}
-use Rattle.homography.proofs.matrix.product.Statement.{statement}
-use Rattle.homography.proofs.matrix.product.Tie as tie
+use Rattle.matrix.proofs.product.Statement.{statement}
+use Rattle.matrix.proofs.product.Tie as tie
 
 returns : tie.Need-returns
 unfolding productOf

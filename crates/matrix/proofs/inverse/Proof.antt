@@ -1,8 +1,8 @@
-use Rattle.homography.specs.Matrix.{inverseOf}
+use Rattle.matrix.specs.Matrix.{inverseOf}
 use mathlib.Core.Path.{refl}
 use borrow.Author.Needs.{needs}
-use Rattle.homography.proofs.matrix.inverse.Statement.{statement}
-use Rattle.homography.proofs.matrix.inverse.Tie as tie
+use Rattle.matrix.proofs.inverse.Statement.{statement}
+use Rattle.matrix.proofs.inverse.Tie as tie
 
 returns : tie.Need-returns
 unfolding inverseOf
