@@ -1,22 +1,19 @@
 -- The sheet of five points in document 01, from the bytes of its file to the text that is printed, by computation. Assumes nothing.
 use mathlib.Core.Path.{_≡_, refl}
 use mathlib.Core.Bool.{Bool, true}
-use mathlib.Core.List.{List, [], _∷_}
+use mathlib.Core.List.{List, [], _∷_, _++_}
 use Prim.Native.Nat.{ℕ}
 use lib.ListN.{replicate}
-use Rattle.cells.specs.Points.{Point, keysOf, indicesOf}
 use Rattle.sheet_file.specs.Bytes.{le16, le32}
 use Rattle.sheet_file.specs.Frame.{fieldAt, pointsFrom, gateFrom, framingOf}
 use Rattle.sheet_file.specs.Refusals.{edgeShapeOf, settingsOf, badFlag, badFloat}
 use Rattle.points.specs.Records.{pointsIn}
-use Rattle.points.specs.Refusals.{cellOrder}
-use Rattle.ruling.specs.Ruling.{pointsOf, rulingOf}
-use Rattle.rows.specs.Rows.{shownAt, rowByte}
+use Rattle.ruling.specs.Ruling.{rulingOf}
+use Rattle.rows.specs.Rows.{rowByte}
 use Rattle.kept.specs.Answer.{answerOf, rowsAfter}
 use Rattle.kept.specs.declared.Answer.the-variants.{Accepted}
 use Rattle.stars.specs.Stars.{rules-compute}
 use Rattle.text.specs.Text.{bytes}
-use Rattle.listing.specs.Listing.{listingOf}
 use Rattle.sheet_listing.specs.Text.{textOf}
 
 -- "length-4 settings with cell size 100; points in this order: cell (5,5) index 14 at (500,500); (0,0) 10 at (0,0); (1,0) 11 at (100,0);
@@ -48,14 +45,10 @@ shown = bytes "points 5 components 2\n0 0 10 ---- - -\n0 1 12 ---- - -\n1 0 11 -
 
 -- what is printed of the file
 pub listed : textOf file ≡ shown
-unfolding textOf shownAt rowByte file-computes rules-compute
+unfolding textOf file-computes rules-compute
 listed = refl
 
--- the points in cell order
-abbrev pub points : List Point
-points = cellOrder (pointsOf file)
-
--- the same of the rows that the call leaves in a buffer of 28 bytes a point, which held 255 throughout
-pub rows-listed : listingOf 5 2 (keysOf points) (indicesOf points) (rowsAfter file (replicate 140 255)) ≡ shown
-unfolding listingOf rowsAfter shownAt rowByte file-computes rules-compute
-rows-listed = refl
+-- the rows that the call leaves in a buffer of 28 bytes a point, which held 255 throughout: the last has the component mark
+pub rows-left : rowsAfter file (replicate 140 255) ≡ replicate 112 0 ++ 8 ∷ replicate 27 0
+unfolding rowsAfter rowByte file-computes rules-compute
+rows-left = refl

@@ -7,7 +7,8 @@ use Prim.Native.Nat.{ℕ}
 use lib.ListN.{length, getD}
 use Rattle.folds.specs.Arith.{f32}
 use Rattle.folds.specs.Lists.{All, listOf}
-use Rattle.cells.specs.Points.{Point, keysOf}
+use Rattle.cells.specs.Points.{Point}
+use Rattle.cells.specs.Cell.{cellsOf}
 use Rattle.sort.specs.Sorted.{sort}
 use Rattle.points.specs.Refusals.{numberFor, cellOrder}
 use Rattle.grid.specs.Views.{viewOf}
@@ -15,7 +16,7 @@ use Rattle.sheet_file.specs.declared.Settings.{Settings}
 use Rattle.sheet_file.specs.declared.EdgeGate.the-variants.{Off}
 use Rattle.sheet_file.specs.Refusals.{defaultsFor}
 use Rattle.local_h.specs.Residual.{residuals-compute}
-use Rattle.local_h.specs.ByIndex.{lastFit, indexResidual, indexColumns}
+use Rattle.residuals.specs.ByIndex.{lastFit, indexResidual, indexColumns}
 use Rattle.lines.specs.Flags.{flagCount}
 use Rattle.step.specs.Step.{stepAt, scaleAt}
 use Rattle.step.specs.Deviation.{deviates}
@@ -23,8 +24,9 @@ use Rattle.blame.specs.Marks.{isMarked}
 use Rattle.validate.specs.Validate.{stepsOf, scalesOf, flagsOf, residualsOf, deviationsOf, figuresOf}
 use Rattle.orientation.specs.Orientation.{voteAt}
 use Rattle.patches.specs.Patches.{labelsOf}
-use Rattle.components.specs.Components.{countOf, othersOf, indexMarks}
-use Rattle.kept.specs.Marks.{countIn, marksAt}
+use Rattle.components.specs.Components.{patchCount, othersOf}
+use Rattle.marks.specs.Marks.{indexMarks}
+use Rattle.judging.specs.Judging.{judgedFor}
 
 -- What is said of a sheet: the component count and, by rank, the line flags of the index, the vote (0 is none), whether the index has a
 -- residual (1 or 0), and the marks ("bit 0 validate, 1 orientation, 2 wrong label, 3 component"). Marks alone would let wrong rules pass.
@@ -35,9 +37,9 @@ pub record Said : Type 0 where
   pub residuals : List ℕ
   pub marks : List ℕ
 
--- This name on an `unfolding` line opens every definition that the marks compute by.
+-- This name on an `unfolding` line opens every definition that a judged sheet computes by.
 unfoldable pub rules-compute : Bool
-unfolding viewOf keysOf defaultsFor residuals-compute lastFit indexResidual indexColumns flagCount stepAt scaleAt deviates isMarked stepsOf scalesOf flagsOf residualsOf deviationsOf figuresOf labelsOf countOf othersOf indexMarks countIn marksAt sort numberFor
+unfolding viewOf cellsOf defaultsFor residuals-compute lastFit indexResidual indexColumns flagCount stepAt scaleAt deviates isMarked stepsOf scalesOf flagsOf residualsOf deviationsOf figuresOf labelsOf patchCount othersOf indexMarks judgedFor sort numberFor
 rules-compute = true
 
 -- "Cell size 100, defaults"
@@ -48,15 +50,14 @@ settings = defaultsFor (f32 0x42C8_0000) Off
 abbrev pub saidOf : List Point → Said
 saidOf ps =
     let w = viewOf ps in
-    let keys = keysOf ps in
-    let flags = flagsOf settings w keys in
-    let has = residualsOf settings w keys .has in
+    let flags = flagsOf settings w in
+    let j = judgedFor settings ps in
     record {
-      components = countIn settings w keys;
+      components = j .components;
       flags = listOf (length ps) (λ (k : ℕ). getD flags (w .byIdx k) 0);
       votes = listOf (length ps) (voteAt w);
-      residuals = listOf (length ps) (λ (k : ℕ). getD has k 0);
-      marks = listOf (length ps) (marksAt settings w keys);
+      residuals = listOf (length ps) (λ (k : ℕ). getD (j .has) k 0);
+      marks = listOf (length ps) (λ (k : ℕ). getD (j .marks) k 0);
     }
 
 -- a point: its cell, its index, and the patterns of its position

@@ -10,7 +10,8 @@ use lib.Ieee.Scale.{finite}
 use Rattle.float.specs.Constants.{zero}
 use Rattle.folds.specs.Lists.{all-listed, listed}
 use Rattle.median.specs.Median.{medianOf}
-use Rattle.sort.specs.Sorted.{sort, sort-length, sort-all, all-at}
+use Rattle.sort.specs.Sorted.{sort}
+use Rattle.sort.proofs.Sorted.{sort-length, sort-all, all-at}
 use Rattle.view.specs.View.{View, prevU, nextU, prevV, nextV}
 use Rattle.step.specs.Step.{axisStep, meanStep, keptStep, localStep, stepAt}
 use Rattle.step.specs.Deviation.{stepsIn}
