@@ -16,10 +16,10 @@ ghost use Rattle.edge_shape.specs.Given.{WithEdges, rankFrom, sideBy, On
 // Offset (-1, -1).
 const DIAGONAL: usize = 6;
 
-pub struct Side {
-    pub dx: f32,
-    pub dy: f32,
-    pub len: f32,
+struct Side {
+    dx: f32,
+    dy: f32,
+    len: f32,
 }
 
 // A cosine and a ratio of lengths.
@@ -29,7 +29,7 @@ pub enum Measure {
 }
 
 // The four corners of a cell are on the sheet, or not: the measures of its two pairs of opposite sides.
-pub enum CellShape {
+enum CellShape {
     Incomplete,
     Complete(Measure, Measure),
 }
