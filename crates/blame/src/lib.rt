@@ -14,9 +14,9 @@ use view::MAX_POINTS;
 use view::RANKS_SIZE;
 
 // The place of an index, and its line flags.
-pub struct Worst {
-    pub at: usize,
-    pub flags: u16,
+struct Worst {
+    at: usize,
+    flags: u16,
 }
 
 // The worse of w and the base member at place p of the order round rank k.

@@ -16,10 +16,10 @@ ghost use Rattle.edge_shape.specs.Given.{WithEdges, rankFrom, sideBy, On
 // Offset (-1, -1).
 const DIAGONAL: usize = 6;
 
-pub struct Side {
-    pub dx: f32,
-    pub dy: f32,
-    pub len: f32,
+struct Side {
+    dx: f32,
+    dy: f32,
+    len: f32,
 }
 
 // A cosine and a ratio of lengths.
@@ -29,7 +29,7 @@ pub enum Measure {
 }
 
 // The four corners of a cell are on the sheet, or not: the measures of its two pairs of opposite sides.
-pub enum CellShape {
+enum CellShape {
     Incomplete,
     Complete(Measure, Measure),
 }
@@ -103,13 +103,6 @@ fn side_at(
     }
 }
 
-// The offset that a way's edges lead over.
-fn ahead(way: usize) -> usize
-    ensures { λ r. ⌜ (r ≡ side way) × (r < 25) ⌝ }
-{
-    if way == 0 { view::NEXT_U } else { view::NEXT_V }
-}
-
 // The rank at offset d from rank a; none where there is no a.
 fn onward(ranks: &[u16; RANKS_SIZE], n: usize, a: usize, d: usize) -> usize
     requires { ⌜ (n ≤ maxPoints) × (d < 25) ⌝ }
@@ -134,7 +127,7 @@ fn continuation_at(
     requires { ⌜ WithEdges n (now ranks) (now x) (now y) (now edges) × (way < 2) × (k < n) ⌝ }
     ensures { λ r. ⌜ r ≡ continuationAt (viewAt n (now (ranks .entry)) (now (x .entry)) (now (y .entry))) (24 - side way) (side way) k ⌝ }
 {
-    let after = ahead(way);
+    let after = edges::side_of(way);
     let b = view::rank_at(ranks, k, 24 - after);
     let c = view::rank_at(ranks, k, after);
     let d = onward(ranks, n, b, after);

@@ -19,16 +19,16 @@ use view::RANKS_SIZE;
 use view::wide;
 
 // A line: its centre and its unit direction.
-pub struct Line {
-    pub cx: f32,
-    pub cy: f32,
-    pub ux: f32,
-    pub uy: f32,
+struct Line {
+    cx: f32,
+    cy: f32,
+    ux: f32,
+    uy: f32,
 }
 
-pub struct Vector {
-    pub x: f32,
-    pub y: f32,
+struct Vector {
+    x: f32,
+    y: f32,
 }
 
 fn larger_eigenvalue(sxx: f32, sxy: f32, syy: f32) -> f32

@@ -18,7 +18,7 @@ use view::RANKS_SIZE;
 use view::rank_at;
 
 // A step, or none.
-pub enum Step {
+enum Step {
     Of(f32),
     Absent,
 }
