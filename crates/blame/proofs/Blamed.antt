@@ -8,9 +8,12 @@ use borrow.Author.Tests.{eqb-true, lt-ltb, le-leb, lt-leb}
 use lib.Dec.{eqb, ltb}
 use lib.ListN.{getD}
 use lib.Ieee.{Float}
-use Rattle.folds.specs.Below.{first, first-holds, some, some-ext, and-false, and-true}
-use Rattle.folds.specs.Column.{column, column-at, column-ext, length-column}
-use Rattle.folds.specs.Marked.{bit, Marked, marked-none, marked-as}
+use Rattle.folds.specs.Below.{first, some}
+use Rattle.folds.proofs.Below.{first-holds, some-ext, and-false, and-true}
+use Rattle.folds.specs.Column.{column}
+use Rattle.folds.proofs.Column.{column-at, column-ext, length-column}
+use Rattle.folds.specs.Marked.{bit, Marked}
+use Rattle.folds.proofs.Marked.{marked-none, marked-as}
 use Rattle.folds.specs.Scattered.{counts}
 use Rattle.marks.specs.Marks.{isSet}
 use Rattle.view.specs.View.{View, viewAt, maxPoints, Ranked}

@@ -9,7 +9,8 @@ use native.Mathlib.Omega.{arith}
 use borrow.Author.Tests.{eqb-true, ne-eqb, ltb-true, lt-leb}
 use lib.Dec.{eqb, ltb}
 use Rattle.folds.specs.Among.{anyIn}
-use Rattle.folds.specs.Below.{some, some-yes, some-at, or-false, and-false, and-right, both-ways, or-right-first}
+use Rattle.folds.specs.Below.{some}
+use Rattle.folds.proofs.Below.{some-yes, some-at, or-false, and-false, and-right, both-ways, or-right-first}
 use Rattle.folds.specs.Lists.{over}
 use Rattle.folds.specs.Scattered.{counts}
 use Rattle.view.specs.View.{View}

@@ -7,7 +7,7 @@ use lib.IntN.{ℤ, pos, negsuc, subℕ, _+ℤ_, _-ℤ_}
 use lib.Signed.{ltZ}
 use lib.Dec.{leb, ltb, eqb}
 use borrow.Author.Tests.{ltb-true, ltb-false, leb-true, lt-ltb, le-ltb, le-leb, eq-eqb, eqb-true}
-use Rattle.folds.specs.Below.{and-left, and-right, and-both, both-ways}
+use Rattle.folds.proofs.Below.{and-left, and-right, and-both, both-ways}
 use Rattle.cells.specs.Points.{bias}
 use Rattle.cells.specs.Cell.{within, agree}
 use Rattle.cells.proofs.Edges.{agree-same, agree-true}

@@ -7,7 +7,7 @@ use native.Mathlib.Omega.{arith}
 use lib.IntN.{ℤ, pos, negsuc, _+ℤ_, _-ℤ_, +ℤ-idr, +ℤ-assoc, +ℤ-comm, +ℤ-negℤ-cancel}
 use lib.ListN.{getD}
 use borrow.Author.Tests.{eqb-true, eq-eqb}
-use Rattle.folds.specs.Below.{some-at, some-yes, and-left, and-right, and-both, both-ways, or-left, or-right, or-cases}
+use Rattle.folds.proofs.Below.{some-at, some-yes, and-left, and-right, and-both, both-ways, or-left, or-right, or-cases}
 use Rattle.view.specs.View.{own, squareSides}
 use Rattle.cells.specs.Cell.{Cell, moved, agree, differByOne, shareEdge, coincide, offsetBy, joinedBy}
 

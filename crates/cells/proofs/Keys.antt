@@ -11,9 +11,11 @@ use lib.Dec.{ltb, eqb}
 use lib.ListN.{length, getD}
 use borrow.Author.Tests.{ltb-true, ltb-false, lt-ltb, le-ltb, eq-eqb, eqb-true}
 use mir.Val.{sel}
-use Rattle.folds.specs.Below.{both-ways}
-use Rattle.folds.specs.Lists.{listOf, list-at, list-over}
-use Rattle.folds.specs.Column.{column, column-at, column-over}
+use Rattle.folds.proofs.Below.{both-ways}
+use Rattle.folds.specs.Lists.{listOf}
+use Rattle.folds.proofs.Lists.{list-at, list-over}
+use Rattle.folds.specs.Column.{column}
+use Rattle.folds.proofs.Column.{column-at, column-over}
 use Rattle.view.specs.View.{maxPoints}
 use Rattle.cells.specs.Points.{Point, nowhere, bias, stride, biased, keyOf, keysOf}
 use Rattle.cells.specs.Cell.{Cell, signed, within, cellOf, InRange, CellInRange, before, moved, agree, cellOfKey, cellsAt, cellsOf}

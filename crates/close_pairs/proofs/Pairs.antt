@@ -10,13 +10,16 @@ use lib.Dec.{eqb, ltb}
 use borrow.Author.Tests.{lt-ltb, le-ltb, ltb-true, eq-eqb, ne-eqb, eqb-true}
 use lib.ListN.{getD, take, drop, replicate, List·getD-append}
 use lib.Seq.{take-at}
-use Rattle.folds.specs.Lists.{listOf, length-list}
+use Rattle.folds.specs.Lists.{listOf}
+use Rattle.folds.proofs.Lists.{length-list}
 use Rattle.sort.specs.Numbers.{sorted}
 use Rattle.sort.proofs.Numbers.{sorted-length}
 use lib.Ieee.{Float, nan, lt}
 use Rattle.folds.specs.Arith.{zeroF}
-use Rattle.folds.specs.Below.{some, some-yes, some-at, some-no, both-ways, and-left, and-right, and-false, or-true}
-use Rattle.folds.specs.Column.{column, column-at}
+use Rattle.folds.specs.Below.{some}
+use Rattle.folds.proofs.Below.{some-yes, some-at, some-no, both-ways, and-left, and-right, and-false, or-true}
+use Rattle.folds.specs.Column.{column}
+use Rattle.folds.proofs.Column.{column-at}
 use Rattle.view.specs.View.{maxPoints, viewAt, Finite}
 use Rattle.sort.specs.Packed.{packed, inOrder}
 use Rattle.sort.proofs.Packed.{placed-below, placed-is, place-of, placed-rises}

@@ -14,7 +14,7 @@ use lib.Ieee.Exact.{HasValue, round-exact}
 use lib.Ieee.Fits.{round-is, down-pos, mul-fits}
 use lib.Ieee.Order.{round-mono, le-of-values}
 use Rattle.folds.specs.Arith.{_⊕_, _⊖_, _⊗_}
-use Rattle.folds.specs.Below.{not-true}
+use Rattle.folds.proofs.Below.{not-true}
 use Rattle.float.proofs.Order.{plain, plain-round, plain-le-inf, lt-after, lt-or-eq}
 use Rattle.close_pairs.specs.Keys.{Number}
 use Rattle.close_pairs.proofs.Places.{place, apart, sub-is, exponent, digits}

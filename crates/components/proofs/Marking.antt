@@ -6,8 +6,8 @@ use Prim.Native.Nat.{ℕ, _<_}
 use borrow.Author.Tests.{eq-eqb, eqb-true, lt-ltb}
 use lib.Dec.{eqb}
 use lib.ListN.{getD}
-use Rattle.folds.specs.Below.{some-ext, some-one, and-under, both-ways}
-use Rattle.folds.specs.Column.{column-at}
+use Rattle.folds.proofs.Below.{some-ext, some-one, and-under, both-ways}
+use Rattle.folds.proofs.Column.{column-at}
 use Rattle.folds.specs.Marked.{bit}
 use Rattle.view.specs.View.{View, maxPoints, alike, indexHas}
 use Rattle.marks.proofs.Guards.{index-marks}

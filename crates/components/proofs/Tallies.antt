@@ -8,8 +8,9 @@ use native.Mathlib.Omega.{arith}
 use lib.Dec.{eqb, ltb}
 use lib.ListN.{getD}
 use Rattle.folds.specs.Below.{fold, turn, tally}
-use Rattle.folds.specs.Column.{column-ext}
-use Rattle.folds.specs.Scattered.{oneMore, fold-tally}
+use Rattle.folds.proofs.Column.{column-ext}
+use Rattle.folds.specs.Scattered.{oneMore}
+use Rattle.folds.proofs.Scattered.{fold-tally}
 use Rattle.view.specs.View.{maxPoints}
 use Rattle.patches.proofs.Gathering.{AtLabels, labels-column}
 use Rattle.components.specs.Components.{sizesOf, largestAt}

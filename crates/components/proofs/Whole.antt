@@ -13,8 +13,9 @@ use native.Mathlib.Omega.{arith}
 use borrow.Author.Tests.{eq-eqb, eqb-true, lt-ltb, ltb-true, ltb-false}
 use lib.Dec.{eqb, ltb}
 use lib.ListN.{getD}
-use Rattle.folds.specs.Below.{first, first-holds, first-before, some-yes, tally, tally-ext, tally-some, and-left, and-right, and-both, both-ways, not-true}
-use Rattle.folds.specs.Column.{column-at}
+use Rattle.folds.specs.Below.{first, tally}
+use Rattle.folds.proofs.Below.{first-holds, first-before, some-yes, tally-ext, tally-some, and-left, and-right, and-both, both-ways, not-true}
+use Rattle.folds.proofs.Column.{column-at}
 use Rattle.view.specs.View.{maxPoints}
 use Rattle.patches.specs.Patches.{survives, linked, labelsOf}
 use Rattle.components.specs.Components.{sizesOf, largestAt, winnerOf, inPatch}

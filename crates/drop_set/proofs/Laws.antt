@@ -6,8 +6,10 @@ use Prim.Native.Nat.{ℕ, _≤_}
 use lib.Dec.{eqb}
 use lib.ListN.{getD, replicate}
 use native.Mathlib.Omega.{arith}
-use Rattle.folds.specs.Below.{tally, tally-le}
-use Rattle.folds.specs.Column.{column, filled, replicate-at}
+use Rattle.folds.specs.Below.{tally}
+use Rattle.folds.proofs.Below.{tally-le}
+use Rattle.folds.specs.Column.{column}
+use Rattle.folds.proofs.Column.{filled, replicate-at}
 use Rattle.folds.specs.Marked.{bit}
 use Rattle.view.specs.View.{View, maxPoints}
 use Rattle.cells.specs.Cell.{Cell}

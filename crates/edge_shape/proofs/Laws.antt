@@ -10,7 +10,7 @@ use lib.Dec.{eqb, ltb}
 use lib.Ieee.{Float}
 use borrow.Author.Tests.{lt-ltb, le-ltb, ltb-true}
 use Rattle.view.specs.View.{View, viewAt, rankAt, present, own, nextU, prevU, nextV, prevV, degreeAt}
-use Rattle.folds.specs.Below.{and-false}
+use Rattle.folds.proofs.Below.{and-false}
 use Rattle.folds.specs.Marked.{bit}
 use Rattle.edges.specs.Edges.{side}
 use Rattle.edges.proofs.Laws.{edge-part}

@@ -14,7 +14,7 @@ use lib.Ieee.{Float, nan}
 use borrow.Author.Tests.{lt-ltb, le-ltb}
 use Rattle.folds.specs.Arith.{_⊖_, zeroF}
 use Rattle.float.specs.Scalar.{normOf}
-use Rattle.folds.specs.Column.{column-at, column-over, length-column, replicate-at}
+use Rattle.folds.proofs.Column.{column-at, column-over, length-column, replicate-at}
 use Rattle.view.specs.View.{maxPoints, View, rankAt, nextU, nextV}
 use Rattle.edges.specs.Edges.{Edge, edgeBy, edgeAt, side, chained, edgeColumn, edgeColumns, edgesOf, edgesSize, edgePlace, FilledTo}
 

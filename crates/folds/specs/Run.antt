@@ -1,9 +1,7 @@
 -- Counting loops as folds that say what is still to be done: `run step i e a` takes a through step i, .., step (e - 1), and
 -- `down step n a` takes it through step (n - 1), .., step 0. A loop's invariant is "what is left from here equals the whole".
 -- Assumes nothing.
-use Prim.Native.Nat.{ℕ, zero, suc, _+_, _-_, _<_, _≤_}
-use native.Mathlib.Omega.{arith}
-use mathlib.Core.Path.{_≡_, refl}
+use Prim.Native.Nat.{ℕ, zero, suc, _+_, _-_}
 
 module _ {A : Type 0} where
   -- n steps, the first of them step i
@@ -18,51 +16,3 @@ module _ {A : Type 0} where
   unfoldable pub down : (ℕ → A → A) → ℕ → A → A
   down step zero a = a
   down step (suc n) a = down step n (step n a)
-
-  module _ (step : ℕ → A → A) where
-    upTo-at : (n m i : ℕ) (a : A) → n ≡ suc m → upTo step n i a ≡ upTo step m (i + 1) (step i a)
-    unfolding upTo
-    upTo-at n m i a h = rw h
-
-    pub run-step : (i e : ℕ) (a : A) → i < e → run step i e a ≡ run step (i + 1) e (step i a)
-    unfolding run
-    run-step i e a h = upTo-at (e - i) (e - (i + 1)) i a (omega arith)
-
-    pub run-done : (i e : ℕ) (a : A) → e ≤ i → run step i e a ≡ a
-    unfolding run upTo
-    run-done i e a h = let z : e - i ≡ 0 = omega arith in rw z
-
-    down-at : (n m : ℕ) (a : A) → n ≡ suc m → down step n a ≡ down step m (step m a)
-    unfolding down
-    down-at n m a h = rw h
-
-    pub down-step : (n : ℕ) (a : A) → 0 < n → down step n a ≡ down step (n - 1) (step (n - 1) a)
-    down-step n a h = down-at n (n - 1) a (omega arith)
-
-    pub down-done : (n : ℕ) (a : A) → n ≤ 0 → down step n a ≡ a
-    unfolding down
-    down-done n a h = let z : n ≡ 0 = omega arith in rw z
-
-  -- what each step keeps, the run keeps
-  upTo-keeps : (P : ℕ → A → Type 0) (step : ℕ → A → A) (n i : ℕ) (a : A) → P i a → ((k : ℕ) → i ≤ k → k < i + n → (b : A) → P k b → P (k + 1) (step k b)) → P (i + n) (upTo step n i a)
-  unfolding upTo
-  upTo-keeps P step zero i a p h = let z : i + 0 ≡ i = omega arith in rw z p
-  upTo-keeps P step (suc n) i a p h =
-      let z : i + suc n ≡ i + 1 + n = omega arith in
-      rw z (upTo-keeps P step n (i + 1) (step i a) (h i (omega arith) (omega arith) a p) (λ k l m b q. h k (omega arith) (omega arith) b q))
-
-  pub run-keeps : (P : ℕ → A → Type 0) (step : ℕ → A → A) (i e : ℕ) (a : A) → i ≤ e → P i a → ((k : ℕ) → i ≤ k → k < e → (b : A) → P k b → P (k + 1) (step k b)) → P e (run step i e a)
-  unfolding run
-  run-keeps P step i e a l p h =
-      let z : i + (e - i) ≡ e = omega arith in
-      rw z at (upTo-keeps P step (e - i) i a p (λ k m o b q. h k m (omega arith) b q))
-
-  -- two loops whose steps agree
-  upTo-ext : (s t : ℕ → A → A) (n i : ℕ) (a : A) → ((k : ℕ) → i ≤ k → k < i + n → (b : A) → s k b ≡ t k b) → upTo s n i a ≡ upTo t n i a
-  unfolding upTo
-  upTo-ext s t zero i a h = refl
-  upTo-ext s t (suc n) i a h = rw (h i (omega arith) (omega arith) a) (upTo-ext s t n (i + 1) (t i a) (λ k l m b. h k (omega arith) (omega arith) b))
-
-  pub run-ext : (s t : ℕ → A → A) (i e : ℕ) (a : A) → ((k : ℕ) → i ≤ k → k < e → (b : A) → s k b ≡ t k b) → run s i e a ≡ run t i e a
-  unfolding run
-  run-ext s t i e a h = upTo-ext s t (e - i) i a (λ k l m b. h k l (omega arith) b)

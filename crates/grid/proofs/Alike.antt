@@ -7,8 +7,9 @@ use lib.Dec.{eqb}
 use lib.IntN.{ℤ}
 use lib.ListN.{length, getD}
 use borrow.Author.Tests.{eq-eqb, eqb-true}
-use Rattle.folds.specs.Below.{first, first-holds, last, last-holds, some-yes}
-use Rattle.folds.specs.Lists.{list-at}
+use Rattle.folds.specs.Below.{first, last}
+use Rattle.folds.proofs.Below.{first-holds, last-holds, some-yes}
+use Rattle.folds.proofs.Lists.{list-at}
 use Rattle.view.specs.View.{maxPoints}
 use Rattle.cells.specs.Points.{Point, nowhere}
 use Rattle.cells.specs.Cell.{Cell, cellOf, agree, cellsOf}

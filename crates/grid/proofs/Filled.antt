@@ -6,8 +6,9 @@ use Prim.{Dec, yes, no}
 use native.Mathlib.Decide.{decLt}
 use native.Mathlib.Omega.{arith}
 use lib.ListN.{length, replicate, length-replicate}
-use Rattle.folds.specs.Lists.{listOf, is-list, list-at, list-over}
-use Rattle.folds.specs.Column.{replicate-at}
+use Rattle.folds.specs.Lists.{listOf}
+use Rattle.folds.proofs.Lists.{is-list, list-at, list-over}
+use Rattle.folds.proofs.Column.{replicate-at}
 use Rattle.view.specs.View.{maxPoints, ranksSize, rowsAt, columnsAt, indicesAt}
 use Rattle.grid.specs.Tables.{entryIn, splice, spliced, blocks}
 use Rattle.grid.proofs.Splicing.{splice-at, splice-before, splice-after, splice-ext, length-spliced, spliced-read}

@@ -12,7 +12,8 @@ use lib.Dec.{eqb, ltb}
 use lib.ListN.{length, set, length-set, replicate, length-replicate, getD-replicate}
 use lib.Seq.{getD-set-same, getD-set-other}
 use borrow.Author.Tests.{lt-ltb, le-ltb, eq-eqb, ne-eqb}
-use Rattle.folds.specs.Below.{first, first-before, first-hit, first-ext}
+use Rattle.folds.specs.Below.{first}
+use Rattle.folds.proofs.Below.{first-before, first-hit, first-ext}
 use Rattle.view.specs.View.{maxPoints}
 use Rattle.cells.specs.Points.{stride}
 use Rattle.cells.specs.Cell.{agree, cellsAt}

@@ -6,8 +6,8 @@ use Prim.Native.Nat.{ℕ, _-_, _≤_, _<_}
 use native.Mathlib.Omega.{arith}
 use lib.ListN.{length, getD}
 use borrow.Author.Tests.{lt-ltb, le-ltb, ltb-true}
-use Rattle.folds.specs.Below.{first-holds, first-hit, not-true}
-use Rattle.folds.specs.Column.{column-at, length-column}
+use Rattle.folds.proofs.Below.{first-holds, first-hit, not-true}
+use Rattle.folds.proofs.Column.{column-at, length-column}
 use Rattle.view.specs.View.{maxPoints, own, rankAt}
 use Rattle.cells.specs.Points.{Point, nowhere, keyOf, keysOf}
 use Rattle.cells.specs.Cell.{Cell, cellOf, InRange, before, coincide, offsetBy, cellsOf}

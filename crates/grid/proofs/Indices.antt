@@ -12,8 +12,9 @@ use lib.Dec.{eqb, ltb}
 use lib.ListN.{length, getD, take, drop, set, length-set, replicate, List·getD-append}
 use lib.Seq.{getD-set-same, getD-set-other, take-at}
 use borrow.Author.Tests.{lt-ltb, eq-eqb, ne-eqb, ltb-true, eqb-true}
-use Rattle.folds.specs.Below.{and-left, and-right, and-both, last-hit}
-use Rattle.folds.specs.Lists.{listOf, length-list}
+use Rattle.folds.proofs.Below.{and-left, and-right, and-both, last-hit}
+use Rattle.folds.specs.Lists.{listOf}
+use Rattle.folds.proofs.Lists.{length-list}
 use Rattle.folds.specs.Column.{column}
 use Rattle.view.specs.View.{maxPoints, ranksSize, indicesAt}
 use Rattle.sort.specs.Numbers.{sorted}

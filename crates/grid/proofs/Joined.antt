@@ -5,7 +5,8 @@ use Prim.Native.Nat.{ℕ, _+_, _*_, _<_}
 use lib.Dec.{eqb}
 use lib.ListN.{length, getD}
 use borrow.Author.Tests.{eq-eqb, eqb-true}
-use Rattle.folds.specs.Below.{some, some-ext, both-ways}
+use Rattle.folds.specs.Below.{some}
+use Rattle.folds.proofs.Below.{some-ext, both-ways}
 use Rattle.view.specs.View.{rankAt}
 use Rattle.cells.specs.Points.{Point, nowhere}
 use Rattle.cells.specs.Cell.{Cell, cellOf, coincide, offsetBy, joinedBy}

@@ -7,8 +7,8 @@ use lib.IntN.{ℤ}
 use lib.Ieee.{nan}
 use lib.ListN.{length, getD}
 use Rattle.folds.specs.Arith.{f32}
-use Rattle.folds.specs.Below.{first-ext}
-use Rattle.folds.specs.Lists.{list-ext}
+use Rattle.folds.proofs.Below.{first-ext}
+use Rattle.folds.proofs.Lists.{list-ext}
 use Rattle.cells.specs.Points.{Point, nowhere}
 use Rattle.cells.specs.Cell.{moved, agree, coincide, offsetBy, cellsOf}
 use Rattle.cells.proofs.Edges.{agree-moved, offset-moved}

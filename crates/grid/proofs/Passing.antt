@@ -9,7 +9,7 @@ use native.Mathlib.Nat.{eq-or-lt-of-le}
 use native.Mathlib.Decide.{decLt}
 use lib.Dec.{eqb, ltb}
 use borrow.Author.Tests.{lt-ltb, eq-eqb, ltb-true, eqb-true}
-use Rattle.folds.specs.Below.{and-left, and-right, and-both}
+use Rattle.folds.proofs.Below.{and-left, and-right, and-both}
 use Rattle.grid.specs.Sweep.{keyCentre, standing, Behind, Reached}
 use Rattle.grid.proofs.Standing.{KeysRise, standing-hit, standing-miss}
 

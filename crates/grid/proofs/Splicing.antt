@@ -9,8 +9,8 @@ use lib.Dec.{leb}
 use lib.ListN.{length, set, length-set, List·getD-eq-default}
 use lib.Seq.{ext-getD, getD-set-same, getD-set-other}
 use borrow.Author.Tests.{lt-ltb, le-ltb, le-leb, lt-leb}
-use Rattle.folds.specs.Below.{and-false}
-use Rattle.folds.specs.Lists.{length-list, list-at, list-over}
+use Rattle.folds.proofs.Below.{and-false}
+use Rattle.folds.proofs.Lists.{length-list, list-at, list-over}
 use Rattle.grid.specs.Tables.{splice, spliced, entryIn}
 
 -- ---- by place

@@ -6,7 +6,7 @@ use Prim.Native.Nat.{ℕ, _+_, _*_, _/_, _%_, _^_, _<_}
 use native.Mathlib.Omega.{arith}
 use lib.Dec.{eqb}
 use borrow.Author.Tests.{eq-eqb, ne-eqb, eqb-true}
-use Rattle.folds.specs.Below.{first-hit, first-miss, first-ext, both-ways, and-left, and-right, and-both}
+use Rattle.folds.proofs.Below.{first-hit, first-miss, first-ext, both-ways, and-left, and-right, and-both}
 use Rattle.cells.specs.Points.{stride}
 use Rattle.cells.specs.Cell.{CellInRange, coincide, offsetBy, cellOfKey, cellsAt}
 use Rattle.cells.proofs.Coordinates.{lift, lift-agree, part-liftable, part-lift, two-off}

@@ -7,7 +7,7 @@ use native.Mathlib.Omega.{arith}
 use native.Mathlib.Decide.{ℕ-discrete}
 use lib.ListN.{length, set, length-set, replicate, length-replicate}
 use lib.Seq.{getD-set-same, getD-set-other}
-use Rattle.folds.specs.Column.{replicate-at}
+use Rattle.folds.proofs.Column.{replicate-at}
 use Rattle.view.specs.View.{ranksSize}
 use Rattle.cells.specs.Points.{stride}
 use Rattle.cells.specs.Cell.{cellsAt}

@@ -9,9 +9,10 @@ use lib.ListN.{length, getD}
 use lib.Ieee.{Float, nan}
 use borrow.Author.Tests.{eq-eqb}
 use Rattle.folds.specs.Arith.{f32}
-use Rattle.folds.specs.Below.{last-holds, some-yes}
-use Rattle.folds.specs.Lists.{listOf, list-at}
-use Rattle.folds.specs.Column.{column-list}
+use Rattle.folds.proofs.Below.{last-holds, some-yes}
+use Rattle.folds.specs.Lists.{listOf}
+use Rattle.folds.proofs.Lists.{list-at}
+use Rattle.folds.proofs.Column.{column-list}
 use Rattle.view.specs.View.{View, viewAt, rankAt, maxPoints, ranksSize, rowsAt, columnsAt, indicesAt, Ranked}
 use Rattle.cells.specs.Points.{Point, nowhere, keysOf, indicesOf, xsOf, ysOf}
 use Rattle.cells.specs.Cell.{Cell, agree, cellsAt, cellsOf}

@@ -8,8 +8,8 @@ use lib.ListN.{length, getD}
 use lib.Ieee.{Float, nan, inf, fin}
 use lib.Ieee.Scale.{finite}
 use Rattle.folds.specs.Arith.{f32}
-use Rattle.folds.specs.Below.{or-none}
-use Rattle.folds.specs.Column.{column-at}
+use Rattle.folds.proofs.Below.{or-none}
+use Rattle.folds.proofs.Column.{column-at}
 use Rattle.view.specs.View.{View, maxPoints, viewAt, Finite}
 use Rattle.cells.specs.Points.{Point, nowhere, keysOf, indicesOf, xsOf, ysOf}
 use Rattle.cells.specs.Cell.{Cell, cellsAt, cellsOf}

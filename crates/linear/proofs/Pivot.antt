@@ -9,8 +9,10 @@ use native.Mathlib.Omega.{arith}
 use lib.Dec.{ltb}
 use lib.Ieee.{Float, lt, le}
 use borrow.Author.Tests.{lt-ltb, le-ltb}
-use Rattle.folds.specs.Below.{not-true, first, firstIn, first-more, first-from}
-use Rattle.folds.specs.Run.{run, upTo, run-keeps}
+use Rattle.folds.specs.Below.{first, firstIn}
+use Rattle.folds.proofs.Below.{not-true, first-more, first-from}
+use Rattle.folds.specs.Run.{run, upTo}
+use Rattle.folds.proofs.Run.{run-keeps}
 use Rattle.float.specs.Scalar.{absOf}
 use Rattle.float.proofs.Order.{below-through, not-below-itself, below-at-most}
 use Rattle.linear.specs.Rows.{entry}

@@ -9,11 +9,16 @@ use native.Mathlib.Omega.{arith}
 use borrow.Author.Tests.{eq-eqb, ne-eqb, lt-ltb, le-ltb, le-leb, lt-leb}
 use lib.Dec.{eqb, ltb, leb}
 use lib.ListN.{length, getD, set, replicate, length-replicate, List·getD-eq-default}
-use Rattle.folds.specs.Below.{fold, some, some-one, some-no, some-ext, tally, tally-ext, and-false, and-true}
-use Rattle.folds.specs.Lists.{over, over-listed, gather}
-use Rattle.folds.specs.Marked.{bit, Marked, marked-none, marked-one, marked-as, marked-then, marked-more, marked-column, bit-is}
-use Rattle.folds.specs.Column.{column, column-at, column-ext, filled, replicate-at}
-use Rattle.folds.specs.Scattered.{counts, Scattered, oneMore, fold-tally}
+use Rattle.folds.specs.Below.{fold, some, tally}
+use Rattle.folds.proofs.Below.{some-one, some-no, some-ext, tally-ext, and-false, and-true}
+use Rattle.folds.specs.Lists.{over, gather}
+use Rattle.folds.proofs.Lists.{over-listed}
+use Rattle.folds.specs.Marked.{bit, Marked}
+use Rattle.folds.proofs.Marked.{marked-none, marked-one, marked-as, marked-then, marked-more, marked-column, bit-is}
+use Rattle.folds.specs.Column.{column}
+use Rattle.folds.proofs.Column.{column-at, column-ext, filled, replicate-at}
+use Rattle.folds.specs.Scattered.{counts, Scattered, oneMore}
+use Rattle.folds.proofs.Scattered.{fold-tally}
 use Rattle.lines.specs.Fit.{fitOf}
 use Rattle.lines.specs.declared.Line.{Line}
 use Rattle.lines.specs.Flags.{LineRule, isFar, flaggedBy, isOn, isFlagged, flagCount}

@@ -9,9 +9,11 @@ use native.Mathlib.Omega.{arith}
 use borrow.Author.Tests.{eq-eqb, ne-eqb, eqb-true}
 use lib.ListN.{getD, set, length-set, replicate, length-replicate}
 use lib.Seq.{getD-set-same, getD-set-other}
-use Rattle.folds.specs.Below.{first, first-more, first-end, first-le, first-before, first-from}
-use Rattle.folds.specs.Lists.{Gathered, gathered-skip, getD-any}
-use Rattle.folds.specs.Column.{replicate-at}
+use Rattle.folds.specs.Below.{first}
+use Rattle.folds.proofs.Below.{first-more, first-end, first-le, first-before, first-from}
+use Rattle.folds.specs.Lists.{Gathered}
+use Rattle.folds.proofs.Lists.{gathered-skip, getD-any}
+use Rattle.folds.proofs.Column.{replicate-at}
 use Rattle.view.specs.View.{maxPoints, viewAt, Ranked}
 use Rattle.lines.specs.Flags.{lineNumber, isOn}
 use Rattle.lines.specs.Lines.{Chained, Onward, Linked}

@@ -11,8 +11,9 @@ use borrow.Author.Tests.{leb-true}
 use lib.Dec.{leb, eqb}
 use lib.IntN.{pos, _-ℤ_}
 use lib.ListN.{length, getD, length-append}
-use Rattle.folds.specs.Below.{every, every-at, tally-le}
-use Rattle.folds.specs.Lists.{list-at}
+use Rattle.folds.specs.Below.{every}
+use Rattle.folds.proofs.Below.{every-at, tally-le}
+use Rattle.folds.proofs.Lists.{list-at}
 use Rattle.view.specs.View.{maxPoints}
 use Rattle.text.specs.Text.{bytes, each, decimal, whole, hex, digit}
 use Rattle.cells.specs.Points.{bias, stride}

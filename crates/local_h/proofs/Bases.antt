@@ -10,7 +10,8 @@ use lib.Dec.{ltb}
 use lib.ListN.{getD}
 use lib.Ieee.{Float}
 use borrow.Author.Tests.{ltb-true, lt-ltb, le-ltb, not-true}
-use Rattle.folds.specs.Below.{first, first-end, first-before, first-holds, and-left, and-right, first-from}
+use Rattle.folds.specs.Below.{first}
+use Rattle.folds.proofs.Below.{first-end, first-before, first-holds, and-left, and-right, first-from}
 use Rattle.cells.specs.Cell.{Cell}
 use Rattle.view.specs.View.{View, viewAt}
 use Rattle.local_h.specs.declared.Base.{Base}

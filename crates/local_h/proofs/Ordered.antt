@@ -7,7 +7,7 @@ use lib.Dec.{eqb, ltb}
 use lib.ListN.{length, getD}
 use native.Mathlib.Omega.{arith}
 use borrow.Author.Tests.{ltb-true, eqb-false, not-true}
-use Rattle.folds.specs.Below.{and-left, and-right}
+use Rattle.folds.proofs.Below.{and-left, and-right}
 use Rattle.view.specs.View.{own}
 use Rattle.local_h.specs.Order.{nearestFirst, offsetAt}
 

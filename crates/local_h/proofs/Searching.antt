@@ -3,7 +3,8 @@ use mathlib.Core.Path.{_≡_, refl, sym, _∙_}
 use mathlib.Core.Bool.{Bool, true, false}
 use Prim.Native.Nat.{ℕ, _+_, _≤_, _<_}
 use native.Mathlib.Omega.{arith}
-use Rattle.folds.specs.Below.{first, first-more, first-end}
+use Rattle.folds.specs.Below.{first}
+use Rattle.folds.proofs.Below.{first-more, first-end}
 use Rattle.local_h.specs.Places.{FirstPlace}
 
 pub record Searching (p : ℕ → Bool) (start i : ℕ) : Type 0 where

@@ -9,8 +9,10 @@ use lib.Dec.{eqb, ltb}
 use lib.ListN.{getD, replicate}
 use borrow.Author.Tests.{eqb-true, eq-eqb, ltb-true}
 use Rattle.folds.specs.Among.{anyIn}
-use Rattle.folds.specs.Below.{some, some-yes, some-ext, every, every-at, not-true, and-left, and-right, or-none, or-false, not-false}
-use Rattle.folds.specs.Column.{column, column-at, column-ext, replicate-at}
+use Rattle.folds.specs.Below.{some, every}
+use Rattle.folds.proofs.Below.{some-yes, some-ext, every-at, not-true, and-left, and-right, or-none, or-false, not-false}
+use Rattle.folds.specs.Column.{column}
+use Rattle.folds.proofs.Column.{column-at, column-ext, replicate-at}
 use Rattle.view.specs.View.{maxPoints}
 use Rattle.marks.specs.Filters.{filterAt, filterCount}
 use Rattle.marks.specs.Byte.{hasMark, withMark, markedBy, Marking, markedByAll}

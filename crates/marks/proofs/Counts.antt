@@ -6,9 +6,10 @@ use Prim.Native.Nat.{ℕ, _+_, _≤_, _<_}
 use native.Mathlib.Omega.{arith}
 use lib.Dec.{eqb}
 use lib.ListN.{length, getD, set, replicate, length-replicate, getD-replicate}
-use Rattle.folds.specs.Below.{and-true, tally-ext}
-use Rattle.folds.specs.Lists.{is-list}
-use Rattle.folds.specs.Scattered.{Scattered, scattered-none, scattered-put, counts, oneMore, fold-tally, counted-le}
+use Rattle.folds.proofs.Below.{and-true, tally-ext}
+use Rattle.folds.proofs.Lists.{is-list}
+use Rattle.folds.specs.Scattered.{Scattered, counts, oneMore}
+use Rattle.folds.proofs.Scattered.{scattered-none, scattered-put, fold-tally, counted-le}
 use Rattle.marks.specs.Filters.{filterCount}
 use Rattle.marks.specs.Byte.{firstMark}
 use Rattle.marks.specs.Tally.{countUnder, countsOf}

@@ -7,7 +7,8 @@ use native.Mathlib.Omega.{arith}
 use lib.Dec.{eqb, ltb}
 use lib.ListN.{length, getD}
 use borrow.Author.Tests.{eqb-true, ltb-true}
-use Rattle.folds.specs.Below.{every, every-at, and-left, and-right}
+use Rattle.folds.specs.Below.{every}
+use Rattle.folds.proofs.Below.{every-at, and-left, and-right}
 use Rattle.text.specs.Text.{bytes}
 use Rattle.marks.specs.Filters.{filterAt, filterCount}
 

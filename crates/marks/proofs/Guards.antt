@@ -9,9 +9,12 @@ use Prim.{yes, no}
 use lib.Dec.{eqb, ltb}
 use borrow.Author.Tests.{lt-ltb, le-ltb, ne-eqb}
 use lib.ListN.{getD, replicate}
-use Rattle.folds.specs.Below.{some, some-ext, some-no, and-false}
-use Rattle.folds.specs.Column.{column, column-ext, column-at}
-use Rattle.folds.specs.Marked.{bit, bit-is, Marked, marked-column}
+use Rattle.folds.specs.Below.{some}
+use Rattle.folds.proofs.Below.{some-ext, some-no, and-false}
+use Rattle.folds.specs.Column.{column}
+use Rattle.folds.proofs.Column.{column-ext, column-at}
+use Rattle.folds.specs.Marked.{bit, Marked}
+use Rattle.folds.proofs.Marked.{bit-is, marked-column}
 use Rattle.view.specs.View.{View, maxPoints, alike, indexHas}
 use Rattle.marks.specs.Marks.{isSet, indexMarks}
 

@@ -11,7 +11,8 @@ use lib.Ieee.{Float, nan, lt, le}
 use lib.Ieee.Positive.{positive, above}
 use Rattle.folds.specs.Arith.{_⊗_, zeroF}
 use Rattle.folds.specs.Below.{tally}
-use Rattle.folds.specs.Lists.{All, all-listed, count, count-listed, listed, listed-length}
+use Rattle.folds.specs.Lists.{All, listed}
+use Rattle.folds.proofs.Lists.{all-listed, count, count-listed, listed-length}
 use Rattle.sort.proofs.Sorted.{sorted-at}
 use Rattle.float.proofs.Order.{lt-after, not-over, under, mul-plain, mul-le, above-zero}
 use Rattle.median.specs.Median.{medianOf}

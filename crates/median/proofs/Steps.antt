@@ -10,8 +10,10 @@ use lib.Dec.{T, ltb}
 use lib.ListN.{length, getD, take, drop, List·getD-append}
 use lib.Ieee.{Float, nan, binary32, lt, fits, toBits}
 use lib.Ieee.Positive.{above}
-use Rattle.folds.specs.Below.{tally, tally-turn}
-use Rattle.folds.specs.Lists.{All, all-listed, listed, listed-more, listed-length}
+use Rattle.folds.specs.Below.{tally}
+use Rattle.folds.proofs.Below.{tally-turn}
+use Rattle.folds.specs.Lists.{All, listed}
+use Rattle.folds.proofs.Lists.{all-listed, listed-more, listed-length}
 use Rattle.sort.specs.Sorted.{sort}
 use Rattle.view.specs.View.{maxPoints}
 use Rattle.sort.proofs.Sorted.{sort-length, sort-all, sort-map, Agree}

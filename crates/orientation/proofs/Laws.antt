@@ -5,8 +5,10 @@ use mathlib.Core.List.{List}
 use Prim.Native.Nat.{ℕ, _≤_, _<_}
 use lib.Dec.{eqb}
 use lib.ListN.{getD, replicate}
-use Rattle.folds.specs.Below.{some, some-ext, tally, tally-ext, and-false, and-swap}
-use Rattle.folds.specs.Column.{column, column-at, column-ext}
+use Rattle.folds.specs.Below.{some, tally}
+use Rattle.folds.proofs.Below.{some-ext, tally-ext, and-false, and-swap}
+use Rattle.folds.specs.Column.{column}
+use Rattle.folds.proofs.Column.{column-at, column-ext}
 use Rattle.folds.specs.Marked.{bit, Marked}
 use Rattle.view.specs.View.{View, maxPoints, rankAt, nextU, nextV, indexHas}
 use Rattle.marks.specs.Marks.{isSet, indexMarks}

@@ -8,7 +8,8 @@ use native.Mathlib.Nat.{le-antisymm}
 use borrow.Author.Tests.{eqb-true}
 use lib.Dec.{eqb}
 use lib.ListN.{length, getD}
-use Rattle.folds.specs.Below.{some, some-at, every-at, and-under, both-ways}
+use Rattle.folds.specs.Below.{some}
+use Rattle.folds.proofs.Below.{some-at, every-at, and-under, both-ways}
 use Rattle.patches.specs.Patches.{survives, touches, linked, via, labelsBy, labelsOf}
 use Rattle.patches.specs.Reach.{Reach, here, step, Mirrored, paired}
 use Rattle.patches.specs.Search.{Offsets}

@@ -10,8 +10,10 @@ use native.Mathlib.Nat.{eq-or-lt-of-le}
 use native.Mathlib.Omega.{arith}
 use borrow.Author.Tests.{eq-eqb, eqb-true}
 use lib.Dec.{eqb}
-use Rattle.folds.specs.Below.{or-left, or-right, or-cases, and-left, and-right, and-both, not-true, first, first-hit, first-miss, first-holds, first-before}
-use Rattle.folds.specs.Lists.{listOf, list-at}
+use Rattle.folds.specs.Below.{first}
+use Rattle.folds.proofs.Below.{or-left, or-right, or-cases, and-left, and-right, and-both, not-true, first-hit, first-miss, first-holds, first-before}
+use Rattle.folds.specs.Lists.{listOf}
+use Rattle.folds.proofs.Lists.{list-at}
 use Rattle.patches.specs.Patches.{test, testTable, via}
 use Rattle.patches.specs.Reach.{Reach, here, step, Labelled}
 

@@ -9,9 +9,12 @@ use native.Mathlib.Omega.{arith}
 use borrow.Author.Tests.{eqb-true, lt-ltb, le-ltb, ltb-true}
 use lib.Dec.{eqb, ltb}
 use lib.ListN.{getD, set, replicate, length-replicate, List·getD-eq-default}
-use Rattle.folds.specs.Below.{fold, turn, fold-kept, fold-ext, not-true, and-left, and-right, and-under, and-true}
-use Rattle.folds.specs.Column.{column, filled, replicate-at}
-use Rattle.folds.specs.Scattered.{Scattered, counts, scattered-none, scattered-put, scattered-skip}
+use Rattle.folds.specs.Below.{fold, turn}
+use Rattle.folds.proofs.Below.{fold-kept, fold-ext, not-true, and-left, and-right, and-under, and-true}
+use Rattle.folds.specs.Column.{column}
+use Rattle.folds.proofs.Column.{filled, replicate-at}
+use Rattle.folds.specs.Scattered.{Scattered, counts}
+use Rattle.folds.proofs.Scattered.{scattered-none, scattered-put, scattered-skip}
 use Rattle.view.specs.View.{maxPoints}
 
 module _ (labels : List ℕ) where

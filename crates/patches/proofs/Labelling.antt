@@ -6,7 +6,7 @@ use Prim.Native.Nat.{ℕ, _≤_, _<_}
 use native.Mathlib.Omega.{arith}
 use lib.ListN.{getD, length-replicate}
 use Rattle.folds.specs.Below.{first}
-use Rattle.folds.specs.Column.{column-at, column-over, filled, replicate-at}
+use Rattle.folds.proofs.Column.{column-at, column-over, filled, replicate-at}
 use Rattle.view.specs.View.{maxPoints}
 use Rattle.patches.specs.Patches.{survives, linked, test, via, labelsBy, labelsOf}
 use Rattle.patches.specs.Reach.{here, Labelled}

@@ -6,7 +6,8 @@ use Prim.Native.Nat.{ℕ}
 use lib.Dec.{ltb}
 use lib.ListN.{length, getD}
 use borrow.Author.Tests.{ltb-true}
-use Rattle.folds.specs.Below.{some, every, every-at}
+use Rattle.folds.specs.Below.{some, every}
+use Rattle.folds.proofs.Below.{every-at}
 use Rattle.view.specs.View.{squareSides}
 use Rattle.patches.specs.Reach.{paired}
 use Rattle.patches.specs.Search.{Offsets}

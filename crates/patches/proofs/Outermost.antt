@@ -9,10 +9,12 @@ use lib.Dec.{eqb, ltb}
 use lib.IntN.{pos, negsuc, _-ℤ_}
 use lib.Signed.{ltZ}
 use lib.ListN.{getD}
-use Rattle.folds.specs.Below.{fold, turn, some, some-ext, and-under, both-ways}
-use Rattle.folds.specs.Column.{column-at}
+use Rattle.folds.specs.Below.{fold, turn, some}
+use Rattle.folds.proofs.Below.{some-ext, and-under, both-ways}
+use Rattle.folds.proofs.Column.{column-at}
 use Rattle.folds.specs.Marked.{bit}
-use Rattle.folds.specs.Scattered.{larger, fold-above}
+use Rattle.folds.specs.Scattered.{larger}
+use Rattle.folds.proofs.Scattered.{fold-above}
 use Rattle.view.specs.View.{maxPoints}
 use Rattle.cells.specs.Points.{bias, stride}
 use Rattle.cells.specs.Cell.{Cell, cellsAt}

@@ -13,7 +13,7 @@ use borrow.Author.Count.{below-more}
 use lib.Dec.{eqb}
 use lib.ListN.{length, getD, set, length-set, replicate, length-replicate}
 use lib.Seq.{getD-set-same, getD-set-other}
-use Rattle.folds.specs.Column.{length-column}
+use Rattle.folds.proofs.Column.{length-column}
 use Rattle.folds.specs.Marked.{bit}
 use Rattle.view.specs.View.{maxPoints, viewAt}
 use Rattle.patches.specs.Patches.{survives, linked}

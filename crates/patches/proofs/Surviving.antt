@@ -9,9 +9,9 @@ use native.Mathlib.Omega.{arith}
 use borrow.Author.Tests.{eq-eqb, eqb-true, lt-ltb, le-ltb, ltb-true}
 use lib.Dec.{eqb, ltb}
 use lib.ListN.{length, getD}
-use Rattle.folds.specs.Below.{some-yes, some-at, and-left, and-right, and-both}
-use Rattle.folds.specs.Lists.{getD-any}
-use Rattle.folds.specs.Column.{length-column, column-at, column-over}
+use Rattle.folds.proofs.Below.{some-yes, some-at, and-left, and-right, and-both}
+use Rattle.folds.proofs.Lists.{getD-any}
+use Rattle.folds.proofs.Column.{length-column, column-at, column-over}
 use Rattle.folds.specs.Marked.{bit}
 use Rattle.view.specs.View.{maxPoints}
 use Rattle.patches.specs.Patches.{survives, touches, linked}

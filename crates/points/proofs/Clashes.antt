@@ -7,8 +7,9 @@ use native.Mathlib.Omega.{arith}
 use lib.Dec.{eqb}
 use lib.ListN.{getD}
 use borrow.Author.Tests.{eqb-true, eq-eqb}
-use Rattle.folds.specs.Among.{anyIn, pairIn, any-list, pair-ext}
-use Rattle.folds.specs.Below.{some-ext, some-fails, and-left, and-right, and-both, both-ways}
+use Rattle.folds.specs.Among.{anyIn, pairIn}
+use Rattle.folds.proofs.Among.{any-list, pair-ext}
+use Rattle.folds.proofs.Below.{some-ext, some-fails, and-left, and-right, and-both, both-ways}
 use Rattle.view.specs.View.{maxPoints}
 use Rattle.cells.specs.Points.{Point, biased, keyOf}
 use Rattle.cells.specs.Cell.{signed, within, InRange}

@@ -6,10 +6,12 @@ use Prim.Native.Nat.{ℕ, _+_, _*_, _/_, _%_, _≤_, _<_}
 use native.Mathlib.Omega.{arith}
 use lib.ListN.{length, getD}
 use lib.Ieee.{nan}
-use Rattle.folds.specs.Below.{or-none}
+use Rattle.folds.proofs.Below.{or-none}
 use Rattle.folds.specs.Arith.{f32}
-use Rattle.folds.specs.Column.{column, column-ext}
-use Rattle.folds.specs.Lists.{listOf, length-list, list-at}
+use Rattle.folds.specs.Column.{column}
+use Rattle.folds.proofs.Column.{column-ext}
+use Rattle.folds.specs.Lists.{listOf}
+use Rattle.folds.proofs.Lists.{length-list, list-at}
 use Rattle.view.specs.View.{maxPoints}
 use Rattle.cells.specs.Points.{Point, nowhere, keyOf, keysOf, indicesOf, xsOf, ysOf}
 use Rattle.sheet_file.specs.Limit.{outside}

@@ -4,7 +4,7 @@ use mathlib.Core.List.{List}
 use Prim.Native.Nat.{ℕ, _+_, _≤_}
 use native.Mathlib.Omega.{arith}
 use lib.ListN.{length}
-use Rattle.folds.specs.Lists.{length-list}
+use Rattle.folds.proofs.Lists.{length-list}
 use Rattle.sheet_file.specs.Bytes.{le32}
 use Rattle.sheet_file.proofs.Words.{SameBytes, same-within, le32-same}
 use Rattle.points.specs.Records.{pointIn, ithPoint, pointsIn}

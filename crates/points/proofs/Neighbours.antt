@@ -9,8 +9,10 @@ use native.Mathlib.Omega.{arith}
 use mathlib.Core.Logic.{_⊎_, inl, inr}
 use lib.Dec.{eqb, ltb}
 use borrow.Author.Tests.{eq-eqb, ne-eqb}
-use Rattle.folds.specs.Among.{pairIn, pair-yes, pair-no, pair-order}
-use Rattle.folds.specs.Below.{some, some-at, some-fails, not-false}
+use Rattle.folds.specs.Among.{pairIn}
+use Rattle.folds.proofs.Among.{pair-yes, pair-no, pair-order}
+use Rattle.folds.specs.Below.{some}
+use Rattle.folds.proofs.Below.{some-at, some-fails, not-false}
 use Rattle.folds.specs.Lists.{listOf}
 use Rattle.sort.proofs.Sorted.{sort-perm}
 use Rattle.sort.specs.Packed.{placed}

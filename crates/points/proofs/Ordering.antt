@@ -6,8 +6,10 @@ use Prim.Native.Nat.{ℕ, _-_, _/_, _≤_, _<_}
 use native.Mathlib.Omega.{arith}
 use lib.ListN.{getD, take, drop, replicate}
 use lib.Seq.{take-at, drop-at}
-use Rattle.folds.specs.Column.{column, column-at}
-use Rattle.folds.specs.Lists.{listOf, length-list, is-list}
+use Rattle.folds.specs.Column.{column}
+use Rattle.folds.proofs.Column.{column-at}
+use Rattle.folds.specs.Lists.{listOf}
+use Rattle.folds.proofs.Lists.{length-list, is-list}
 use Rattle.view.specs.View.{maxPoints}
 use Rattle.sort.specs.Numbers.{sorted}
 use Rattle.sort.specs.Packed.{packed, inOrder}

@@ -8,7 +8,8 @@ use native.Mathlib.Omega.{arith}
 use lib.Dec.{eqb, ltb}
 use lib.ListN.{length, getD}
 use borrow.Author.Tests.{ltb-true}
-use Rattle.folds.specs.Below.{some, and-under}
+use Rattle.folds.specs.Below.{some}
+use Rattle.folds.proofs.Below.{and-under}
 use Rattle.view.specs.View.{View}
 use Rattle.cells.specs.Points.{Point}
 use Rattle.cells.specs.Cell.{Cell, cellsOf}

@@ -6,8 +6,9 @@ use Prim.Native.Nat.{ℕ, _≤_, _<_}
 use lib.Dec.{eqb, ltb}
 use lib.ListN.{length, getD}
 use borrow.Author.Tests.{lt-ltb, ltb-true}
-use Rattle.folds.specs.Below.{some, some-at, some-fails, and-under, and-left, and-right, and-both, and-swap, not-true, not-false, tally}
-use Rattle.folds.specs.Marked.{bit-is}
+use Rattle.folds.specs.Below.{some, tally}
+use Rattle.folds.proofs.Below.{some-at, some-fails, and-under, and-left, and-right, and-both, and-swap, not-true, not-false}
+use Rattle.folds.proofs.Marked.{bit-is}
 use Rattle.view.specs.View.{View, maxPoints}
 use Rattle.cells.specs.Points.{Point, nowhere}
 use Rattle.cells.specs.Cell.{cellOf, joinedBy}

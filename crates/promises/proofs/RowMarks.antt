@@ -7,7 +7,7 @@ use native.Mathlib.Omega.{arith}
 use lib.Dec.{eqb, ltb}
 use borrow.Author.Tests.{ltb-true}
 use lib.ListN.{length, getD}
-use Rattle.folds.specs.Below.{and-under}
+use Rattle.folds.proofs.Below.{and-under}
 use Rattle.cells.specs.Points.{Point}
 use Rattle.sheet_file.specs.declared.Settings.{Settings}
 use Rattle.ruling.specs.Ruling.{Ruling, accepted, rulingOf}

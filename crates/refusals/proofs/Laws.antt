@@ -6,7 +6,7 @@ use Prim.Native.Nat.{ℕ}
 use lib.Dec.{eqb}
 use borrow.Author.Tests.{eqb-true, eq-eqb}
 use Rattle.folds.specs.Among.{anyIn, pairIn}
-use Rattle.folds.specs.Below.{or-none, or-true, not-false, not-true}
+use Rattle.folds.proofs.Below.{or-none, or-true, not-false, not-true}
 use Rattle.refusals.specs.First.{Refusal, ruled, appliesIn, numberIn}
 
 abbrev pub holds : Refusal → Bool

@@ -9,8 +9,10 @@ use lib.ListN.{getD, replicate, length-replicate, getD-replicate}
 use lib.Ieee.{Float, nan}
 use borrow.Author.Tests.{lt-ltb, le-ltb, ltb-true}
 use Rattle.folds.specs.Arith.{zeroF}
-use Rattle.folds.specs.Below.{fold, turn, some, last, last-ext, last-holds, last-miss, some-fails, and-left, and-swap}
-use Rattle.folds.specs.Column.{column, column-at, column-ext}
+use Rattle.folds.specs.Below.{fold, turn, some, last}
+use Rattle.folds.proofs.Below.{last-ext, last-holds, last-miss, some-fails, and-left, and-swap}
+use Rattle.folds.specs.Column.{column}
+use Rattle.folds.proofs.Column.{column-at, column-ext}
 use Rattle.folds.specs.Marked.{bit}
 use Rattle.folds.specs.Scattered.{Scattered, counts}
 use Rattle.view.specs.View.{View, maxPoints, alike, indexHas}

@@ -7,7 +7,8 @@ use native.Mathlib.Numerals.{add-one, add-two, add-three, add-four, add-five, ad
 use native.Mathlib.Nat.{add-zero}
 use lib.ListN.{length, getD, set}
 use lib.Seq.{sets}
-use Rattle.folds.specs.Column.{Filling, fill-more}
+use Rattle.folds.specs.Column.{Filling}
+use Rattle.folds.proofs.Column.{fill-more}
 use Rattle.folds.specs.Marked.{bit}
 use mathlib.Core.Option.{Option}
 use lib.Ieee.{Float}

@@ -11,7 +11,8 @@ use lib.Ieee.{Float, nan, binary32, ofBits, toBits}
 use Rattle.edge_shape.specs.declared.Measure.the-variants.{Absent, Held}
 use Rattle.edge_shape.specs.declared.Reason.the-variants.{BadContinuation}
 use Rattle.edge_shape.specs.Figures.{noFigures}
-use Rattle.folds.specs.Lists.{listOf, length-list, list-at, is-list}
+use Rattle.folds.specs.Lists.{listOf}
+use Rattle.folds.proofs.Lists.{length-list, list-at, is-list}
 use Rattle.folds.specs.Marked.{bit}
 use Rattle.rows.specs.Rows.{littleEndian, bitsOf, isPresent, rowOf, rowSize, rowByte, rowsOver}
 use Rattle.judged.specs.Shown.{Shown}

@@ -9,7 +9,7 @@ use native.Mathlib.Omega.{arith}
 use lib.Ieee.{Float}
 use lib.ListN.{length, getD}
 use Rattle.folds.specs.Among.{anyIn}
-use Rattle.folds.specs.Below.{and-under}
+use Rattle.folds.proofs.Below.{and-under}
 use Rattle.refusals.specs.First.{ruled}
 use Rattle.sheet_file.specs.Bytes.{byteAt, le16, le32}
 use Rattle.sheet_file.specs.Limit.{outside}

@@ -5,9 +5,11 @@ use mathlib.Core.List.{List, [], _∷_, map}
 use Prim.Native.Nat.{ℕ, _<_}
 use native.Mathlib.Omega.{arith}
 use lib.ListN.{length-map, List·getD-map}
-use Rattle.folds.specs.Among.{anyIn, pairIn, any-list, pair-ext}
-use Rattle.folds.specs.Below.{some-ext}
-use Rattle.folds.specs.Lists.{All, listOf, length-list, list-at, is-list}
+use Rattle.folds.specs.Among.{anyIn, pairIn}
+use Rattle.folds.proofs.Among.{any-list, pair-ext}
+use Rattle.folds.proofs.Below.{some-ext}
+use Rattle.folds.specs.Lists.{All, listOf}
+use Rattle.folds.proofs.Lists.{length-list, list-at, is-list}
 use Rattle.sort.specs.Sorted.{sort}
 use Rattle.sort.proofs.Sorted.{at-all, Agree, sort-map}
 

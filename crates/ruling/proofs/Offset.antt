@@ -12,7 +12,8 @@ use lib.IntN.{ℤ}
 use lib.ListN.{length, getD, length-map, List·getD-map}
 use borrow.Author.Tests.{lt-ltb, le-ltb}
 use Rattle.folds.specs.Among.{anyIn, pairIn}
-use Rattle.folds.specs.Lists.{All, listOf, list-at, is-list, getD-any}
+use Rattle.folds.specs.Lists.{All, listOf}
+use Rattle.folds.proofs.Lists.{list-at, is-list, getD-any}
 use Rattle.refusals.specs.First.{ruled}
 use Rattle.refusals.proofs.Laws.{none-passes}
 use Rattle.cells.specs.Points.{Point, nowhere, keyOf}

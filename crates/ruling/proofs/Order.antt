@@ -5,8 +5,9 @@ use Prim.Native.Nat.{ℕ, _+_, _*_}
 use native.Mathlib.Omega.{arith}
 use lib.ListN.{drop, length-map, List·getD-map}
 use lib.Seq.{getD-take, getD-drop}
-use Rattle.folds.specs.Among.{any-order, pair-order}
-use Rattle.folds.specs.Lists.{All, listOf, length-list, list-at, is-list}
+use Rattle.folds.proofs.Among.{any-order, pair-order}
+use Rattle.folds.specs.Lists.{All, listOf}
+use Rattle.folds.proofs.Lists.{length-list, list-at, is-list}
 use Rattle.cells.specs.Points.{Point}
 use Rattle.sheet_file.specs.Bytes.{Bytes}
 use Rattle.sheet_file.specs.Frame.{framingOf}

@@ -9,9 +9,11 @@ use native.Mathlib.Decide.{decLt}
 use native.Mathlib.Omega.{arith}
 use lib.ListN.{length, getD}
 use borrow.Author.Tests.{eq-eqb, ltb-false}
-use Rattle.folds.specs.Among.{anyIn, pairIn, none-in, any-order, pair-order}
-use Rattle.folds.specs.Below.{or-none}
-use Rattle.folds.specs.Lists.{All, listOf, length-list, list-at, is-list}
+use Rattle.folds.specs.Among.{anyIn, pairIn}
+use Rattle.folds.proofs.Among.{none-in, any-order, pair-order}
+use Rattle.folds.proofs.Below.{or-none}
+use Rattle.folds.specs.Lists.{All, listOf}
+use Rattle.folds.proofs.Lists.{length-list, list-at, is-list}
 use Rattle.view.specs.View.{maxPoints}
 use Rattle.refusals.proofs.Laws.{holds, none-applies-in}
 use Rattle.cells.specs.Points.{Point, nowhere, keyOf}

@@ -6,8 +6,8 @@ use mathlib.Core.List.{List}
 use mathlib.Core.Logic.{inl, inr}
 use Prim.Native.Nat.{ℕ, _+_, _*_}
 use native.Mathlib.Omega.{arith}
-use Rattle.folds.specs.Below.{or-none}
-use Rattle.folds.specs.Lists.{list-ext}
+use Rattle.folds.proofs.Below.{or-none}
+use Rattle.folds.proofs.Lists.{list-ext}
 use Rattle.refusals.proofs.Laws.{none-passes}
 use Rattle.cells.specs.Points.{Point, nowhere}
 use Rattle.sheet_file.specs.Bytes.{byteAt}

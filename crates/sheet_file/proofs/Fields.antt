@@ -7,7 +7,7 @@ use native.Mathlib.Omega.{arith}
 use borrow.Author.Tests.{leb-true, eqb-true}
 use lib.Dec.{eqb, leb}
 use lib.ListN.{length}
-use Rattle.folds.specs.Below.{and-left, and-right}
+use Rattle.folds.proofs.Below.{and-left, and-right}
 use Rattle.sheet_file.specs.Bytes.{byteAt, le16}
 use Rattle.sheet_file.specs.Frame.{fieldAt, endFrom, pointsFrom, gateFrom, framingOf, layoutIn, layoutOf, gateStart, Held}
 use Rattle.sheet_file.specs.Refusals.{misframing, misframed}

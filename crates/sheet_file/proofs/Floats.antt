@@ -4,8 +4,9 @@ use mathlib.Core.Bool.{true, false, _&&_}
 use mathlib.Core.List.{List}
 use Prim.Native.Nat.{ℕ}
 use lib.Ieee.{Float}
-use Rattle.folds.specs.Below.{or-none}
-use Rattle.folds.specs.Among.{anyIn, none-in}
+use Rattle.folds.proofs.Below.{or-none}
+use Rattle.folds.specs.Among.{anyIn}
+use Rattle.folds.proofs.Among.{none-in}
 use Rattle.folds.specs.Lists.{All}
 use Rattle.sheet_file.specs.Limit.{outside}
 use Rattle.sheet_file.specs.Frame.{gateStart}

@@ -10,7 +10,7 @@ use lib.Dec.{eqb, leb}
 use lib.ListN.{length, take, drop, length-append, length-drop, take-append-drop}
 use lib.Seq.{drop-cons, drop-drop, drop-length, getD-append-add, length-take-le}
 use borrow.Author.Tests.{le-leb, eq-eqb, ne-eqb}
-use Rattle.folds.specs.Below.{and-false}
+use Rattle.folds.proofs.Below.{and-false}
 use Rattle.sheet_file.specs.Bytes.{Bytes, byteAt, le16}
 use Rattle.sheet_file.specs.Frame.{fieldAt, pointsFrom, gateFrom, framingOf}
 use Rattle.sheet_file.specs.Grammar.{field, Optional, absent, present, WellFramed}

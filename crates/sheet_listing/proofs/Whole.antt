@@ -8,10 +8,11 @@ use native.Mathlib.Omega.{arith}
 use lib.ListN.{length, getD, take, drop, length-append}
 use lib.Seq.{take-all, take-append-seam}
 use borrow.Author.Tests.{le-leb}
-use Rattle.folds.specs.Column.{column, column-at, column-over}
+use Rattle.folds.specs.Column.{column}
+use Rattle.folds.proofs.Column.{column-at, column-over}
 use Rattle.view.specs.View.{maxPoints}
 use Rattle.cells.specs.Points.{Point, nowhere, keyOf, keysOf, indicesOf}
-use Rattle.cells.proofs.Keys.{key-small}
+use Rattle.cells.proofs.Keys.{key-small, cells-are}
 use Rattle.sheet_file.specs.Bytes.{Bytes}
 use Rattle.sheet_file.specs.declared.Settings.{Settings}
 use Rattle.ruling.specs.Ruling.{Ruling, refused, accepted, rulingOf}
@@ -25,7 +26,6 @@ use Rattle.listing.specs.Listing.{refusalOf, listingSize}
 use Rattle.listing.proofs.Size.{listing-fits}
 use Rattle.judging.specs.Judging.{judgedFor}
 use Rattle.judging.proofs.Laws.{few-components}
-use Rattle.cells.proofs.Keys.{cells-are}
 use Rattle.sheet_listing.specs.Text.{rowsSize, textBy, textOf}
 use Rattle.sheet_listing.proofs.Laws.{text-is}
 

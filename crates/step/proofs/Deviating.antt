@@ -9,9 +9,11 @@ use lib.Dec.{leb}
 use lib.ListN.{length, getD, replicate}
 use lib.Ieee.{Float, nan, lt}
 use Rattle.float.specs.Constants.{zero}
-use Rattle.folds.specs.Below.{tally, and-false}
-use Rattle.folds.specs.Lists.{listed-length}
-use Rattle.folds.specs.Column.{column, column-ext, filled, replicate-at}
+use Rattle.folds.specs.Below.{tally}
+use Rattle.folds.proofs.Below.{and-false}
+use Rattle.folds.proofs.Lists.{listed-length}
+use Rattle.folds.specs.Column.{column}
+use Rattle.folds.proofs.Column.{column-ext, filled, replicate-at}
 use Rattle.folds.specs.Marked.{bit}
 use Rattle.median.specs.Median.{medianOf}
 use Rattle.median.specs.Packed.{positives}

@@ -8,7 +8,8 @@ use lib.ListN.{length}
 use lib.Ieee.{Float, nan, ofBits, lt}
 use lib.Ieee.Scale.{finite}
 use Rattle.float.specs.Constants.{zero}
-use Rattle.folds.specs.Lists.{all-listed, listed}
+use Rattle.folds.specs.Lists.{listed}
+use Rattle.folds.proofs.Lists.{all-listed}
 use Rattle.median.specs.Median.{medianOf}
 use Rattle.sort.specs.Sorted.{sort}
 use Rattle.sort.proofs.Sorted.{sort-length, sort-all, all-at}

@@ -8,8 +8,10 @@ use native.Mathlib.Omega.{arith}
 use borrow.Author.Tests.{lt-ltb, le-ltb, ltb-true, ltb-false, eqb-true}
 use lib.Dec.{ltb, eqb}
 use lib.ListN.{length, getD, length-append, List·getD-append}
-use Rattle.folds.specs.Below.{every, every-at}
-use Rattle.folds.specs.Lists.{All, over, over-snoc}
+use Rattle.folds.specs.Below.{every}
+use Rattle.folds.proofs.Below.{every-at}
+use Rattle.folds.specs.Lists.{All, over}
+use Rattle.folds.proofs.Lists.{over-snoc}
 use Rattle.text.specs.Text.{digit, digits, decimal, hexDigit, hex}
 
 -- the two cases of a definition that asks whether n is below m

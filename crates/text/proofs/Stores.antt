@@ -10,7 +10,7 @@ use native.Mathlib.Omega.{arith}
 use borrow.Author.Tests.{lt-ltb, le-ltb, le-leb, lt-leb}
 use lib.ListN.{length, take, drop, set, length-append, length-set}
 use lib.Seq.{set-out, take-all}
-use Rattle.folds.specs.Below.{fold-none, fold-more}
+use Rattle.folds.proofs.Below.{fold-none, fold-more}
 use Rattle.text.specs.Text.{each}
 use Rattle.text.specs.Stored.{nextPlace, placeAfter, laid, Stored}
 use Rattle.text.proofs.Numbers.{below-or-not}

@@ -5,7 +5,8 @@ use mathlib.Core.List.{List}
 use Prim.Native.Nat.{ℕ, _≤_, _<_}
 use lib.ListN.{getD, replicate}
 use lib.Ieee.{Float, nan}
-use Rattle.folds.specs.Column.{column, column-ext, filled, replicate-at}
+use Rattle.folds.specs.Column.{column}
+use Rattle.folds.proofs.Column.{column-ext, filled, replicate-at}
 use Rattle.folds.specs.Marked.{bit}
 use Rattle.view.specs.View.{View, maxPoints, squareSides}
 use Rattle.cells.specs.Cell.{Cell}

@@ -12,10 +12,14 @@ use lib.ListN.{length, getD}
 use lib.Ieee.{Float, nan, lt, ofBits}
 use lib.Ieee.Positive.{positive as positive-float}
 use Rattle.folds.specs.Arith.{_⊗_, zeroF}
-use Rattle.folds.specs.Below.{tally, tally-more, sumOf, sum-more, sum-ext, some, some-ext, some-no, and-false, and-under, and-left, and-right}
-use Rattle.folds.specs.Lists.{listed, listed-length, listed-ext}
-use Rattle.folds.specs.Column.{column, column-at}
-use Rattle.folds.specs.Marked.{Marked, marked-as}
+use Rattle.folds.specs.Below.{tally, sumOf, some}
+use Rattle.folds.proofs.Below.{tally-more, sum-more, sum-ext, some-ext, some-no, and-false, and-under, and-left, and-right}
+use Rattle.folds.specs.Lists.{listed}
+use Rattle.folds.proofs.Lists.{listed-length, listed-ext}
+use Rattle.folds.specs.Column.{column}
+use Rattle.folds.proofs.Column.{column-at}
+use Rattle.folds.specs.Marked.{Marked}
+use Rattle.folds.proofs.Marked.{marked-as}
 use Rattle.float.specs.Constants.{overlongRatio, globalOverlongRatio}
 use Rattle.median.specs.Median.{medianOf}
 use Rattle.median.proofs.Median.{over-median-of}

@@ -7,9 +7,10 @@ use lib.Dec.{ltb}
 use borrow.Author.Tests.{lt-ltb, le-ltb}
 use lib.ListN.{replicate}
 use lib.Ieee.{Float}
-use Rattle.folds.specs.Below.{or-right-first}
+use Rattle.folds.proofs.Below.{or-right-first}
 use Rattle.folds.specs.Column.{column}
-use Rattle.folds.specs.Marked.{bit, Marked, marked-then}
+use Rattle.folds.specs.Marked.{bit, Marked}
+use Rattle.folds.proofs.Marked.{marked-then}
 use Rattle.view.specs.View.{View, maxPoints, nextU, nextV}
 use Rattle.marks.specs.Marks.{indexMarks}
 use Rattle.marks.proofs.Guards.{marked-as-column, index-marks}

@@ -12,9 +12,11 @@ use lib.ListN.{getD, set, replicate, length-set, length-replicate}
 use lib.Seq.{getD-set-same, getD-set-other}
 use lib.Ieee.{Float, nan}
 use Rattle.folds.specs.Arith.{_⊖_}
-use Rattle.folds.specs.Below.{some, some-ext, some-no, some-one, last, last-none, last-more, and-false}
-use Rattle.folds.specs.Column.{replicate-at}
-use Rattle.folds.specs.Marked.{Marked, marked-as, marked-then}
+use Rattle.folds.specs.Below.{some, last}
+use Rattle.folds.proofs.Below.{some-ext, some-no, some-one, last-none, last-more, and-false}
+use Rattle.folds.proofs.Column.{replicate-at}
+use Rattle.folds.specs.Marked.{Marked}
+use Rattle.folds.proofs.Marked.{marked-as, marked-then}
 use Rattle.float.specs.Scalar.{normOf}
 use Rattle.view.specs.View.{View, maxPoints, rowsAt, columnsAt, viewAt, Ranked, rankAt, degreeAt, nextU, prevU, nextV, prevV}
 use Rattle.marks.proofs.Guards.{guard, past}

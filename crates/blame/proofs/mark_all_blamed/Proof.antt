@@ -1,7 +1,9 @@
 use Rattle.view.specs.View.{viewAt}
 use Rattle.blame.specs.Marks.{evidenceBy, blames}
-use Rattle.folds.specs.Below.{some, some-none}
-use Rattle.folds.specs.Marked.{Marked, marked-none, marked-more}
+use Rattle.folds.specs.Below.{some}
+use Rattle.folds.proofs.Below.{some-none}
+use Rattle.folds.specs.Marked.{Marked}
+use Rattle.folds.proofs.Marked.{marked-none, marked-more}
 use mathlib.Core.List.{[]}
 use native.Mathlib.Omega.{arith}
 use mathlib.Core.Path.{_≡_}

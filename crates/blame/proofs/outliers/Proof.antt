@@ -2,7 +2,8 @@ use Rattle.blame.specs.Marks.{evidenceBy, isOutlier}
 use Rattle.folds.specs.Marked.{bit}
 use lib.ListN.{replicate, length-replicate}
 use mathlib.Core.List.{[]}
-use Rattle.folds.specs.Column.{Filling, fill-start, fill-more, filled}
+use Rattle.folds.specs.Column.{Filling}
+use Rattle.folds.proofs.Column.{fill-start, fill-more, filled}
 use Rattle.view.specs.View.{maxPoints}
 use native.Mathlib.Omega.{arith}
 use mathlib.Core.Path.{_≡_}

@@ -1,5 +1,6 @@
 use lib.ListN.{getD, replicate, length-replicate}
-use Rattle.folds.specs.Column.{Filling, fill-start, fill-more, filled}
+use Rattle.folds.specs.Column.{Filling}
+use Rattle.folds.proofs.Column.{fill-start, fill-more, filled}
 use Rattle.view.specs.View.{maxPoints, viewAt}
 use mathlib.Core.List.{[]}
 use native.Mathlib.Omega.{arith}

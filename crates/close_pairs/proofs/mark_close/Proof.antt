@@ -1,6 +1,6 @@
 use lib.Dec.{ltb}
-use Rattle.folds.specs.Below.{and-false}
-use Rattle.folds.specs.Marked.{marked-none, marked-as}
+use Rattle.folds.proofs.Below.{and-false}
+use Rattle.folds.proofs.Marked.{marked-none, marked-as}
 use Rattle.close_pairs.specs.Close.{limitOf, closeMark}
 use Rattle.close_pairs.proofs.Pairs.{sweepable, swept}
 use borrow.Author.Needs.{needs}

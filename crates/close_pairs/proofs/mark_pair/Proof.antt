@@ -1,4 +1,4 @@
-use Rattle.folds.specs.Marked.{marked-none, marked-one, marked-as, marked-then}
+use Rattle.folds.proofs.Marked.{marked-none, marked-one, marked-as, marked-then}
 use borrow.Author.Needs.{needs}
 use Rattle.close_pairs.proofs.mark_pair.Statement.{statement}
 use Rattle.close_pairs.proofs.mark_pair.Tie as tie

@@ -2,7 +2,8 @@ use Prim.Native.Nat.{ℕ, _-_, _≤_, _<_}
 use mathlib.Core.Path.{_≡_, _∙_}
 use native.Mathlib.Omega.{arith}
 use lib.ListN.{getD, replicate, length-replicate}
-use Rattle.folds.specs.Column.{Filling, fill-start, fill-more, filled, length-column}
+use Rattle.folds.specs.Column.{Filling}
+use Rattle.folds.proofs.Column.{fill-start, fill-more, filled, length-column}
 use Rattle.view.specs.View.{maxPoints}
 use Rattle.sort.specs.Packed.{packed, inOrder}
 use Rattle.close_pairs.specs.Keys.{xKey, rankIn}

@@ -2,7 +2,8 @@ use Prim.Native.Nat.{ℕ, _-_, _≤_}
 use mathlib.Core.Path.{_≡_, refl}
 use native.Mathlib.Omega.{arith}
 use Rattle.folds.specs.Below.{some}
-use Rattle.folds.specs.Marked.{Marked, marked-none, marked-more}
+use Rattle.folds.specs.Marked.{Marked}
+use Rattle.folds.proofs.Marked.{marked-none, marked-more}
 use Rattle.close_pairs.specs.Sweep.{sweepHits}
 use borrow.Author.Needs.{needs}
 use Rattle.close_pairs.proofs.sweep.Statement.{statement}

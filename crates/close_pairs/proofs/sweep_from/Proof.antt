@@ -3,7 +3,8 @@ use mathlib.Core.Path.{_≡_}
 use native.Mathlib.Omega.{arith}
 use lib.ListN.{getD}
 use Rattle.folds.specs.Below.{some}
-use Rattle.folds.specs.Marked.{Marked, marked-none, marked-as, marked-more}
+use Rattle.folds.specs.Marked.{Marked}
+use Rattle.folds.proofs.Marked.{marked-none, marked-as, marked-more}
 use Rattle.close_pairs.specs.Close.{close, squareOf}
 use Rattle.close_pairs.specs.Sweep.{pairHits}
 use Rattle.close_pairs.proofs.Pairs.{sweep-none, sweep-stop, pair-is}

@@ -5,7 +5,8 @@ use native.Mathlib.Omega.{arith}
 use borrow.Author.Needs.{needs}
 use lib.Dec.{eqb}
 use lib.ListN.{getD}
-use Rattle.folds.specs.Below.{tally, tally-none, tally-le, tally-turn}
+use Rattle.folds.specs.Below.{tally}
+use Rattle.folds.proofs.Below.{tally-none, tally-le, tally-turn}
 use Rattle.components.specs.Components.{patchCount}
 use Rattle.components.proofs.count.Statement.{statement}
 use Rattle.components.proofs.count.Tie as tie

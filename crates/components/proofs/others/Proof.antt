@@ -7,7 +7,8 @@ use borrow.Author.Needs.{needs}
 use lib.Dec.{eqb, ltb}
 use lib.ListN.{replicate, length-replicate}
 use Rattle.view.specs.View.{maxPoints}
-use Rattle.folds.specs.Column.{Filling, fill-start, fill-more, filled}
+use Rattle.folds.specs.Column.{Filling}
+use Rattle.folds.proofs.Column.{fill-start, fill-more, filled}
 use Rattle.folds.specs.Marked.{bit}
 use Rattle.components.specs.Components.{inOtherPatch, othersBy}
 use Rattle.components.proofs.others.Statement.{statement}

@@ -4,8 +4,9 @@ use Prim.Native.Nat.{ℕ, _-_, _≤_, zero-le}
 use native.Mathlib.Omega.{arith}
 use borrow.Author.Needs.{needs}
 use lib.ListN.{getD, length-replicate}
-use Rattle.folds.specs.Column.{replicate-at}
-use Rattle.folds.specs.Scattered.{oneMore, counted-le}
+use Rattle.folds.proofs.Column.{replicate-at}
+use Rattle.folds.specs.Scattered.{oneMore}
+use Rattle.folds.proofs.Scattered.{counted-le}
 use Rattle.view.specs.View.{maxPoints}
 use Rattle.patches.proofs.Gathering.{AtLabels, labels-none, labels-put, labels-skip}
 use Rattle.components.proofs.Tallies.{sizes-are}

@@ -1,6 +1,7 @@
 use Rattle.edge_shape.specs.Figures.{figuresAt, noFigures, indexFigures}
 use Rattle.view.specs.View.{View, maxPoints, viewAt}
-use Rattle.folds.specs.Column.{Filling, fill-start, fill-more, filled}
+use Rattle.folds.specs.Column.{Filling}
+use Rattle.folds.proofs.Column.{fill-start, fill-more, filled}
 use lib.ListN.{replicate, length-replicate}
 use mathlib.Core.Path.{_≡_}
 use native.Mathlib.Omega.{arith}

@@ -4,7 +4,7 @@ use native.Mathlib.Omega.{arith}
 use lib.ListN.{replicate}
 use lib.Ieee.{nan, div, ofBits}
 use borrow.Author.Needs.{needs}
-use Rattle.folds.specs.Column.{fill-start}
+use Rattle.folds.proofs.Column.{fill-start}
 use Rattle.view.specs.View.{maxPoints, viewAt}
 use Rattle.edges.specs.Edges.{edgesSize, FilledTo}
 use Rattle.edges.proofs.Laws.{table-done}

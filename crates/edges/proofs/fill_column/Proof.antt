@@ -4,7 +4,7 @@ use native.Mathlib.Omega.{arith}
 use lib.ListN.{length-replicate, replicate}
 use lib.Ieee.{Float, nan}
 use borrow.Author.Needs.{needs}
-use Rattle.folds.specs.Column.{fill-more}
+use Rattle.folds.proofs.Column.{fill-more}
 use Rattle.view.specs.View.{maxPoints, viewAt}
 use Rattle.edges.specs.Edges.{edgesSize, FilledTo}
 use Rattle.edges.proofs.Laws.{column-done}

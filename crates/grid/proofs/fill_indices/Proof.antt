@@ -4,7 +4,7 @@ use mathlib.Core.Path.{_≡_, ap, _∙_}
 use Prim.Native.Nat.{_+_, _-_}
 use native.Mathlib.Omega.{arith}
 use lib.ListN.{length}
-use Rattle.folds.specs.Column.{length-column}
+use Rattle.folds.proofs.Column.{length-column}
 use Rattle.view.specs.View.{maxPoints}
 use Rattle.sort.specs.Packed.{packed}
 use Rattle.grid.specs.Tables.{entryIn}

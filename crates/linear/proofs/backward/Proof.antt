@@ -1,6 +1,7 @@
 use mathlib.Core.Path.{_≡_, _∙_, sym}
 use Prim.Native.Nat.{_≤_}
-use Rattle.folds.specs.Run.{down, down-step, down-done}
+use Rattle.folds.specs.Run.{down}
+use Rattle.folds.proofs.Run.{down-step, down-done}
 use Rattle.linear.specs.Linear.{backwardColumn, backwardBy}
 use borrow.Author.Needs.{needs}
 use Rattle.linear.proofs.backward.Statement.{statement}

@@ -1,6 +1,7 @@
 use mathlib.Core.Path.{_≡_, _∙_, sym}
 use Prim.Native.Nat.{_-_}
-use Rattle.folds.specs.Below.{first, first-end}
+use Rattle.folds.specs.Below.{first}
+use Rattle.folds.proofs.Below.{first-end}
 use Rattle.linear.specs.Linear.{largerThan, nextLarger}
 use Rattle.linear.proofs.Pivot.{next-found, next-passed}
 use borrow.Author.Needs.{needs}

@@ -1,5 +1,6 @@
 use Rattle.linear.specs.Linear.{zeroAt, zeroDiagonal}
-use Rattle.folds.specs.Below.{some, some-none, some-more, some-yes}
+use Rattle.folds.specs.Below.{some}
+use Rattle.folds.proofs.Below.{some-none, some-more, some-yes}
 use mathlib.Core.Bool.{false}
 use mathlib.Core.Path.{_≡_, _∙_, sym}
 use Prim.Native.Nat.{_-_, _≤_}

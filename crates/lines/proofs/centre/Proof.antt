@@ -1,5 +1,6 @@
 use Rattle.lines.specs.Fit.{valueAt, centreOf, meanOver}
-use Rattle.folds.specs.Lists.{over, over-none, over-more}
+use Rattle.folds.specs.Lists.{over}
+use Rattle.folds.proofs.Lists.{over-none, over-more}
 use Rattle.folds.specs.Arith.{_⊕_, zeroF}
 use Rattle.view.specs.View.{maxPoints}
 use lib.Ieee.{Float, inFloat}

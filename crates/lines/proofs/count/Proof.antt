@@ -1,4 +1,5 @@
-use Rattle.folds.specs.Scattered.{Scattered, scattered-none, scattered-skip, scattered-put, counted-le, oneMore}
+use Rattle.folds.specs.Scattered.{Scattered, oneMore}
+use Rattle.folds.proofs.Scattered.{scattered-none, scattered-skip, scattered-put, counted-le}
 use Rattle.marks.specs.Marks.{isSet}
 use Rattle.view.specs.View.{maxPoints, viewAt}
 use mathlib.Core.List.{[]}

@@ -1,6 +1,7 @@
 use Rattle.lines.proofs.Walking.{line-below, chain-onward, chain-linked}
 use Rattle.lines.proofs.Marking.{Lines, lines-none, lines-more, lines-column}
-use Rattle.folds.specs.Below.{first, first-le}
+use Rattle.folds.specs.Below.{first}
+use Rattle.folds.proofs.Below.{first-le}
 use Rattle.folds.specs.Lists.{Gathered}
 use Rattle.lines.specs.Flags.{ruleBy, lineNumber, isOn}
 use Rattle.lines.specs.Lines.{Chained}

@@ -2,7 +2,8 @@ use Rattle.lines.specs.Fit.{valueAt, momentOf, directionOf, lineThrough,
 use Rattle.lines.specs.declared.Line.{Line}
 use Rattle.lines.specs.declared.Vector.{Vector}
 use mathlib.Core.List.{List}
-use Rattle.folds.specs.Lists.{over, over-more}
+use Rattle.folds.specs.Lists.{over}
+use Rattle.folds.proofs.Lists.{over-more}
 use Rattle.view.specs.View.{maxPoints}
 use lib.Ieee.{Float}
 use lib.ListN.{take}

@@ -1,7 +1,7 @@
 use Rattle.lines.specs.Flags.{ruleBy, lineNumber}
 use Rattle.lines.proofs.Marking.{line-counts}
-use Rattle.folds.specs.Column.{replicate-at}
-use Rattle.folds.specs.Scattered.{counted-le}
+use Rattle.folds.proofs.Column.{replicate-at}
+use Rattle.folds.proofs.Scattered.{counted-le}
 use Rattle.view.specs.View.{maxPoints, viewAt}
 use mathlib.Core.Bool.{true, false}
 use lib.ListN.{length-replicate}

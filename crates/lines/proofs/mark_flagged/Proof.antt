@@ -1,7 +1,8 @@
 use Rattle.lines.proofs.Marking.{short-line, long-line}
 use Rattle.lines.specs.Flags.{ruleBy, isFar}
 use Rattle.lines.specs.Lines.{markIf}
-use Rattle.folds.specs.Lists.{over, over-none, over-more}
+use Rattle.folds.specs.Lists.{over}
+use Rattle.folds.proofs.Lists.{over-none, over-more}
 use Rattle.view.specs.View.{maxPoints}
 use lib.ListN.{length, take, length-set}
 use lib.Seq.{length-take-le}

@@ -1,6 +1,8 @@
 use Rattle.lines.proofs.Walking.{gathered-to}
-use Rattle.folds.specs.Lists.{Gathered, gathered-none, gathered-put}
-use Rattle.folds.specs.Below.{first, first-holds}
+use Rattle.folds.specs.Lists.{Gathered}
+use Rattle.folds.proofs.Lists.{gathered-none, gathered-put}
+use Rattle.folds.specs.Below.{first}
+use Rattle.folds.proofs.Below.{first-holds}
 use Rattle.lines.specs.Lines.{Linked}
 use Rattle.view.specs.View.{maxPoints}
 use lib.ListN.{length, length-set}

@@ -1,7 +1,7 @@
 use Rattle.local_h.specs.Base.{isServing, onLine}
 use Rattle.local_h.specs.Order.{offsetAt}
 use mathlib.Core.Bool.{not, _&&_}
-use Rattle.folds.specs.Below.{and-true, and-false}
+use Rattle.folds.proofs.Below.{and-true, and-false}
 use mathlib.Core.Path.{sym}
 use borrow.Author.Needs.{needs}
 use Rattle.local_h.proofs.serves.Statement.{statement}

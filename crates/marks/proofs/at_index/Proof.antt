@@ -5,8 +5,10 @@ use mathlib.Core.List.{List}
 use native.Mathlib.Omega.{arith}
 use lib.Dec.{eqb, ltb}
 use lib.ListN.{getD, replicate}
-use Rattle.folds.specs.Below.{some, and-false}
-use Rattle.folds.specs.Marked.{Marked, marked-none, marked-more}
+use Rattle.folds.specs.Below.{some}
+use Rattle.folds.proofs.Below.{and-false}
+use Rattle.folds.specs.Marked.{Marked}
+use Rattle.folds.proofs.Marked.{marked-none, marked-more}
 use Rattle.view.specs.View.{maxPoints, indicesAt}
 use Rattle.marks.specs.Marks.{isSet}
 use Rattle.marks.proofs.Guards.{guard, past, each-as-column}

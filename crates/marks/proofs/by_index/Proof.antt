@@ -4,7 +4,8 @@ use mathlib.Core.Path.{_≡_}
 use mathlib.Core.List.{[]}
 use native.Mathlib.Omega.{arith}
 use lib.ListN.{getD, replicate, length-replicate}
-use Rattle.folds.specs.Column.{column, Filling, fill-start, fill-more, filled, column-at}
+use Rattle.folds.specs.Column.{column, Filling}
+use Rattle.folds.proofs.Column.{fill-start, fill-more, filled, column-at}
 use Rattle.folds.specs.Marked.{bit}
 use Rattle.view.specs.View.{maxPoints, indicesAt, viewAt}
 use Rattle.marks.specs.Marks.{placeHas, indexMarks}

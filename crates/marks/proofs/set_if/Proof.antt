@@ -1,5 +1,5 @@
 use borrow.Author.Tests.{lt-ltb, le-ltb}
-use Rattle.folds.specs.Marked.{marked-none, marked-one, marked-as}
+use Rattle.folds.proofs.Marked.{marked-none, marked-one, marked-as}
 use borrow.Author.Needs.{needs}
 use Rattle.marks.proofs.set_if.Statement.{statement}
 use Rattle.marks.proofs.set_if.Tie as tie

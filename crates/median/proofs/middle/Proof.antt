@@ -3,8 +3,8 @@ use Rattle.median.specs.Packed.{positiveAt, positives}
 use Rattle.float.proofs.Nan.{no-nan-pattern}
 use Rattle.float.proofs.Bits.{bits-top}
 use Rattle.median.specs.Median.{medianOf}
-use Rattle.folds.specs.Below.{tally-le}
-use Rattle.folds.specs.Lists.{listed-length}
+use Rattle.folds.proofs.Below.{tally-le}
+use Rattle.folds.proofs.Lists.{listed-length}
 use lib.Ieee.Bits.{ofBits-toBits}
 use lib.Ieee.{Float, binary32, nan, toBits, ofBits, div}
 use lib.ListN.{length, getD}

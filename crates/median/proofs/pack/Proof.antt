@@ -1,6 +1,6 @@
 use Rattle.median.proofs.Steps.{packed-none, packed-more}
 use Rattle.median.specs.Packed.{positiveAt, Packed}
-use Rattle.folds.specs.Below.{tally-le}
+use Rattle.folds.proofs.Below.{tally-le}
 use native.Mathlib.Omega.{arith}
 use Prim.Native.Nat.{_-_, _≤_}
 use mathlib.Core.Path.{_≡_}

@@ -1,5 +1,5 @@
 use borrow.Author.Tests.{eq-eqb, ne-eqb}
-use Rattle.folds.specs.Marked.{marked-none, marked-as, marked-then}
+use Rattle.folds.proofs.Marked.{marked-none, marked-as, marked-then}
 use Rattle.orientation.specs.Voters.{voters}
 use borrow.Author.Needs.{needs}
 use Rattle.orientation.proofs.mark_voters.Statement.{statement}

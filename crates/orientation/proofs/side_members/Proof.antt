@@ -4,7 +4,8 @@ use mathlib.Core.List.{[]}
 use native.Mathlib.Omega.{arith}
 use lib.ListN.{replicate}
 use Rattle.folds.specs.Below.{some}
-use Rattle.folds.specs.Marked.{Marked, marked-none, marked-more}
+use Rattle.folds.specs.Marked.{Marked}
+use Rattle.folds.proofs.Marked.{marked-none, marked-more}
 use Rattle.view.specs.View.{maxPoints, viewAt}
 use Rattle.orientation.specs.Voters.{voters}
 use Rattle.orientation.proofs.Laws.{members-column}

@@ -3,7 +3,8 @@ use mathlib.Core.Path.{_≡_, refl}
 use native.Mathlib.Omega.{arith}
 use lib.Dec.{eqb}
 use lib.ListN.{getD}
-use Rattle.folds.specs.Below.{tally, tally-turn, tally-le}
+use Rattle.folds.specs.Below.{tally}
+use Rattle.folds.proofs.Below.{tally-turn, tally-le}
 use borrow.Author.Needs.{needs}
 use Rattle.orientation.proofs.votes_for.Statement.{statement}
 use Rattle.orientation.proofs.votes_for.Tie as tie

@@ -4,7 +4,8 @@ use Prim.Native.Nat.{ℕ, _-_, _≤_, zero-le}
 use native.Mathlib.Omega.{arith}
 use borrow.Author.Needs.{needs}
 use lib.ListN.{replicate, length-replicate}
-use Rattle.folds.specs.Column.{Filling, fill-start, fill-more, filled}
+use Rattle.folds.specs.Column.{Filling}
+use Rattle.folds.proofs.Column.{fill-start, fill-more, filled}
 use Rattle.view.specs.View.{maxPoints}
 use Rattle.patches.proofs.blank.Statement.{statement}
 use Rattle.patches.proofs.blank.Tie as tie

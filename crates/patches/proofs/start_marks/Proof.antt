@@ -6,7 +6,8 @@ use native.Mathlib.Omega.{arith}
 use borrow.Author.Needs.{needs}
 use lib.Dec.{eqb}
 use lib.ListN.{getD, replicate, length-replicate}
-use Rattle.folds.specs.Column.{Filling, fill-start, fill-more, filled}
+use Rattle.folds.specs.Column.{Filling}
+use Rattle.folds.proofs.Column.{fill-start, fill-more, filled}
 use Rattle.folds.specs.Marked.{bit}
 use Rattle.view.specs.View.{maxPoints}
 use Rattle.patches.proofs.start_marks.Statement.{statement}

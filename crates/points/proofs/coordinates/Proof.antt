@@ -1,7 +1,8 @@
 -- `points::coordinates` meets its contract: the column is filled from its front. Assumes nothing.
 use Rattle.sheet_file.specs.Refusals.{floatAt}
 use lib.Ieee.{nan, div, ofBits}
-use Rattle.folds.specs.Column.{Filling, fill-start, fill-more, filled}
+use Rattle.folds.specs.Column.{Filling}
+use Rattle.folds.proofs.Column.{fill-start, fill-more, filled}
 use denote.Ref.{now}
 use native.Mathlib.Omega.{arith}
 use lib.ListN.{getD, length-replicate}

@@ -1,6 +1,7 @@
 -- `points::indices` meets its contract: the column is filled from its front. Assumes nothing.
 use Rattle.points.specs.Entries.{entryPoint}
-use Rattle.folds.specs.Column.{Filling, fill-start, fill-more, filled}
+use Rattle.folds.specs.Column.{Filling}
+use Rattle.folds.proofs.Column.{fill-start, fill-more, filled}
 use denote.Ref.{now}
 use native.Mathlib.Omega.{arith}
 use lib.ListN.{getD, length-replicate}

@@ -1,5 +1,6 @@
 -- `points::keys` meets its contract: the column is filled from its front. Assumes nothing.
-use Rattle.folds.specs.Column.{Filling, fill-start, fill-more, filled}
+use Rattle.folds.specs.Column.{Filling}
+use Rattle.folds.proofs.Column.{fill-start, fill-more, filled}
 use native.Mathlib.Omega.{arith}
 use lib.ListN.{getD, length-replicate}
 use Prim.Native.Nat.{ℕ, _-_, _/_, _≤_}

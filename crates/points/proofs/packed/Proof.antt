@@ -1,7 +1,8 @@
 -- `points::packed` meets its contract: the column is filled from its front. Assumes nothing.
 use Rattle.points.specs.Entries.{ithKey, packedOf}
 use Rattle.sort.specs.Packed.{packed}
-use Rattle.folds.specs.Column.{Filling, fill-start, fill-more, filled}
+use Rattle.folds.specs.Column.{Filling}
+use Rattle.folds.proofs.Column.{fill-start, fill-more, filled}
 use native.Mathlib.Omega.{arith}
 use lib.ListN.{length-replicate}
 use Prim.Native.Nat.{_-_, _≤_}

@@ -1,6 +1,7 @@
 -- `points::some_clash` meets its contract: no neighbours passed clash. Assumes nothing.
 use Rattle.points.specs.Entries.{entriesClash}
-use Rattle.folds.specs.Below.{some, some-none, some-more, some-yes}
+use Rattle.folds.specs.Below.{some}
+use Rattle.folds.proofs.Below.{some-none, some-more, some-yes}
 use native.Mathlib.Omega.{arith}
 use lib.ListN.{getD}
 use Prim.Native.Nat.{ℕ, _+_, _-_, _≤_}

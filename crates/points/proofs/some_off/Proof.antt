@@ -1,8 +1,10 @@
 -- `points::some_off` meets its contract: no point passed has the fault. Assumes nothing.
 use Rattle.points.specs.Entries.{offBy}
 use Rattle.points.specs.Records.{ithPoint, pointsIn}
-use Rattle.folds.specs.Among.{anyIn, any-list}
-use Rattle.folds.specs.Below.{some, some-none, some-more, some-yes}
+use Rattle.folds.specs.Among.{anyIn}
+use Rattle.folds.proofs.Among.{any-list}
+use Rattle.folds.specs.Below.{some}
+use Rattle.folds.proofs.Below.{some-none, some-more, some-yes}
 use native.Mathlib.Omega.{arith}
 use denote.Ref.{now}
 use Prim.Native.Nat.{ℕ, _-_, _≤_}

@@ -3,7 +3,8 @@ use mathlib.Core.Path.{_≡_, refl}
 use Prim.Native.Nat.{ℕ, _+_, _*_, _-_, _≤_, _<_}
 use native.Mathlib.Omega.{arith}
 use lib.ListN.{length}
-use Rattle.folds.specs.Column.{Filling, fill-start, filled-over}
+use Rattle.folds.specs.Column.{Filling}
+use Rattle.folds.proofs.Column.{fill-start, filled-over}
 use Rattle.judged.specs.Shown.{shownAt}
 use Rattle.rows.specs.Rows.{rowSize, rowByte, rowsOver}
 use Rattle.rows.proofs.Laws.{fill-row}

@@ -1,9 +1,8 @@
 -- `sheet_file::gate_in` meets its contract: field by field. Assumes nothing.
-use Rattle.sheet_file.specs.Refusals.{gateFloats}
+use Rattle.sheet_file.specs.Refusals.{gateFloats, gateIn}
 use Rattle.sheet_file.proofs.Floats.{Inside}
-use Rattle.sheet_file.specs.Refusals.{gateIn}
 use Rattle.sheet_file.specs.Limit.{outside}
-use Rattle.folds.specs.Among.{none-in}
+use Rattle.folds.proofs.Among.{none-in}
 use denote.Ref.{now}
 use borrow.Author.Needs.{needs}
 use Rattle.sheet_file.proofs.gate_in.Statement.{statement}

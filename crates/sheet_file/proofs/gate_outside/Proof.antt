@@ -1,5 +1,5 @@
 -- `sheet_file::gate_outside` meets its contract: float by float. Assumes nothing.
-use Rattle.folds.specs.Below.{or-false, or-right-first}
+use Rattle.folds.proofs.Below.{or-false, or-right-first}
 use borrow.Author.Needs.{needs}
 use Rattle.sheet_file.proofs.gate_outside.Statement.{statement}
 use Rattle.sheet_file.proofs.gate_outside.Tie as tie

@@ -1,5 +1,5 @@
 -- `sheet_file::has_bad_flag` meets its contract: only settings of length 21 have flags. Assumes nothing.
-use Rattle.folds.specs.Below.{or-right-first}
+use Rattle.folds.proofs.Below.{or-right-first}
 use Rattle.sheet_file.specs.Refusals.{badFlag}
 use denote.Ref.{now}
 use lib.ListN.{length}

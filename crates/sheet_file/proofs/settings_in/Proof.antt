@@ -2,7 +2,7 @@
 use Rattle.sheet_file.specs.Refusals.{settingsFloats, settingsIn}
 use Rattle.sheet_file.specs.Limit.{outside}
 use Rattle.sheet_file.proofs.Floats.{Inside}
-use Rattle.folds.specs.Among.{none-in}
+use Rattle.folds.proofs.Among.{none-in}
 use denote.Ref.{now}
 use mathlib.Core.Bool.{true}
 use borrow.Author.Needs.{needs}

@@ -1,5 +1,5 @@
 -- `sheet_file::settings_outside` meets its contract: float by float. Assumes nothing.
-use Rattle.folds.specs.Below.{or-false, or-right-first}
+use Rattle.folds.proofs.Below.{or-false, or-right-first}
 use denote.Ref.{now}
 use lib.ListN.{length}
 use Prim.Native.Nat.{_≤_}

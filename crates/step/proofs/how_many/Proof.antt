@@ -1,4 +1,5 @@
-use Rattle.folds.specs.Below.{tally, tally-none, tally-more}
+use Rattle.folds.specs.Below.{tally}
+use Rattle.folds.proofs.Below.{tally-none, tally-more}
 use Rattle.float.specs.Constants.{zero}
 use lib.Ieee.{nan, lt}
 use lib.ListN.{getD}

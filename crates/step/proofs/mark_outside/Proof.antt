@@ -4,7 +4,8 @@ use Rattle.float.specs.Constants.{zero}
 use lib.Ieee.{nan, lt}
 use mathlib.Core.Bool.{_&&_}
 use lib.ListN.{getD, replicate, length-replicate}
-use Rattle.folds.specs.Column.{Filling, fill-start, fill-more, filled}
+use Rattle.folds.specs.Column.{Filling}
+use Rattle.folds.proofs.Column.{fill-start, fill-more, filled}
 use Rattle.view.specs.View.{maxPoints}
 use native.Mathlib.Omega.{arith}
 use mathlib.Core.Path.{_≡_}

@@ -1,7 +1,8 @@
 use Rattle.step.specs.Step.{scaleAt}
 use lib.Ieee.{Float, nan, div, ofBits}
 use lib.ListN.{getD, replicate, length-replicate}
-use Rattle.folds.specs.Column.{Filling, fill-start, fill-more, filled, column-ext}
+use Rattle.folds.specs.Column.{Filling}
+use Rattle.folds.proofs.Column.{fill-start, fill-more, filled, column-ext}
 use Rattle.view.specs.View.{maxPoints, viewAt}
 use mathlib.Core.List.{List, []}
 use native.Mathlib.Omega.{arith}

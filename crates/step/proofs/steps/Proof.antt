@@ -1,7 +1,8 @@
 use Rattle.step.specs.Step.{stepAt}
 use lib.Ieee.{Float, nan, div, ofBits}
 use lib.ListN.{replicate, length-replicate}
-use Rattle.folds.specs.Column.{Filling, fill-start, fill-more, filled}
+use Rattle.folds.specs.Column.{Filling}
+use Rattle.folds.proofs.Column.{fill-start, fill-more, filled}
 use Rattle.view.specs.View.{maxPoints, viewAt}
 use native.Mathlib.Omega.{arith}
 use mathlib.Core.Path.{_≡_}

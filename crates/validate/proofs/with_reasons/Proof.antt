@@ -2,7 +2,8 @@ use Rattle.validate.specs.Validate.{hasReason}
 use Rattle.marks.specs.Marks.{isSet}
 use Rattle.view.specs.View.{maxPoints}
 use Rattle.folds.specs.Marked.{bit}
-use Rattle.folds.specs.Column.{Filling, fill-start, fill-more, filled}
+use Rattle.folds.specs.Column.{Filling}
+use Rattle.folds.proofs.Column.{fill-start, fill-more, filled}
 use lib.ListN.{replicate, length-replicate}
 use mathlib.Core.Bool.{_||_}
 use mathlib.Core.Path.{_≡_}

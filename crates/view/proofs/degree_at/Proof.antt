@@ -1,6 +1,6 @@
 use Rattle.view.specs.View.{degreeAt}
 use native.Mathlib.Omega.{arith}
-use Rattle.folds.specs.Marked.{tally-four}
+use Rattle.folds.proofs.Marked.{tally-four}
 use borrow.Author.Needs.{needs}
 use Rattle.view.proofs.degree_at.Statement.{statement}
 use Rattle.view.proofs.degree_at.Tie as tie

@@ -3,7 +3,8 @@ use mathlib.Core.Path.{_≡_, sym, _∙_}
 use mathlib.Core.Bool.{Bool}
 use Prim.Native.Nat.{ℕ, _≤_, _-_}
 use native.Mathlib.Omega.{arith}
-use Rattle.folds.specs.Below.{first, first-more, first-end}
+use Rattle.folds.specs.Below.{first}
+use Rattle.folds.proofs.Below.{first-more, first-end}
 use Rattle.marks.specs.Filters.{filterCount}
 use Rattle.marks.specs.Byte.{hasMark, firstMark}
 use borrow.Author.Needs.{needs}

@@ -6,8 +6,8 @@ use Prim.Native.Nat.{ℕ}
 use borrow.Author.Needs.{needs}
 use lib.Dec.{eqb, ltb}
 use lib.ListN.{replicate}
-use Rattle.folds.specs.Lists.{past-end}
-use Rattle.folds.specs.Column.{replicate-at}
+use Rattle.folds.proofs.Lists.{past-end}
+use Rattle.folds.proofs.Column.{replicate-at}
 use Rattle.view.specs.View.{maxPoints, viewAt}
 use Rattle.cells.specs.Cell.{cellsAt}
 use Rattle.patches.specs.Patches.{labelsOf}

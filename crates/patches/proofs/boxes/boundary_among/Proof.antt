@@ -6,7 +6,8 @@ use borrow.Author.Needs.{needs}
 use lib.ListN.{getD, replicate, length-replicate}
 use Rattle.view.specs.View.{maxPoints, indicesAt}
 use Rattle.cells.specs.Cell.{cellsAt}
-use Rattle.folds.specs.Column.{Filling, fill-start, fill-more, filled}
+use Rattle.folds.specs.Column.{Filling}
+use Rattle.folds.proofs.Column.{fill-start, fill-more, filled}
 use Rattle.folds.specs.Marked.{bit}
 use Rattle.patches.specs.Boxes.{onBoundary, boundaryAmong}
 use Rattle.patches.proofs.Outermost.{boundary-is}

@@ -6,7 +6,8 @@ use lib.Ieee.{Float, nan}
 use lib.ListN.{getD, length-replicate, replicate}
 use borrow.Author.Tests.{eq-eqb, ne-eqb}
 use Rattle.folds.specs.Arith.{zeroF}
-use Rattle.folds.specs.Scattered.{Scattered, scattered-none, scattered-skip, scattered-put}
+use Rattle.folds.specs.Scattered.{Scattered}
+use Rattle.folds.proofs.Scattered.{scattered-none, scattered-skip, scattered-put}
 use Rattle.marks.specs.Marks.{isSet}
 use Rattle.view.specs.View.{maxPoints, viewAt}
 use borrow.Author.Needs.{needs}

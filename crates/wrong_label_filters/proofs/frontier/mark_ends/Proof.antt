@@ -6,7 +6,8 @@ use native.Mathlib.Omega.{arith}
 use lib.Dec.{eqb, ltb}
 use borrow.Author.Needs.{needs}
 use Rattle.folds.specs.Below.{some}
-use Rattle.folds.specs.Marked.{Marked, marked-none, marked-more}
+use Rattle.folds.specs.Marked.{Marked}
+use Rattle.folds.proofs.Marked.{marked-none, marked-more}
 use Rattle.view.specs.View.{View, viewAt}
 use Rattle.wrong_label_filters.specs.Lasts.{lineStart, lineMark, Lasts}
 use Rattle.wrong_label_filters.proofs.LineEnds.{end-marks}

@@ -4,7 +4,8 @@ use native.Mathlib.Omega.{arith}
 use lib.ListN.{getD, length-replicate, replicate}
 use lib.Ieee.{Float, nan, div, ofBits}
 use borrow.Author.Needs.{needs}
-use Rattle.folds.specs.Column.{Filling, fill-start, fill-more, filled}
+use Rattle.folds.specs.Column.{Filling}
+use Rattle.folds.proofs.Column.{fill-start, fill-more, filled}
 use Rattle.view.specs.View.{maxPoints}
 use Rattle.edges.specs.Edges.{edgePlace}
 use Rattle.wrong_label_filters.proofs.judged_edges.lengths_of.Statement.{statement}

@@ -1,6 +1,6 @@
 use borrow.Author.Needs.{needs}
 use borrow.Author.Tests.{lt-ltb, le-ltb}
-use Rattle.folds.specs.Marked.{marked-none, marked-one, marked-as, marked-then}
+use Rattle.folds.proofs.Marked.{marked-none, marked-one, marked-as, marked-then}
 use Rattle.wrong_label_filters.proofs.judged_edges.mark_edge.Statement.{statement}
 use Rattle.wrong_label_filters.proofs.judged_edges.mark_edge.Tie as tie
 

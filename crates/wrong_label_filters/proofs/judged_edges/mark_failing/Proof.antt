@@ -6,7 +6,8 @@ use lib.Ieee.{lt}
 use borrow.Author.Needs.{needs}
 use Rattle.folds.specs.Arith.{zeroF}
 use Rattle.folds.specs.Below.{some, tally}
-use Rattle.folds.specs.Marked.{Marked, marked-none, marked-more}
+use Rattle.folds.specs.Marked.{Marked}
+use Rattle.folds.proofs.Marked.{marked-none, marked-more}
 use Rattle.wrong_label_filters.specs.Windows.{tableEdge, Limits}
 use Rattle.wrong_label_filters.proofs.FailingEdges.{hits, marks-are}
 use Rattle.wrong_label_filters.proofs.judged_edges.mark_failing.Statement.{statement}

@@ -5,7 +5,8 @@ use lib.ListN.{getD}
 use lib.Ieee.{nan, lt}
 use borrow.Author.Needs.{needs}
 use Rattle.folds.specs.Arith.{zeroF}
-use Rattle.folds.specs.Below.{tally, tally-turn, tally-le}
+use Rattle.folds.specs.Below.{tally}
+use Rattle.folds.proofs.Below.{tally-turn, tally-le}
 use Rattle.edges.specs.Edges.{edgePlace}
 use Rattle.wrong_label_filters.proofs.judged_edges.sheet_count.Statement.{statement}
 use Rattle.wrong_label_filters.proofs.judged_edges.sheet_count.Tie as tie

@@ -3,7 +3,7 @@ use mathlib.Core.Path.{_≡_, sym, _∙_}
 use mathlib.Core.List.{[]}
 use native.Mathlib.Omega.{arith}
 use borrow.Author.Needs.{needs}
-use Rattle.folds.specs.Below.{tally-le}
+use Rattle.folds.proofs.Below.{tally-le}
 use Rattle.view.specs.View.{viewAt}
 use Rattle.wrong_label_filters.specs.Windows.{tableEdge, windowTo}
 use Rattle.wrong_label_filters.proofs.FailingEdges.{window-none, window-more}
