@@ -20,7 +20,6 @@ use Rattle.marks.specs.Byte.{markedBy, markedByAll}
 use Rattle.marks.proofs.Guards.{set-is}
 use Rattle.marks.proofs.Byte.{by-same}
 use Rattle.validate.specs.Validate.{validateMark, validateMarks, validatedOf}
-use Rattle.validate.specs.declared.Validated.{Validated}
 use Rattle.orientation.specs.Orientation.{orientationMark, orientationOf}
 use Rattle.wrong_label_filters.specs.WrongLabel.{wrongLabelMark, wrongLabelOf}
 use Rattle.components.specs.Components.{filterOf, patchCount}
@@ -58,20 +57,20 @@ module _ (s : Settings) (w : View) where
       ∙ ap (markedBy n wrong (isSet r)) (by-same n orientation (isSet o) (orientationMark w) (markedBy n validate (validateMark s w cell) []) (set-is maxPoints n (orientationMark w) o eo))
       ∙ by-same n wrong (isSet r) (wrongMark s w) (markedBy n orientation (orientationMark w) (markedBy n validate (validateMark s w cell) [])) (set-is maxPoints n (wrongMark s w) r er)
 
-  pub marks-of : (cell : ℕ → Cell) {v : Validated} → v ≡ validatedOf s w cell → v .marks ≡ validateMarks s w cell
+  pub marks-of : (cell : ℕ → Cell) {v : Judged} → v ≡ validatedOf s w cell → v .marks ≡ validateMarks s w cell
   unfolding validatedOf
-  marks-of cell e = ap (λ (x : Validated). x .marks) e
+  marks-of cell e = ap (λ (x : Judged). x .marks) e
 
   -- as one step
-  measuredBy : List ℕ → Validated → Judged
-  measuredBy l x = record { marks = l; components = 0; has = x .has; value = x .value; figures = x .figures; boundary = x .boundary }
+  measuredBy : List ℕ → Judged → Judged
+  measuredBy l x = record { marks = l; components = x .components; has = x .has; value = x .value; figures = x .figures; boundary = x .boundary }
 
   by-parts : (cell : ℕ → Cell) → measuredBy (pointMarks s w cell) (validatedOf s w cell) ≡ measuredOf s w cell
   unfolding measuredOf validatedOf measuredBy
   by-parts cell = refl
 
-  pub measured-is : (cell : ℕ → Cell) {v : Validated} {m : List ℕ} → v ≡ validatedOf s w cell → m ≡ pointMarks s w cell
-      → _≡_ {A = Judged} (record { marks = m; components = 0; has = v .has; value = v .value; figures = v .figures; boundary = v .boundary }) (measuredOf s w cell)
+  pub measured-is : (cell : ℕ → Cell) {v : Judged} {m : List ℕ} → v ≡ validatedOf s w cell → m ≡ pointMarks s w cell
+      → _≡_ {A = Judged} (record { marks = m; components = v .components; has = v .has; value = v .value; figures = v .figures; boundary = v .boundary }) (measuredOf s w cell)
   unfolding measuredBy
   measured-is cell {v} {m} e f = ap (measuredBy m) e ∙ ap (λ (l : List ℕ). measuredBy l (validatedOf s w cell)) f ∙ by-parts cell
 

@@ -81,22 +81,13 @@ pub fn measure(
     ensures { λ r. ⌜ r ≡ measuredOf s (viewAt n (now (ranks .entry)) (now (x .entry)) (now (y .entry))) (cellsAt (now (keys .entry))) ⌝ }
 {
     let edges = edges::edges(ranks, x, y, n);
-    let v = validate::validate(s, ranks, keys, x, y, &edges, n);
+    let mut j = validate::validate(s, ranks, keys, x, y, &edges, n);
     let orientation = orientation::lattice_orientation_drops(ranks, x, y, n);
     let wrong = wrong_marks(s, ranks, x, y, &edges, n);
-    let validated = v.marks;
-    let has = v.has;
-    let value = v.value;
-    let figures = v.figures;
-    let boundary = v.boundary;
-    Judged {
-        marks: point_marks(&validated, &orientation, &wrong, n),
-        components: 0,
-        has,
-        value,
-        figures,
-        boundary,
-    }
+    let validated = j.marks;
+    let marks = point_marks(&validated, &orientation, &wrong, n);
+    j.marks = marks;
+    j
 }
 
 // The component marks and count among the points whose byte is 0; none with the switch off.
@@ -138,12 +129,12 @@ pub fn drop_patches(
 }
 
 // The judged sheet.
-pub fn judge(
+pub fn judge<'a>(
     s: Settings,
     ranks: &[u16; RANKS_SIZE],
-    keys: &[u32; MAX_POINTS],
-    x: &[f32; MAX_POINTS],
-    y: &[f32; MAX_POINTS],
+    keys: &'a [u32; MAX_POINTS],
+    x: &'a [f32; MAX_POINTS],
+    y: &'a [f32; MAX_POINTS],
     n: usize,
 ) -> Judged
     requires { ⌜ Celled n (now ranks) (now keys) (now x) (now y) ⌝ }

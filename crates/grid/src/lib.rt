@@ -210,9 +210,9 @@ fn fill_indices(idx: &[u32; view::MAX_POINTS], n: usize, ranks: &mut [u16; view:
 }
 
 // Fills the table of ranks, which is all zeros.
-pub fn fill(
-    keys: &[u32; view::MAX_POINTS],
-    idx: &[u32; view::MAX_POINTS],
+pub fn fill<'a>(
+    keys: &'a [u32; view::MAX_POINTS],
+    idx: &'a [u32; view::MAX_POINTS],
     n: usize,
     ranks: &mut [u16; view::RANKS_SIZE],
 )

@@ -11,11 +11,7 @@ pub fn judge(s: Settings, n: usize, table: Table) -> Judged
     requires { ⌜ Arrays n table ⌝ }
     ensures { λ r. ⌜ r ≡ judgedBy s n table ⌝ }
 {
-    let keys = table.keys;
-    let idx = table.idx;
-    let x = table.x;
-    let y = table.y;
     let mut ranks = [0u16; RANKS_SIZE];
-    grid::fill(&keys, &idx, n, &mut ranks);
-    drop_set::judge(s, &ranks, &keys, &x, &y, n)
+    grid::fill(&table.keys, &table.idx, n, &mut ranks);
+    drop_set::judge(s, &ranks, &table.keys, &table.x, &table.y, n)
 }

@@ -26,10 +26,9 @@ use Rattle.edge_shape.specs.Figures.{noFigures, indexFigures}
 use Rattle.edge_shape.specs.declared.Figures.{Figures}
 use Rattle.patches.specs.Boxes.{boundaryOf}
 use Rattle.validate.specs.declared.ByRules.{ByRules}
-use Rattle.validate.specs.declared.ByGate.{ByGate}
-use Rattle.validate.specs.declared.Validated.{Validated}
-use Rattle.validate.specs.Validate.{stepsOf, scalesOf, flagsOf, residualsOf, deviationsOf, evidenceOf, gateFigures, figuresOf, boundaryIn, hasReason, validateMark, validateMarks, validatedOf}
-use Rattle.validate.specs.Parts.{byRulesOf, byGateOf}
+use Rattle.judged.specs.declared.Judged.{Judged}
+use Rattle.validate.specs.Validate.{stepsOf, scalesOf, flagsOf, residualsOf, deviationsOf, evidenceOf, gateFigures, gateBoundary, figuresOf, boundaryIn, hasReason, validateMark, validateMarks, validatedOf}
+use Rattle.validate.specs.Parts.{byRulesOf}
 
 module _ (s : Settings) (w : View) (cell : ℕ → Cell) where
   -- rules 1 to 4
@@ -50,23 +49,27 @@ module _ (s : Settings) (w : View) (cell : ℕ → Cell) where
   marked-is k l = set-is maxPoints (w .count) (λ (j : ℕ). isMarked w (evidenceOf s w cell) (w .byIdx j)) (blameMarks w (evidenceOf s w cell)) refl k l
 
   -- with rule 5
-  pub all-are : {r : ByRules} {g : ByGate} {marks : List ℕ} → r ≡ byRulesOf s w cell → g ≡ byGateOf (s .«edge_shape») w cell
-      → marks ≡ column maxPoints 0 (w .count) (λ (k : ℕ). bit (isSet (r .marks) k || hasReason (g .figures) k))
-      → _≡_ {A = Validated} (record { marks = marks; has = r .has; value = r .value; figures = g .figures; boundary = g .boundary }) (validatedOf s w cell)
+  pub all-are : {r : ByRules} {figures : List Figures} {boundary marks : List ℕ} → r ≡ byRulesOf s w cell → figures ≡ gateFigures (s .«edge_shape») w → boundary ≡ gateBoundary (s .«edge_shape») w cell
+      → marks ≡ column maxPoints 0 (w .count) (λ (k : ℕ). bit (isSet (r .marks) k || hasReason figures k))
+      → _≡_ {A = Judged} (record { marks = marks; components = 0; has = r .has; value = r .value; figures = figures; boundary = boundary }) (validatedOf s w cell)
   unfolding validatedOf validateMarks validateMark figuresOf boundaryIn
-  all-are e f h =
-      rw (h, e, f, column-ext maxPoints 0 (w .count) _ _ (λ k l. ap (λ (b : Bool). bit (b || hasReason (gateFigures (s .«edge_shape») w) k)) (marked-is k l)))
+  all-are e f g h =
+      rw (h, e, f, g, column-ext maxPoints 0 (w .count) _ _ (λ k l. ap (λ (b : Bool). bit (b || hasReason (gateFigures (s .«edge_shape») w) k)) (marked-is k l)))
 
 -- ---- with and without a gate
 
 blank : {A : Type 0} (d : A) (n : ℕ) → n ≤ maxPoints → replicate maxPoints d ≡ column maxPoints d n (λ (k : ℕ). d)
 blank d n h = filled n h (record { long = refl; done = λ k l. replicate-at maxPoints d k; left = λ k l. refl })
 
-module _ (w : View) (cell : ℕ → Cell) {gate : EdgeGate} where
-  pub off-is : {none : Figures} → gate ≡ Off → w .count ≤ maxPoints → none ≡ noFigures
-      → _≡_ {A = ByGate} (record { figures = replicate maxPoints none; boundary = replicate maxPoints 0 }) (byGateOf gate w cell)
-  off-is e h p = rw (e, p, blank noFigures (w .count) h, blank {A = ℕ} 0 (w .count) h)
+module _ (w : View) {gate : EdgeGate} where
+  pub off-figures : {none : Figures} → gate ≡ Off → w .count ≤ maxPoints → none ≡ noFigures → replicate maxPoints none ≡ gateFigures gate w
+  off-figures e h p = rw (e, p, blank noFigures (w .count) h)
 
-  pub on-is : (g : EdgeShapeParams) {sides boundary : List ℕ} {figures : List Figures} → gate ≡ On g → sides ≡ squareSides → figures ≡ indexFigures g w → boundary ≡ boundaryOf w sides cell
-      → _≡_ {A = ByGate} (record { figures = figures; boundary = boundary }) (byGateOf gate w cell)
-  on-is g e p f b = rw (e, f, b, p)
+  pub on-figures : (g : EdgeShapeParams) {figures : List Figures} → gate ≡ On g → figures ≡ indexFigures g w → figures ≡ gateFigures gate w
+  on-figures g e f = rw (e, f)
+
+  pub off-boundary : (cell : ℕ → Cell) → gate ≡ Off → w .count ≤ maxPoints → replicate maxPoints 0 ≡ gateBoundary gate w cell
+  off-boundary cell e h = rw (e, blank {A = ℕ} 0 (w .count) h)
+
+  pub on-boundary : (cell : ℕ → Cell) (g : EdgeShapeParams) {sides boundary : List ℕ} → gate ≡ On g → sides ≡ squareSides → boundary ≡ boundaryOf w sides cell → boundary ≡ gateBoundary gate w cell
+  on-boundary cell g e p b = rw (e, b, p)

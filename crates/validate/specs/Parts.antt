@@ -9,10 +9,8 @@ use Rattle.patches.specs.Boxes.{CellKeys}
 use Rattle.edges.specs.Edges.{edgesOf}
 use Rattle.blame.specs.Marks.{blameMarks}
 use Rattle.sheet_file.specs.declared.Settings.{Settings}
-use Rattle.sheet_file.specs.declared.EdgeGate.{EdgeGate}
 use Rattle.validate.specs.declared.ByRules.{ByRules}
-use Rattle.validate.specs.declared.ByGate.{ByGate}
-use Rattle.validate.specs.Validate.{residualsOf, evidenceOf, gateFigures, gateBoundary}
+use Rattle.validate.specs.Validate.{residualsOf, evidenceOf}
 
 -- the arrays of an accepted sheet: its ranks and positions, the keys of its cells, and its edges
 pub record Prepared (n : ℕ) (ranks keys : List ℕ) (xs ys edges : List Float) : Type 0 where
@@ -23,7 +21,3 @@ pub record Prepared (n : ℕ) (ranks keys : List ℕ) (xs ys edges : List Float)
 -- rules 1 to 4
 abbrev pub byRulesOf : Settings → View → (ℕ → Cell) → ByRules
 byRulesOf s w cell = record { marks = blameMarks w (evidenceOf s w cell); has = residualsOf s w cell .has; value = residualsOf s w cell .value }
-
--- the edge gate
-abbrev pub byGateOf : EdgeGate → View → (ℕ → Cell) → ByGate
-byGateOf gate w cell = record { figures = gateFigures gate w; boundary = gateBoundary gate w cell }

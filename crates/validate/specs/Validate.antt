@@ -23,7 +23,7 @@ use Rattle.edge_shape.specs.Figures.{noFigures, indexFigures, reasonNumber}
 use Rattle.edge_shape.specs.declared.Figures.{Figures}
 use Rattle.edge_shape.specs.declared.Reason.{Reason}
 use Rattle.patches.specs.Boxes.{boundaryOf}
-use Rattle.validate.specs.declared.Validated.{Validated}
+use Rattle.judged.specs.declared.Judged.{Judged}
 
 -- the edge figures of each rank's index. "Absent means no edge-shape gate."
 abbrev pub gateFigures : EdgeGate → View → List Figures
@@ -93,10 +93,11 @@ module _ (s : Settings) (w : View) where
     validateMarks = column maxPoints 0 (w .count) (λ (k : ℕ). bit (validateMark k))
 
     -- all of it
-    unfoldable pub validatedOf : Validated
+    unfoldable pub validatedOf : Judged
     validatedOf =
         record {
           marks = validateMarks;
+          components = 0;
           has = residualsOf .has;
           value = residualsOf .value;
           figures = figuresOf;

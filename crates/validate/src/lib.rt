@@ -2,41 +2,32 @@
 use edge_shape::Figures;
 use edge_shape::Reason;
 use edges::EDGES_SIZE;
+use judged::Judged;
 use sheet_file::EdgeGate;
 use sheet_file::Settings;
 use view::MAX_POINTS;
 use view::RANKS_SIZE;
 ghost use mathlib.Core.Path.{_≡_};
 ghost use mathlib.Core.Bool.{_||_};
+ghost use mathlib.Core.List.{List};
 ghost use Prim.Native.Nat.{ℕ, _≤_};
 ghost use lib.Dec.{eqb};
+ghost use lib.Ieee.{Float};
 ghost use Rattle.folds.specs.Column.{column};
 ghost use Rattle.folds.specs.Marked.{bit};
 ghost use Rattle.marks.specs.Marks.{isSet};
 ghost use Rattle.view.specs.View.{viewAt, maxPoints, Ranked};
 ghost use Rattle.cells.specs.Cell.{cellsAt};
-ghost use Rattle.validate.specs.Validate.{isReason, hasReason, validatedOf};
-ghost use Rattle.validate.specs.Parts.{Prepared, byRulesOf, byGateOf};
+ghost use Rattle.edge_shape.specs.Given.{WithEdges};
+ghost use Rattle.patches.specs.Boxes.{CellKeys};
+ghost use Rattle.validate.specs.Validate.{isReason, hasReason, gateFigures, gateBoundary, validatedOf};
+ghost use Rattle.validate.specs.Parts.{Prepared, byRulesOf};
 
 // What rules 1 to 4 give: the mark of each rank's index, and its residual, if it has one.
 struct ByRules {
     marks: [u8; MAX_POINTS],
     has: [u8; MAX_POINTS],
     value: [f32; MAX_POINTS],
-}
-
-// The figures of each rank's index, and whether it lies on the boundary of its patch's box.
-struct ByGate {
-    figures: [Figures; MAX_POINTS],
-    boundary: [u8; MAX_POINTS],
-}
-
-pub struct Validated {
-    pub marks: [u8; MAX_POINTS],
-    pub has: [u8; MAX_POINTS],
-    pub value: [f32; MAX_POINTS],
-    pub figures: [Figures; MAX_POINTS],
-    pub boundary: [u8; MAX_POINTS],
 }
 
 // Rules 1 to 4.
@@ -64,33 +55,42 @@ fn by_rules(
     ByRules { marks, has, value }
 }
 
-// The figures, with or without a gate.
-fn by_gate(
+// The figures of each rank's index; blank without a gate.
+fn figures_by(
     gate: EdgeGate,
     ranks: &[u16; RANKS_SIZE],
-    keys: &[u32; MAX_POINTS],
     x: &[f32; MAX_POINTS],
     y: &[f32; MAX_POINTS],
     edges: &[f32; EDGES_SIZE],
     n: usize,
-) -> ByGate
-    requires { ⌜ Prepared n (now ranks) (now keys) (now x) (now y) (now edges) ⌝ }
-    ensures { λ r. ⌜ r ≡ byGateOf gate (viewAt n (now (ranks .entry)) (now (x .entry)) (now (y .entry))) (cellsAt (now (keys .entry))) ⌝ }
+) -> [Figures; MAX_POINTS]
+    requires { ⌜ WithEdges n (now ranks) (now x) (now y) (now edges) ⌝ }
+    ensures { λ r. ⌜ r ≡ gateFigures gate (viewAt n (now (ranks .entry)) (now (x .entry)) (now (y .entry))) ⌝ }
 {
     match gate {
         EdgeGate::Off => {
             let none = edge_shape::no_figures();
-            ByGate {
-                figures: [none; MAX_POINTS],
-                boundary: [0; MAX_POINTS],
-            }
+            [none; MAX_POINTS]
         }
+        EdgeGate::On(g) => edge_shape::evaluate_edge_shape(g, ranks, x, y, edges, n),
+    }
+}
+
+// 1 where each rank's index lies on the boundary of its patch's box; nowhere without a gate.
+fn boundary_by(
+    gate: EdgeGate,
+    ranks: &[u16; RANKS_SIZE],
+    keys: &[u32; MAX_POINTS],
+    n: usize,
+) -> [u8; MAX_POINTS]
+    requires { ⌜ Ranked n (now ranks) × CellKeys n (now keys) ⌝ }
+    ensures { λ r. ⌜ ((xs ys : List Float) → r ≡ gateBoundary gate (viewAt n (now (ranks .entry)) xs ys) (cellsAt (now (keys .entry)))) ⌝ }
+{
+    match gate {
+        EdgeGate::Off => [0; MAX_POINTS],
         EdgeGate::On(g) => {
             let sides = patches::square_sides();
-            ByGate {
-                figures: edge_shape::evaluate_edge_shape(g, ranks, x, y, edges, n),
-                boundary: patches::boxes::boundary(ranks, keys, &sides, n),
-            }
+            patches::boxes::boundary(ranks, keys, &sides, n)
         }
     }
 }
@@ -129,7 +129,7 @@ fn with_reasons(
     out
 }
 
-// For each rank the validate mark of its index, the residual and the edge figures.
+// For each rank the validate mark of its index, which is 0 or 1, the residual and the edge figures: a judged sheet as far as it goes by these.
 pub fn validate(
     s: Settings,
     ranks: &[u16; RANKS_SIZE],
@@ -138,24 +138,25 @@ pub fn validate(
     y: &[f32; MAX_POINTS],
     edges: &[f32; EDGES_SIZE],
     n: usize,
-) -> Validated
+) -> Judged
     requires { ⌜ Prepared n (now ranks) (now keys) (now x) (now y) (now edges) ⌝ }
     ensures { λ r. ⌜ r ≡ validatedOf s (viewAt n (now (ranks .entry)) (now (x .entry)) (now (y .entry))) (cellsAt (now (keys .entry))) ⌝ }
 {
     let gate = s.edge_shape;
     let r = by_rules(s, ranks, keys, x, y, n);
-    let g = by_gate(gate, ranks, keys, x, y, edges, n);
     let ruled = r.marks;
     let has = r.has;
     let value = r.value;
-    let figures = g.figures;
-    let boundary = g.boundary;
-    let marks = with_reasons(&ruled, figures, n);
-    Validated {
-        marks,
+    let mut j = Judged {
+        marks: [0; MAX_POINTS],
+        components: 0,
         has,
         value,
-        figures,
-        boundary,
-    }
+        figures: figures_by(gate, ranks, x, y, edges, n),
+        boundary: boundary_by(gate, ranks, keys, n),
+    };
+    let figures = j.figures;
+    let marks = with_reasons(&ruled, figures, n);
+    j.marks = marks;
+    j
 }

@@ -8,7 +8,7 @@ use Rattle.drop_set.proofs.measure.Tie as tie
 
 returns : tie.Need-returns
 returns c =
-    let wrong = c .before .before .before .before .before .before .before .before .before in
+    let wrong = c .before .before .before .before .before in
     let turned = wrong .before .before in
     let valid = turned .before in
     let a = valid .before .before .before .args in

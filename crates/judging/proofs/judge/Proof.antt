@@ -6,16 +6,16 @@ use Rattle.judging.proofs.judge.Statement.{statement}
 use Rattle.judging.proofs.judge.Tie as tie
 
 fill-requires : tie.Need-fill-requires
-fill-requires c κs = (c .before .before .before .before .before .before .before .pre .keys, refl)
+fill-requires c κs = (c .before .before .before .before .pre .keys, refl)
 
 judge-requires : tie.Need-judge-requires
 judge-requires c κs =
-    let f = c .before .before .before .before in
-    let a = f .before .before .before .before .before .before .before .before in
-    celled (a .args .n) (a .args .table) (a .pre) (f .fill .ensures)
+    let f = c .before .before .before .before .before in
+    let a = f .before .before .before .before .before in
+    celled (a .args .n) (a .args .t3) (a .pre) (f .fill .ensures)
 
 returns : tie.Need-returns
-returns c = c .judge .ensures ∙ rw (c .before .before .before .before .before .fill .ensures)
+returns c = c .judge .ensures ∙ rw (c .before .before .before .before .before .before .fill .ensures)
 
 pub judge-spec : {M : Type 1} → statement M
 judge-spec = tie.close
