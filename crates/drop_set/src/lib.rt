@@ -80,7 +80,9 @@ pub fn measure(
     requires { ⌜ Celled n (now ranks) (now keys) (now x) (now y) ⌝ }
     ensures { λ r. ⌜ r ≡ measuredOf s (viewAt n (now (ranks .entry)) (now (x .entry)) (now (y .entry))) (cellsAt (now (keys .entry))) ⌝ }
 {
-    let edges = edges::edges(ranks, x, y, n);
+    let none = edges::no_edge();
+    let mut edges = [none; EDGES_SIZE];
+    edges::fill(ranks, x, y, n, &mut edges);
     let mut j = validate::validate(s, ranks, keys, x, y, &edges, n);
     let orientation = orientation::lattice_orientation_drops(ranks, x, y, n);
     let wrong = wrong_marks(s, ranks, x, y, &edges, n);

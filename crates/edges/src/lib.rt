@@ -5,10 +5,10 @@ use view::NEXT_V;
 use view::RANKS_SIZE;
 ghost use mathlib.Core.Path.{_≡_};
 ghost use Prim.Native.Nat.{_+_, _*_, _≤_, _<_};
-ghost use lib.ListN.{getD};
+ghost use lib.ListN.{getD, replicate};
 ghost use lib.Ieee.{nan};
 ghost use Rattle.view.specs.View.{maxPoints, viewAt};
-ghost use Rattle.edges.specs.Edges.{side, edgesOf, edgePlace, FilledTo};
+ghost use Rattle.edges.specs.Edges.{edgesSize, side, edgesOf, edgePlace, FilledTo};
 
 // Lengths and unit vectors (x, then y) of the edges along u, then of those along v, with MAX_POINTS entries each.
 pub const EDGES_SIZE: usize = 6 * MAX_POINTS;
@@ -69,24 +69,29 @@ fn fill_column(
     }
 }
 
-// The table of the edges.
-pub fn edges(
+// What an empty table of edges holds: NaN throughout.
+pub fn no_edge() -> f32
+    ensures { λ r. ⌜ r ≡ nan ⌝ }
+{
+    0.0 / 0.0
+}
+
+// Fills an empty table with the edges of both ways.
+pub fn fill(
     ranks: &[u16; RANKS_SIZE],
     x: &[f32; MAX_POINTS],
     y: &[f32; MAX_POINTS],
     n: usize,
-) -> [f32; EDGES_SIZE]
-    requires { ⌜ n ≤ maxPoints ⌝ }
-    ensures { λ r. ⌜ r ≡ edgesOf (viewAt n (now (ranks .entry)) (now (x .entry)) (now (y .entry))) ⌝ }
+    table: &mut [f32; EDGES_SIZE],
+)
+    requires { ⌜ (n ≤ maxPoints) × (now table ≡ replicate edgesSize nan) ⌝ }
+    ensures { λ r. ⌜ now (table .exit) ≡ edgesOf (viewAt n (now (ranks .entry)) (now (x .entry)) (now (y .entry))) ⌝ }
 {
-    let none: f32 = 0.0 / 0.0;
-    let mut table = [none; EDGES_SIZE];
     let mut c = 0;
     while c < 6 {
-        fill_column(ranks, x, y, n, &mut table, c);
+        fill_column(ranks, x, y, n, table, c);
         c += 1;
     }
-    table
 }
 
 // The length of the way's edge that starts at rank k.
