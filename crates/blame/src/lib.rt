@@ -1,4 +1,6 @@
 // The marks of indices, from their line flags, residuals and steps.
+use view::Places;
+use view::Ranks;
 ghost use mathlib.Core.Path.{_≡_};
 ghost use mathlib.Core.List.{List, []};
 ghost use Prim.Native.Nat.{ℕ, _≤_, _<_};
@@ -11,7 +13,6 @@ ghost use Rattle.view.specs.View.{maxPoints, viewAt, Ranked};
 ghost use Rattle.local_h.specs.Base.{memberAt};
 ghost use Rattle.blame.specs.Marks.{evidenceBy, isOutlier, worseOf, blamed, isVisited, blames, blameMarks};
 use view::MAX_POINTS;
-use view::RANKS_SIZE;
 
 // The place of an index, and its line flags.
 struct Worst {
@@ -20,14 +21,7 @@ struct Worst {
 }
 
 // The worse of w and the base member at place p of the order round rank k.
-fn worse(
-    ranks: &[u16; RANKS_SIZE],
-    flags: &[u16; MAX_POINTS],
-    n: usize,
-    k: usize,
-    worst: Worst,
-    p: usize,
-) -> Worst
+fn worse(ranks: &Ranks, flags: &Places, n: usize, k: usize, worst: Worst, p: usize) -> Worst
     requires { ⌜ Ranked n (now ranks) × (k < n) × (p < 24 → memberAt (viewAt n (now ranks) [] []) k p < n) ⌝ }
     ensures { λ r. ⌜ r ≡ worseOf (viewAt n (now (ranks .entry)) [] []) (λ (m : ℕ). getD (now (flags .entry)) m 0) k worst p ⌝ }
 {
@@ -43,7 +37,7 @@ fn worse(
 }
 
 // The place of the index that corner k blames, or n.
-fn blame(ranks: &[u16; RANKS_SIZE], flags: &[u16; MAX_POINTS], n: usize, k: usize) -> usize
+fn blame(ranks: &Ranks, flags: &Places, n: usize, k: usize) -> usize
     requires { ⌜ Ranked n (now ranks) × (k < n) ⌝ }
     ensures { λ r. ⌜ r ≡ blamed (viewAt n (now (ranks .entry)) [] []) (λ (m : ℕ). getD (now (flags .entry)) m 0) k ⌝ }
 {
@@ -57,12 +51,7 @@ fn blame(ranks: &[u16; RANKS_SIZE], flags: &[u16; MAX_POINTS], n: usize, k: usiz
 }
 
 // Whether rule 3 looks at rank k.
-fn is_visited(
-    ranks: &[u16; RANKS_SIZE],
-    flags: &[u16; MAX_POINTS],
-    over: &[u8; MAX_POINTS],
-    k: usize,
-) -> bool
+fn is_visited(ranks: &Ranks, flags: &Places, over: &view::Marks, k: usize) -> bool
     requires { ⌜ k < maxPoints ⌝ }
     ensures { λ r. ⌜ r ≡ isVisited (viewAt 0 (now (ranks .entry)) [] []) (evidenceBy (now (flags .entry)) (now (over .entry)) [] []) k ⌝ }
 {
@@ -75,12 +64,7 @@ fn is_visited(
 }
 
 // 1 for an index that rule 1, 2 or 4 marks, else 0.
-fn outlier(
-    flags: &[u16; MAX_POINTS],
-    high: &[u8; MAX_POINTS],
-    deviates: &[u8; MAX_POINTS],
-    m: usize,
-) -> u8
+fn outlier(flags: &Places, high: &view::Marks, deviates: &view::Marks, m: usize) -> u8
     requires { ⌜ m < maxPoints ⌝ }
     ensures { λ r. ⌜ r ≡ bit (isOutlier (evidenceBy (now (flags .entry)) [] (now (high .entry)) (now (deviates .entry))) m) ⌝ }
 {
@@ -98,12 +82,7 @@ fn outlier(
 }
 
 // 1 for each index that rule 1, 2 or 4 marks, else 0.
-fn outliers(
-    flags: &[u16; MAX_POINTS],
-    high: &[u8; MAX_POINTS],
-    deviates: &[u8; MAX_POINTS],
-    n: usize,
-) -> [u8; MAX_POINTS]
+fn outliers(flags: &Places, high: &view::Marks, deviates: &view::Marks, n: usize) -> view::Marks
     requires { ⌜ n ≤ maxPoints ⌝ }
     ensures { λ r. ⌜ r ≡ column maxPoints 0 n (λ (m : ℕ). bit (isOutlier (evidenceBy (now (flags .entry)) [] (now (high .entry)) (now (deviates .entry))) m)) ⌝ }
 {
@@ -118,12 +97,12 @@ fn outliers(
 
 // Sets the mark of the index that corner k blames, if rule 3 looks at it.
 fn mark_blamed(
-    ranks: &[u16; RANKS_SIZE],
-    flags: &[u16; MAX_POINTS],
-    over: &[u8; MAX_POINTS],
+    ranks: &Ranks,
+    flags: &Places,
+    over: &view::Marks,
     n: usize,
     k: usize,
-    out: &mut [u8; MAX_POINTS],
+    out: &mut view::Marks,
 )
     requires { ⌜ Ranked n (now ranks) × (k < n) ⌝ }
     ensures { λ r. ⌜ Marked (blames (viewAt n (now (ranks .entry)) [] []) (evidenceBy (now (flags .entry)) (now (over .entry)) [] []) k) (now (out .entry)) (now (out .exit)) ⌝ }
@@ -135,11 +114,11 @@ fn mark_blamed(
 
 // Sets the marks of rule 3.
 fn mark_all_blamed(
-    ranks: &[u16; RANKS_SIZE],
-    flags: &[u16; MAX_POINTS],
-    over: &[u8; MAX_POINTS],
+    ranks: &Ranks,
+    flags: &Places,
+    over: &view::Marks,
     n: usize,
-    out: &mut [u8; MAX_POINTS],
+    out: &mut view::Marks,
 )
     requires { ⌜ Ranked n (now ranks) ⌝ }
     ensures { λ r. ⌜ Marked (λ (m : ℕ). some (λ (k : ℕ). blames (viewAt n (now (ranks .entry)) [] []) (evidenceBy (now (flags .entry)) (now (over .entry)) [] []) k m) n) (now (out .entry)) (now (out .exit)) ⌝ }
@@ -152,7 +131,7 @@ fn mark_all_blamed(
 }
 
 // At each rank the mark at the place of its index.
-fn spread(ranks: &[u16; RANKS_SIZE], mark: &[u8; MAX_POINTS], n: usize) -> [u8; MAX_POINTS]
+fn spread(ranks: &Ranks, mark: &view::Marks, n: usize) -> view::Marks
     requires { ⌜ Ranked n (now ranks) ⌝ }
     ensures { λ r. ⌜ r ≡ column maxPoints 0 n (λ (k : ℕ). getD (now (mark .entry)) (viewAt n (now (ranks .entry)) [] [] .byIdx k) 0) ⌝ }
 {
@@ -167,13 +146,13 @@ fn spread(ranks: &[u16; RANKS_SIZE], mark: &[u8; MAX_POINTS], n: usize) -> [u8; 
 
 // At each rank 1 if its index is marked by rule 1, 2, 3 or 4, else 0.
 pub fn marks(
-    ranks: &[u16; RANKS_SIZE],
-    flags: &[u16; MAX_POINTS],
-    over: &[u8; MAX_POINTS],
-    high: &[u8; MAX_POINTS],
-    deviates: &[u8; MAX_POINTS],
+    ranks: &Ranks,
+    flags: &Places,
+    over: &view::Marks,
+    high: &view::Marks,
+    deviates: &view::Marks,
     n: usize,
-) -> [u8; MAX_POINTS]
+) -> view::Marks
     requires { ⌜ Ranked n (now ranks) ⌝ }
     ensures { λ r. ⌜ ((xs ys : List Float) → r ≡ blameMarks (viewAt n (now (ranks .entry)) xs ys) (evidenceBy (now (flags .entry)) (now (over .entry)) (now (high .entry)) (now (deviates .entry)))) ⌝ }
 {

@@ -1,6 +1,9 @@
 // Points that lie on almost one pixel: a sweep in the order of x, which compares each point only with those that follow it closely.
 use float::constants::DUPLICATE_FRACTION;
+use view::Floats;
 use view::MAX_POINTS;
+use view::Marks;
+use view::Places;
 ghost use mathlib.Core.Path.{_≡_};
 ghost use mathlib.Core.Bool.{_&&_, _||_};
 ghost use mathlib.Core.List.{List};
@@ -29,7 +32,7 @@ fn rising(x: f32) -> u64
 }
 
 // The key and the rank of each point, packed into one number.
-fn x_keys(x: &[f32; MAX_POINTS], n: usize) -> [u64; MAX_POINTS]
+fn x_keys(x: &Floats, n: usize) -> [u64; MAX_POINTS]
     requires { ⌜ (n ≤ maxPoints) × Finite n (now x) ⌝ }
     ensures { λ r. ⌜ Keyed (now (x .entry)) n r ⌝ }
 {
@@ -49,7 +52,7 @@ fn rank_of(w: u64) -> u16
 }
 
 // The ranks in the order of x.
-fn order_of(x: &[f32; MAX_POINTS], n: usize) -> [u16; MAX_POINTS]
+fn order_of(x: &Floats, n: usize) -> Places
     requires { ⌜ (n ≤ maxPoints) × Finite n (now x) ⌝ }
     ensures { λ r. ⌜ OrderedByX (now (x .entry)) n r ⌝ }
 {
@@ -65,7 +68,7 @@ fn order_of(x: &[f32; MAX_POINTS], n: usize) -> [u16; MAX_POINTS]
 }
 
 // Marks a and b, if they are close.
-fn mark_pair(near: bool, a: usize, b: usize, mark: &mut [u8; MAX_POINTS])
+fn mark_pair(near: bool, a: usize, b: usize, mark: &mut Marks)
     requires { ⌜ (a < maxPoints) × (b < maxPoints) ⌝ }
     ensures { λ r. ⌜ Marked (λ (m : ℕ). near && (eqb a m || eqb b m)) (now (mark .entry)) (now (mark .exit)) ⌝ }
 {
@@ -78,13 +81,13 @@ fn mark_pair(near: bool, a: usize, b: usize, mark: &mut [u8; MAX_POINTS])
 
 // Marks the pairs of the point at place i with those that follow it.
 fn sweep_from(
-    order: &[u16; MAX_POINTS],
-    x: &[f32; MAX_POINTS],
-    y: &[f32; MAX_POINTS],
+    order: &Places,
+    x: &Floats,
+    y: &Floats,
     limit: f32,
     n: usize,
     i: usize,
-    mark: &mut [u8; MAX_POINTS],
+    mark: &mut Marks,
 )
     requires { ⌜ Sweepable (now order) (now x) (now y) limit n × (i < n) ⌝ }
     ensures { λ r. ⌜ Marked (sweepHits (now (order .entry)) (now (x .entry)) (now (y .entry)) limit n i) (now (mark .entry)) (now (mark .exit)) ⌝ }
@@ -106,14 +109,7 @@ fn sweep_from(
 }
 
 // Marks the points of each pair that is closer than the root of the limit.
-fn sweep(
-    order: &[u16; MAX_POINTS],
-    x: &[f32; MAX_POINTS],
-    y: &[f32; MAX_POINTS],
-    limit: f32,
-    n: usize,
-    mark: &mut [u8; MAX_POINTS],
-)
+fn sweep(order: &Places, x: &Floats, y: &Floats, limit: f32, n: usize, mark: &mut Marks)
     requires { ⌜ Sweepable (now order) (now x) (now y) limit n ⌝ }
     ensures { λ r. ⌜ Marked (λ (m : ℕ). some (λ (i : ℕ). sweepHits (now (order .entry)) (now (x .entry)) (now (y .entry)) limit n i m) n) (now (mark .entry)) (now (mark .exit)) ⌝ }
 {
@@ -125,13 +121,7 @@ fn sweep(
 }
 
 // Marks the points that lie closer than 0.2 cell sizes to another.
-pub fn mark_close(
-    x: &[f32; MAX_POINTS],
-    y: &[f32; MAX_POINTS],
-    cell: f32,
-    n: usize,
-    mark: &mut [u8; MAX_POINTS],
-)
+pub fn mark_close(x: &Floats, y: &Floats, cell: f32, n: usize, mark: &mut Marks)
     requires { ⌜ (n ≤ maxPoints) × Finite n (now x) × Finite n (now y) ⌝ }
     ensures { λ r. ⌜ ((ranks : List ℕ) → Marked (λ (m : ℕ). ltb m n && closeMark (viewAt n ranks (now (x .entry)) (now (y .entry))) cell m) (now (mark .entry)) (now (mark .exit))) ⌝ }
 {

@@ -1,4 +1,7 @@
 // How many patches there are, which is the largest, and the component mark. See specs/Components.antt.
+use view::Marks;
+use view::Places;
+use view::Ranks;
 ghost use mathlib.Core.Path.{_≡_};
 ghost use mathlib.Core.Bool.{cond, not, _&&_};
 ghost use mathlib.Core.List.{List};
@@ -10,12 +13,11 @@ ghost use Rattle.view.specs.View.{maxPoints, viewAt, Ranked};
 ghost use Rattle.patches.specs.Search.{Offsets};
 ghost use Rattle.components.specs.Components.{patchCount, sizesOf, largestAt, winnerOf, othersBy, filterOf};
 use view::MAX_POINTS;
-use view::RANKS_SIZE;
 
 // ---- count, winner and the ranks outside it
 
 // How many patches there are.
-fn count(label: &[u16; MAX_POINTS], n: usize) -> usize
+fn count(label: &Places, n: usize) -> usize
     requires { ⌜ n ≤ maxPoints ⌝ }
     ensures { λ r. ⌜ r ≡ patchCount n (now (label .entry)) ⌝ }
 {
@@ -29,7 +31,7 @@ fn count(label: &[u16; MAX_POINTS], n: usize) -> usize
 }
 
 // How many points each label has.
-fn sizes(label: &[u16; MAX_POINTS], n: usize) -> [u16; MAX_POINTS]
+fn sizes(label: &Places, n: usize) -> Places
     requires { ⌜ n ≤ maxPoints ⌝ }
     ensures { λ r. ⌜ r ≡ sizesOf n (now (label .entry)) ⌝ }
 {
@@ -56,7 +58,7 @@ fn better(a: u16, b: u16, r: usize, i: usize) -> usize
 }
 
 // The first place of the largest number.
-fn largest(size: &[u16; MAX_POINTS], n: usize) -> usize
+fn largest(size: &Places, n: usize) -> usize
     requires { ⌜ n ≤ maxPoints ⌝ }
     ensures { λ r. ⌜ r ≡ largestAt (now (size .entry)) n ⌝ }
 {
@@ -70,7 +72,7 @@ fn largest(size: &[u16; MAX_POINTS], n: usize) -> usize
 }
 
 // The label of the patch that is kept: most points, and of equals the one with the smaller least cell.
-fn winner(label: &[u16; MAX_POINTS], n: usize) -> usize
+fn winner(label: &Places, n: usize) -> usize
     requires { ⌜ n ≤ maxPoints ⌝ }
     ensures { λ r. ⌜ r ≡ winnerOf n (now (label .entry)) ⌝ }
 {
@@ -92,7 +94,7 @@ fn other(v: usize, n: usize, win: usize) -> u8
 }
 
 // 1 for each rank that survives and is in another patch than the winner.
-fn others(label: &[u16; MAX_POINTS], n: usize, win: usize) -> [u8; MAX_POINTS]
+fn others(label: &Places, n: usize, win: usize) -> Marks
     requires { ⌜ n ≤ maxPoints ⌝ }
     ensures { λ r. ⌜ r ≡ othersBy n (now (label .entry)) win ⌝ }
 {
@@ -109,14 +111,14 @@ fn others(label: &[u16; MAX_POINTS], n: usize, win: usize) -> [u8; MAX_POINTS]
 
 // The component mark of each rank, and how many patches there are.
 pub struct ComponentFilter {
-    pub marks: [u8; MAX_POINTS],
+    pub marks: Marks,
     pub components_seen: usize,
 }
 
 // The component mark: an index with a cell outside the winner is marked at each of its cells.
 pub fn largest_component_filter(
-    ranks: &[u16; RANKS_SIZE],
-    dropped: &[u8; MAX_POINTS],
+    ranks: &Ranks,
+    dropped: &Marks,
     sides: &[u8],
     n: usize,
 ) -> ComponentFilter

@@ -1,11 +1,15 @@
 // The filters of a sheet, in two steps: those that go by the points themselves, and those that go by what these leave. See specs/Filters.antt.
 use components::ComponentFilter;
 use edges::EDGES_SIZE;
+use edges::Edges;
 use judged::Judged;
 use marks::filters;
 use sheet_file::Settings;
+use view::Floats;
 use view::MAX_POINTS;
-use view::RANKS_SIZE;
+use view::Marks;
+use view::Ranks;
+use view::Words;
 ghost use mathlib.Core.Path.{_≡_};
 ghost use mathlib.Core.List.{List, [], _∷_};
 ghost use Prim.Native.Nat.{ℕ, _≤_};
@@ -23,19 +27,12 @@ ghost use Rattle.drop_set.specs.Filters.{wrongMark, patchedOf, measuredO
 
 // The bytes of marks and how many patches the survivors have.
 pub struct DropSet {
-    pub marks: [u8; MAX_POINTS],
+    pub marks: Marks,
     pub components: usize,
 }
 
 // The wrong-label marks; none with the switch off.
-fn wrong_marks(
-    s: Settings,
-    ranks: &[u16; RANKS_SIZE],
-    x: &[f32; MAX_POINTS],
-    y: &[f32; MAX_POINTS],
-    edges: &[f32; EDGES_SIZE],
-    n: usize,
-) -> [u8; MAX_POINTS]
+fn wrong_marks(s: Settings, ranks: &Ranks, x: &Floats, y: &Floats, edges: &Edges, n: usize) -> Marks
     requires { ⌜ EdgesReady n (now ranks) (now x) (now y) (now edges) ⌝ }
     ensures { λ r. ⌜ r ≡ column maxPoints 0 n (λ (k : ℕ). bit (wrongMark s (viewAt n (now (ranks .entry)) (now (x .entry)) (now (y .entry))) k)) ⌝ }
 {
@@ -53,12 +50,7 @@ fn wrong_marks(
 }
 
 // The bytes of the three marks of each point.
-fn point_marks(
-    validate: &[u8; MAX_POINTS],
-    orientation: &[u8; MAX_POINTS],
-    wrong: &[u8; MAX_POINTS],
-    n: usize,
-) -> [u8; MAX_POINTS]
+fn point_marks(validate: &Marks, orientation: &Marks, wrong: &Marks, n: usize) -> Marks
     requires { ⌜ n ≤ maxPoints ⌝ }
     ensures { λ r. ⌜ r ≡ markedBy n Wrong (isSet (now (wrong .entry))) (markedBy n Orientation (isSet (now (orientation .entry))) (markedBy n Validate (isSet (now (validate .entry))) [])) ⌝ }
 {
@@ -69,14 +61,7 @@ fn point_marks(
 }
 
 // What the filters find that go by the points themselves: the judged sheet without the marks and the count of patches.
-pub fn measure(
-    s: Settings,
-    ranks: &[u16; RANKS_SIZE],
-    keys: &[u32; MAX_POINTS],
-    x: &[f32; MAX_POINTS],
-    y: &[f32; MAX_POINTS],
-    n: usize,
-) -> Judged
+pub fn measure(s: Settings, ranks: &Ranks, keys: &Words, x: &Floats, y: &Floats, n: usize) -> Judged
     requires { ⌜ Celled n (now ranks) (now keys) (now x) (now y) ⌝ }
     ensures { λ r. ⌜ r ≡ measuredOf s (viewAt n (now (ranks .entry)) (now (x .entry)) (now (y .entry))) (cellsAt (now (keys .entry))) ⌝ }
 {
@@ -93,12 +78,7 @@ pub fn measure(
 }
 
 // The component marks and count among the points whose byte is 0; none with the switch off.
-fn component_marks(
-    s: Settings,
-    ranks: &[u16; RANKS_SIZE],
-    marks: &[u8; MAX_POINTS],
-    n: usize,
-) -> ComponentFilter
+fn component_marks(s: Settings, ranks: &Ranks, marks: &Marks, n: usize) -> ComponentFilter
     requires { ⌜ Ranked n (now ranks) ⌝ }
     ensures { λ r. ⌜ ((xs ys : List Float) → Joined s (viewAt n (now (ranks .entry)) xs ys) (now (marks .entry)) r) ⌝ }
 {
@@ -113,12 +93,7 @@ fn component_marks(
 }
 
 // The filters that go by the marks before them: the bytes with their marks too, and the count of patches.
-pub fn drop_patches(
-    s: Settings,
-    ranks: &[u16; RANKS_SIZE],
-    marks: &[u8; MAX_POINTS],
-    n: usize,
-) -> DropSet
+pub fn drop_patches(s: Settings, ranks: &Ranks, marks: &Marks, n: usize) -> DropSet
     requires { ⌜ Ranked n (now ranks) ⌝ }
     ensures { λ r. ⌜ ((xs ys : List Float) → r ≡ patchedOf s (viewAt n (now (ranks .entry)) xs ys) (now (marks .entry))) ⌝ }
 {
@@ -133,10 +108,10 @@ pub fn drop_patches(
 // The judged sheet.
 pub fn judge<'a>(
     s: Settings,
-    ranks: &[u16; RANKS_SIZE],
-    keys: &'a [u32; MAX_POINTS],
-    x: &'a [f32; MAX_POINTS],
-    y: &'a [f32; MAX_POINTS],
+    ranks: &Ranks,
+    keys: &'a Words,
+    x: &'a Floats,
+    y: &'a Floats,
     n: usize,
 ) -> Judged
     requires { ⌜ Celled n (now ranks) (now keys) (now x) (now y) ⌝ }

@@ -1,8 +1,9 @@
 // Edge figures and edge reasons: how edges continue through a corner, and the shape of the cells around it.
-use edges::EDGES_SIZE;
+use edges::Edges;
 use sheet_file::EdgeShapeParams;
+use view::Floats;
 use view::MAX_POINTS;
-use view::RANKS_SIZE;
+use view::Ranks;
 ghost use mathlib.Core.Path.{_≡_};
 ghost use mathlib.Core.Bool.{cond};
 ghost use mathlib.Core.List.{[]};
@@ -85,14 +86,7 @@ fn note(m: Measure, p: Measure) -> Measure
 }
 
 // The edge from rank a to rank b, one of the way's edges.
-fn side_at(
-    x: &[f32; MAX_POINTS],
-    y: &[f32; MAX_POINTS],
-    edges: &[f32; EDGES_SIZE],
-    way: usize,
-    a: usize,
-    b: usize,
-) -> Side
+fn side_at(x: &Floats, y: &Floats, edges: &Edges, way: usize, a: usize, b: usize) -> Side
     requires { ⌜ (way < 2) × (a < maxPoints) × (b < maxPoints) ⌝ }
     ensures { λ r. ⌜ r ≡ sideBy (viewAt 0 [] (now (x .entry)) (now (y .entry))) (now (edges .entry)) way a b ⌝ }
 {
@@ -104,7 +98,7 @@ fn side_at(
 }
 
 // The rank at offset d from rank a; none where there is no a.
-fn onward(ranks: &[u16; RANKS_SIZE], n: usize, a: usize, d: usize) -> usize
+fn onward(ranks: &Ranks, n: usize, a: usize, d: usize) -> usize
     requires { ⌜ (n ≤ maxPoints) × (d < 25) ⌝ }
     ensures { λ r. ⌜ r ≡ rankFrom (viewAt n (now (ranks .entry)) [] []) a d ⌝ }
 {
@@ -116,10 +110,10 @@ fn onward(ranks: &[u16; RANKS_SIZE], n: usize, a: usize, d: usize) -> usize
 
 // The way's edge that leads to rank k, against the one that goes on from it.
 fn continuation_at(
-    ranks: &[u16; RANKS_SIZE],
-    x: &[f32; MAX_POINTS],
-    y: &[f32; MAX_POINTS],
-    edges: &[f32; EDGES_SIZE],
+    ranks: &Ranks,
+    x: &Floats,
+    y: &Floats,
+    edges: &Edges,
     n: usize,
     way: usize,
     k: usize,
@@ -144,14 +138,7 @@ fn continuation_at(
 }
 
 // The cell whose least corner is rank t.
-fn cell_at(
-    ranks: &[u16; RANKS_SIZE],
-    x: &[f32; MAX_POINTS],
-    y: &[f32; MAX_POINTS],
-    edges: &[f32; EDGES_SIZE],
-    n: usize,
-    t: usize,
-) -> CellShape
+fn cell_at(ranks: &Ranks, x: &Floats, y: &Floats, edges: &Edges, n: usize, t: usize) -> CellShape
     requires { ⌜ WithEdges n (now ranks) (now x) (now y) (now edges) ⌝ }
     ensures { λ r. ⌜ r ≡ shapeAt (viewAt n (now (ranks .entry)) (now (x .entry)) (now (y .entry))) t ⌝ }
 {
@@ -311,10 +298,10 @@ fn figures_by(
 // All figures of rank k's cell.
 fn figures_at(
     g: EdgeShapeParams,
-    ranks: &[u16; RANKS_SIZE],
-    x: &[f32; MAX_POINTS],
-    y: &[f32; MAX_POINTS],
-    edges: &[f32; EDGES_SIZE],
+    ranks: &Ranks,
+    x: &Floats,
+    y: &Floats,
+    edges: &Edges,
     n: usize,
     k: usize,
 ) -> Figures
@@ -348,10 +335,10 @@ pub fn no_figures() -> Figures
 // The figures of each rank's index: those of the cell that has the index's place.
 pub fn evaluate_edge_shape(
     g: EdgeShapeParams,
-    ranks: &[u16; RANKS_SIZE],
-    x: &[f32; MAX_POINTS],
-    y: &[f32; MAX_POINTS],
-    edges: &[f32; EDGES_SIZE],
+    ranks: &Ranks,
+    x: &Floats,
+    y: &Floats,
+    edges: &Edges,
     n: usize,
 ) -> [Figures; MAX_POINTS]
     requires { ⌜ WithEdges n (now ranks) (now x) (now y) (now edges) ⌝ }

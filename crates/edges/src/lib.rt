@@ -1,8 +1,9 @@
 // The edges of the lattice: the length and the unit vector of each, computed once for all filters.
+use view::Floats;
 use view::MAX_POINTS;
 use view::NEXT_U;
 use view::NEXT_V;
-use view::RANKS_SIZE;
+use view::Ranks;
 ghost use mathlib.Core.Path.{_≡_};
 ghost use Prim.Native.Nat.{_+_, _*_, _≤_, _<_};
 ghost use lib.ListN.{getD, replicate};
@@ -13,6 +14,8 @@ ghost use Rattle.edges.specs.Edges.{edgesSize, side, edgesOf, edgePlace,
 // Lengths and unit vectors (x, then y) of the edges along u, then of those along v, with MAX_POINTS entries each.
 pub const EDGES_SIZE: usize = 6 * MAX_POINTS;
 
+pub type Edges = [f32; EDGES_SIZE];
+
 // The offset that the edges of a way lead over: way 0 is along u, 1 along v.
 pub fn side_of(way: usize) -> usize
     ensures { λ r. ⌜ (r ≡ side way) × (r < 25) ⌝ }
@@ -21,15 +24,7 @@ pub fn side_of(way: usize) -> usize
 }
 
 // The entry for rank k of the column c, whose lengths the table has already; an edge to no point has zeros.
-fn entry(
-    ranks: &[u16; RANKS_SIZE],
-    x: &[f32; MAX_POINTS],
-    y: &[f32; MAX_POINTS],
-    n: usize,
-    table: &[f32; EDGES_SIZE],
-    c: usize,
-    k: usize,
-) -> f32
+fn entry(ranks: &Ranks, x: &Floats, y: &Floats, n: usize, table: &Edges, c: usize, k: usize) -> f32
     requires { ⌜ (n ≤ maxPoints) × (c < 6) × (k < n) × FilledTo (viewAt n (now ranks) (now x) (now y)) (maxPoints * c + k) (now table) ⌝ }
     ensures { λ r. ⌜ r ≡ getD (edgesOf (viewAt n (now (ranks .entry)) (now (x .entry)) (now (y .entry)))) (maxPoints * c + k) nan ⌝ }
 {
@@ -50,14 +45,7 @@ fn entry(
 }
 
 // Fills the column c of the table.
-fn fill_column(
-    ranks: &[u16; RANKS_SIZE],
-    x: &[f32; MAX_POINTS],
-    y: &[f32; MAX_POINTS],
-    n: usize,
-    table: &mut [f32; EDGES_SIZE],
-    c: usize,
-)
+fn fill_column(ranks: &Ranks, x: &Floats, y: &Floats, n: usize, table: &mut Edges, c: usize)
     requires { ⌜ (n ≤ maxPoints) × (c < 6) × FilledTo (viewAt n (now ranks) (now x) (now y)) (maxPoints * c) (now table) ⌝ }
     ensures { λ r. ⌜ FilledTo (viewAt n (now (ranks .entry)) (now (x .entry)) (now (y .entry))) (maxPoints * (c + 1)) (now (table .exit)) ⌝ }
 {
@@ -77,13 +65,7 @@ pub fn no_edge() -> f32
 }
 
 // Fills an empty table with the edges of both ways.
-pub fn fill(
-    ranks: &[u16; RANKS_SIZE],
-    x: &[f32; MAX_POINTS],
-    y: &[f32; MAX_POINTS],
-    n: usize,
-    table: &mut [f32; EDGES_SIZE],
-)
+pub fn fill(ranks: &Ranks, x: &Floats, y: &Floats, n: usize, table: &mut Edges)
     requires { ⌜ (n ≤ maxPoints) × (now table ≡ replicate edgesSize nan) ⌝ }
     ensures { λ r. ⌜ now (table .exit) ≡ edgesOf (viewAt n (now (ranks .entry)) (now (x .entry)) (now (y .entry))) ⌝ }
 {
@@ -95,7 +77,7 @@ pub fn fill(
 }
 
 // The length of the way's edge that starts at rank k.
-pub fn length(edges: &[f32; EDGES_SIZE], way: usize, k: usize) -> f32
+pub fn length(edges: &Edges, way: usize, k: usize) -> f32
     requires { ⌜ (way < 2) × (k < maxPoints) ⌝ }
     ensures { λ r. ⌜ r ≡ getD (now (edges .entry)) (edgePlace way 0 k) nan ⌝ }
 {
@@ -103,14 +85,14 @@ pub fn length(edges: &[f32; EDGES_SIZE], way: usize, k: usize) -> f32
 }
 
 // The parts of its unit vector.
-pub fn unit_x(edges: &[f32; EDGES_SIZE], way: usize, k: usize) -> f32
+pub fn unit_x(edges: &Edges, way: usize, k: usize) -> f32
     requires { ⌜ (way < 2) × (k < maxPoints) ⌝ }
     ensures { λ r. ⌜ r ≡ getD (now (edges .entry)) (edgePlace way 1 k) nan ⌝ }
 {
     edges[MAX_POINTS * (3 * way + 1) + k]
 }
 
-pub fn unit_y(edges: &[f32; EDGES_SIZE], way: usize, k: usize) -> f32
+pub fn unit_y(edges: &Edges, way: usize, k: usize) -> f32
     requires { ⌜ (way < 2) × (k < maxPoints) ⌝ }
     ensures { λ r. ⌜ r ≡ getD (now (edges .entry)) (edgePlace way 2 k) nan ⌝ }
 {

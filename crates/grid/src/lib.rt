@@ -1,4 +1,6 @@
 // The table of ranks of a sheet (see the crate `view`), from the keys and indices of its points in cell order.
+use view::Ranks;
+use view::Words;
 ghost use mathlib.Core.Path.{_≡_};
 ghost use mathlib.Core.Bool.{cond, _&&_};
 ghost use Prim.Native.Nat.{_+_, _*_, _/_, _%_, _≤_, _<_};
@@ -22,7 +24,7 @@ const V_PARTS: usize = cells::STRIDE as usize;
 const NONE: u16 = view::MAX_POINTS as u16;
 
 // The first rank from `from` on that does not stand before the target.
-fn advance(keys: &[u32; view::MAX_POINTS], n: usize, from: usize, target: u32) -> usize
+fn advance(keys: &Words, n: usize, from: usize, target: u32) -> usize
     requires { ⌜ Keys (now keys) n × Behind n (entryIn (now keys)) from target ⌝ }
     ensures { λ r. ⌜ Reached n (entryIn (now (keys .entry))) r target ⌝ }
 {
@@ -37,7 +39,7 @@ fn advance(keys: &[u32; view::MAX_POINTS], n: usize, from: usize, target: u32) -
 }
 
 // Whether rank p stands at the target.
-fn stands(keys: &[u32; view::MAX_POINTS], n: usize, p: usize, target: u32) -> bool
+fn stands(keys: &Words, n: usize, p: usize, target: u32) -> bool
     requires { ⌜ Keys (now keys) n ⌝ }
     ensures { λ r. ⌜ r ≡ ltb p n && eqb (entryIn (now (keys .entry)) p + keyCentre) target ⌝ }
 {
@@ -49,14 +51,7 @@ fn stands(keys: &[u32; view::MAX_POINTS], n: usize, p: usize, target: u32) -> bo
 
 // Writes the ranks that stand at five targets, from `target` on, into the table from `to` on, n where none stands; `from` is the first
 // rank that does not stand before them.
-fn five(
-    keys: &[u32; view::MAX_POINTS],
-    n: usize,
-    from: usize,
-    target: u32,
-    ranks: &mut [u16; view::RANKS_SIZE],
-    to: usize,
-)
+fn five(keys: &Words, n: usize, from: usize, target: u32, ranks: &mut Ranks, to: usize)
     requires { ⌜ Keys (now keys) n × Reached n (entryIn (now keys)) from target × FiveFit (now ranks) target to ⌝ }
     ensures { λ r. ⌜ now (ranks .exit) ≡ spliced to 5 (standingFrom n (entryIn (now (keys .entry))) target) (now (ranks .entry)) ⌝ }
 {
@@ -88,7 +83,7 @@ fn steps(e: usize) -> u32
 
 // Fills the block of neighbours: 25 entries for each rank, n where no point stands. The ranks that stand two cells to one side and two to
 // the other follow each other, so that one reached rank for each difference of u will do.
-fn fill_near(keys: &[u32; view::MAX_POINTS], n: usize, ranks: &mut [u16; view::RANKS_SIZE])
+fn fill_near(keys: &Words, n: usize, ranks: &mut Ranks)
     requires { ⌜ Keys (now keys) n × (length (now ranks) ≡ ranksSize) ⌝ }
     ensures { λ r. ⌜ now (ranks .exit) ≡ spliced 0 (25 * n) (neighbourEntry n (cellsAt (now (keys .entry)))) (now (ranks .entry)) ⌝ }
 {
@@ -116,7 +111,7 @@ fn earlier(r: u16, k: usize) -> u16
 }
 
 // Fills the block of rows: the first rank of each rank's row, by a table over all v.
-fn fill_rows(keys: &[u32; view::MAX_POINTS], n: usize, ranks: &mut [u16; view::RANKS_SIZE])
+fn fill_rows(keys: &Words, n: usize, ranks: &mut Ranks)
     requires { ⌜ (n ≤ maxPoints) × (length (now ranks) ≡ ranksSize) ⌝ }
     ensures { λ r. ⌜ now (ranks .exit) ≡ spliced rowsAt n (firstInRow n (cellsAt (now (keys .entry)))) (now (ranks .entry)) ⌝ }
 {
@@ -132,7 +127,7 @@ fn fill_rows(keys: &[u32; view::MAX_POINTS], n: usize, ranks: &mut [u16; view::R
 }
 
 // The rank `start` if it has rank k's u, else k.
-fn start_of(keys: &[u32; view::MAX_POINTS], start: usize, k: usize) -> usize
+fn start_of(keys: &Words, start: usize, k: usize) -> usize
     requires { ⌜ (start < maxPoints) × (k < maxPoints) ⌝ }
     ensures { λ r. ⌜ r ≡ cond (eqb (entryIn (now (keys .entry)) start / stride) (entryIn (now (keys .entry)) k / stride)) start k ⌝ }
 {
@@ -143,7 +138,7 @@ fn start_of(keys: &[u32; view::MAX_POINTS], start: usize, k: usize) -> usize
 }
 
 // Fills the block of columns: the first rank of each rank's column. The ranks of a column follow each other.
-fn fill_columns(keys: &[u32; view::MAX_POINTS], n: usize, ranks: &mut [u16; view::RANKS_SIZE])
+fn fill_columns(keys: &Words, n: usize, ranks: &mut Ranks)
     requires { ⌜ Keys (now keys) n × (length (now ranks) ≡ ranksSize) ⌝ }
     ensures { λ r. ⌜ now (ranks .exit) ≡ spliced columnsAt n (firstInColumn n (cellsAt (now (keys .entry)))) (now (ranks .entry)) ⌝ }
 {
@@ -164,7 +159,7 @@ fn pack(index: u32, rank: usize) -> u64
     (index as u64) * sort::PACKED_PLACES + (rank as u64)
 }
 
-fn packed_ranks(idx: &[u32; view::MAX_POINTS], n: usize) -> [u64; view::MAX_POINTS]
+fn packed_ranks(idx: &Words, n: usize) -> [u64; view::MAX_POINTS]
     requires { ⌜ n ≤ maxPoints ⌝ }
     ensures { λ r. ⌜ r ≡ column maxPoints 0 n (packed (entryIn (now (idx .entry)))) ⌝ }
 {
@@ -193,7 +188,7 @@ fn last_rank(order: &[u64; view::MAX_POINTS], n: usize, i: usize, after: u16) ->
 }
 
 // Fills the block of indices: the last rank with each rank's index, which stands for the index.
-fn fill_indices(idx: &[u32; view::MAX_POINTS], n: usize, ranks: &mut [u16; view::RANKS_SIZE])
+fn fill_indices(idx: &Words, n: usize, ranks: &mut Ranks)
     requires { ⌜ (n ≤ maxPoints) × (length (now ranks) ≡ ranksSize) ⌝ }
     ensures { λ r. ⌜ now (ranks .exit) ≡ spliced indicesAt n (lastWithIndex n (entryIn (now (idx .entry)))) (now (ranks .entry)) ⌝ }
 {
@@ -210,12 +205,7 @@ fn fill_indices(idx: &[u32; view::MAX_POINTS], n: usize, ranks: &mut [u16; view:
 }
 
 // Fills the table of ranks, which is all zeros.
-pub fn fill<'a>(
-    keys: &'a [u32; view::MAX_POINTS],
-    idx: &'a [u32; view::MAX_POINTS],
-    n: usize,
-    ranks: &mut [u16; view::RANKS_SIZE],
-)
+pub fn fill<'a>(keys: &'a Words, idx: &'a Words, n: usize, ranks: &mut Ranks)
     requires { ⌜ Keys (now keys) n × (now ranks ≡ replicate ranksSize 0) ⌝ }
     ensures { λ r. ⌜ now (ranks .exit) ≡ ranksOf n (now (keys .entry)) (now (idx .entry)) ⌝ }
 {

@@ -1,4 +1,8 @@
 // Rows and columns of points: the line fitted to each, and the points that lie off it.
+use view::Floats;
+use view::Marks;
+use view::Places;
+use view::Ranks;
 ghost use mathlib.Core.Path.{_≡_};
 ghost use mathlib.Core.Bool.{Bool, true};
 ghost use Prim.Native.Nat.{ℕ, _+_, _≤_, _<_};
@@ -15,7 +19,6 @@ ghost use Rattle.lines.specs.Fit.{valueAt, largerEigenvalue, directionOf
 ghost use Rattle.lines.specs.Flags.{ruleBy, isFar, flaggedBy, lineNumber, isFlagged, flagsAt};
 ghost use Rattle.lines.specs.Lines.{Members, Chained, Onward, Linked, markIf};
 use view::MAX_POINTS;
-use view::RANKS_SIZE;
 use view::wide;
 
 // A line: its centre and its unit direction.
@@ -76,7 +79,7 @@ fn distance(line: Line, x: f32, y: f32) -> f32
 }
 
 // The centre of the points whose ranks are the first c of l.
-fn centre(x: &[f32; MAX_POINTS], y: &[f32; MAX_POINTS], l: &[u16; MAX_POINTS], c: usize) -> Vector
+fn centre(x: &Floats, y: &Floats, l: &Places, c: usize) -> Vector
     requires { ⌜ Members (now l) c ⌝ }
     ensures { λ r. ⌜ r ≡ centreOf (valueAt (now (x .entry))) (valueAt (now (y .entry))) (take c (now (l .entry))) ⌝ }
 {
@@ -97,13 +100,7 @@ fn centre(x: &[f32; MAX_POINTS], y: &[f32; MAX_POINTS], l: &[u16; MAX_POINTS], c
 }
 
 // The line through v fitted to the points whose ranks are the first c of l.
-fn line_around(
-    x: &[f32; MAX_POINTS],
-    y: &[f32; MAX_POINTS],
-    v: Vector,
-    l: &[u16; MAX_POINTS],
-    c: usize,
-) -> Line
+fn line_around(x: &Floats, y: &Floats, v: Vector, l: &Places, c: usize) -> Line
     requires { ⌜ Members (now l) c ⌝ }
     ensures { λ r. ⌜ r ≡ lineAround (valueAt (now (x .entry))) (valueAt (now (y .entry))) v (take c (now (l .entry))) ⌝ }
 {
@@ -126,7 +123,7 @@ fn line_around(
 }
 
 // The line fitted to the points whose ranks are the first c of l.
-fn fit(x: &[f32; MAX_POINTS], y: &[f32; MAX_POINTS], l: &[u16; MAX_POINTS], c: usize) -> Line
+fn fit(x: &Floats, y: &Floats, l: &Places, c: usize) -> Line
     requires { ⌜ Members (now l) c ⌝ }
     ensures { λ r. ⌜ r ≡ fitOf (valueAt (now (x .entry))) (valueAt (now (y .entry))) (take c (now (l .entry))) ⌝ }
 {
@@ -135,14 +132,7 @@ fn fit(x: &[f32; MAX_POINTS], y: &[f32; MAX_POINTS], l: &[u16; MAX_POINTS], c: u
 }
 
 // Whether rank j is too far from a line.
-fn is_far(
-    x: &[f32; MAX_POINTS],
-    y: &[f32; MAX_POINTS],
-    scale: &[f32; MAX_POINTS],
-    tolerance: f32,
-    line: Line,
-    j: usize,
-) -> bool
+fn is_far(x: &Floats, y: &Floats, scale: &Floats, tolerance: f32, line: Line, j: usize) -> bool
     requires { ⌜ j < maxPoints ⌝ }
     ensures { λ r. ⌜ r ≡ isFar (ruleBy (now (x .entry)) (now (y .entry)) (now (scale .entry)) tolerance) line j ⌝ }
 {
@@ -152,14 +142,14 @@ fn is_far(
 
 // Sets the marks of those members of a line that it flags; its members are the first c ranks of l.
 fn mark_flagged(
-    x: &[f32; MAX_POINTS],
-    y: &[f32; MAX_POINTS],
-    scale: &[f32; MAX_POINTS],
+    x: &Floats,
+    y: &Floats,
+    scale: &Floats,
     tolerance: f32,
     minimum: u16,
-    l: &[u16; MAX_POINTS],
+    l: &Places,
     c: usize,
-    out: &mut [u8; MAX_POINTS],
+    out: &mut Marks,
 )
     requires { ⌜ Members (now l) c × (length (now out) ≡ maxPoints) ⌝ }
     ensures { λ r. ⌜ now (out .exit) ≡ over (markIf (flaggedBy (ruleBy (now (x .entry)) (now (y .entry)) (now (scale .entry)) tolerance) minimum (take c (now (l .entry))))) (now (out .entry)) (take c (now (l .entry))) ⌝ }
@@ -182,7 +172,7 @@ fn mark_flagged(
 }
 
 // The line of rank k: the first rank of its row, or of its column.
-fn line_of(ranks: &[u16; RANKS_SIZE], rows: bool, k: usize) -> usize
+fn line_of(ranks: &Ranks, rows: bool, k: usize) -> usize
     requires { ⌜ k < maxPoints ⌝ }
     ensures { λ r. ⌜ r ≡ lineNumber (viewAt 0 (now (ranks .entry)) [] []) rows k ⌝ }
 {
@@ -193,12 +183,7 @@ fn line_of(ranks: &[u16; RANKS_SIZE], rows: bool, k: usize) -> usize
 }
 
 // The next rank on the same line, for each rank, or n where there is none; and in `head` the first rank of each line.
-fn chain(
-    ranks: &[u16; RANKS_SIZE],
-    rows: bool,
-    n: usize,
-    head: &mut [u16; MAX_POINTS],
-) -> [u16; MAX_POINTS]
+fn chain(ranks: &Ranks, rows: bool, n: usize, head: &mut Places) -> Places
     requires { ⌜ Ranked n (now ranks) × (now head ≡ replicate maxPoints n) ⌝ }
     ensures { λ r. ⌜ Chained n (lineNumber (viewAt n (now (ranks .entry)) [] []) rows) 0 (now (head .exit)) r ⌝ }
 {
@@ -214,7 +199,7 @@ fn chain(
 }
 
 // Writes the ranks from `from` on along the chain, and returns how many they are.
-fn members(next: &[u16; MAX_POINTS], n: usize, from: usize, out: &mut [u16; MAX_POINTS]) -> usize
+fn members(next: &Places, n: usize, from: usize, out: &mut Places) -> usize
     requires { ⌜ (n ≤ maxPoints) × Onward n (now next) × (from ≤ n) × (length (now out) ≡ maxPoints) ⌝ }
     ensures { λ r. ⌜ (length (now (out .exit)) ≡ maxPoints) × ((p : ℕ → Bool) → Linked p n (now (next .entry)) → first p 0 n ≡ from → Gathered p n (now (out .exit)) r) ⌝ }
 {
@@ -230,15 +215,15 @@ fn members(next: &[u16; MAX_POINTS], n: usize, from: usize, out: &mut [u16; MAX_
 
 // 1 for each rank that its row, or its column, flags, else 0.
 fn flagged(
-    ranks: &[u16; RANKS_SIZE],
+    ranks: &Ranks,
     rows: bool,
-    x: &[f32; MAX_POINTS],
-    y: &[f32; MAX_POINTS],
-    scale: &[f32; MAX_POINTS],
+    x: &Floats,
+    y: &Floats,
+    scale: &Floats,
     n: usize,
     tolerance: f32,
     minimum: u16,
-) -> [u8; MAX_POINTS]
+) -> Marks
     requires { ⌜ Ranked n (now ranks) ⌝ }
     ensures { λ r. ⌜ r ≡ columnOf maxPoints 0 n (λ (k : ℕ). bit (isFlagged (ruleBy (now (x .entry)) (now (y .entry)) (now (scale .entry)) tolerance) minimum (lineNumber (viewAt n (now (ranks .entry)) [] []) rows) n k)) ⌝ }
 {
@@ -257,12 +242,7 @@ fn flagged(
 }
 
 // Adds to the count of each index its ranks with a mark.
-fn count(
-    mark: &[u8; MAX_POINTS],
-    ranks: &[u16; RANKS_SIZE],
-    n: usize,
-    flags: &mut [u16; MAX_POINTS],
-)
+fn count(mark: &Marks, ranks: &Ranks, n: usize, flags: &mut Places)
     requires { ⌜ Ranked n (now ranks) × (length (now flags) ≡ maxPoints) × ((m : ℕ) → m < maxPoints → getD (now flags) m 0 ≤ maxPoints) ⌝ }
     ensures { λ r. ⌜ Scattered 0 (viewAt n (now (ranks .entry)) [] [] .byIdx) (isSet (now (mark .entry))) oneMore (now (flags .entry)) n (now (flags .exit)) ⌝ }
 {
@@ -279,14 +259,14 @@ fn count(
 
 // How many flags each index has from the rows and columns of its cells, at the last of its ranks.
 pub fn line_flags(
-    ranks: &[u16; RANKS_SIZE],
-    x: &[f32; MAX_POINTS],
-    y: &[f32; MAX_POINTS],
-    scale: &[f32; MAX_POINTS],
+    ranks: &Ranks,
+    x: &Floats,
+    y: &Floats,
+    scale: &Floats,
     n: usize,
     tolerance: f32,
     minimum: u16,
-) -> [u16; MAX_POINTS]
+) -> Places
     requires { ⌜ Ranked n (now ranks) ⌝ }
     ensures { λ r. ⌜ r ≡ columnOf maxPoints 0 n (flagsAt (viewAt n (now (ranks .entry)) (now (x .entry)) (now (y .entry))) (valueAt (now (scale .entry))) tolerance minimum) ⌝ }
 {

@@ -6,6 +6,7 @@ use marks::COUNTS;
 use marks::filters::FILTERS;
 use text::Written;
 use view::MAX_POINTS;
+use view::Words;
 ghost use mathlib.Core.Path.{_≡_};
 ghost use Prim.Native.Nat.{_≤_};
 ghost use lib.ListN.{getD};
@@ -38,14 +39,7 @@ fn put_head(n: usize, components: usize, out: &mut [u8], at: usize) -> usize
 }
 
 // A line for each point.
-fn put_lines(
-    n: usize,
-    keys: &[u32; MAX_POINTS],
-    idx: &[u32; MAX_POINTS],
-    j: Judged,
-    out: &mut [u8],
-    at: usize,
-) -> usize
+fn put_lines(n: usize, keys: &Words, idx: &Words, j: Judged, out: &mut [u8], at: usize) -> usize
     requires { ⌜ n ≤ maxPoints ⌝ }
     ensures { λ r. ⌜ Stored (now (out .entry)) at (linesOf (cellsAt (now (keys .entry))) (now (idx .entry)) j n) (now (out .exit)) r ⌝ }
 {
@@ -95,13 +89,7 @@ fn put_tally(counts: &[usize; COUNTS], out: &mut [u8], at: usize) -> usize
 }
 
 // The listing of n points in cell order: the keys of their cells, their indices, and what was judged of them.
-pub fn write_listing(
-    n: usize,
-    keys: &[u32; MAX_POINTS],
-    idx: &[u32; MAX_POINTS],
-    j: Judged,
-    out: &mut [u8],
-) -> Written
+pub fn write_listing(n: usize, keys: &Words, idx: &Words, j: Judged, out: &mut [u8]) -> Written
     requires { ⌜ n ≤ maxPoints ⌝ }
     ensures { λ r. ⌜ Shows (listingOf n (cellsAt (now (keys .entry))) (now (idx .entry)) j) (now (out .entry)) (now (out .exit)) r ⌝ }
 {

@@ -1,8 +1,9 @@
 // The residual of each corner: how far the map fitted to its nearest neighbours takes its cell from where it is seen.
 use homography::HomographyFit;
 use homography::PlanePoint;
-use view::MAX_POINTS;
-use view::RANKS_SIZE;
+use view::Floats;
+use view::Ranks;
+use view::Words;
 ghost use mathlib.Core.Path.{_≡_};
 ghost use mathlib.Core.List.{List, []};
 ghost use Prim.Native.Nat.{_+_, _*_, _≤_, _<_};
@@ -73,14 +74,14 @@ fn offset_at(p: usize) -> usize
 }
 
 // The rank at place p of the order round rank k; a number of points or more is none.
-pub fn member(ranks: &[u16; RANKS_SIZE], k: usize, p: usize) -> usize
+pub fn member(ranks: &Ranks, k: usize, p: usize) -> usize
     requires { ⌜ (k < maxPoints) × (p < 24) ⌝ }
     ensures { λ r. ⌜ r ≡ getD (now (ranks .entry)) (25 * k + offsetAt p) 0 ⌝ }
 {
     view::rank_at(ranks, k, offset_at(p))
 }
 
-fn is_other(ranks: &[u16; RANKS_SIZE], n: usize, k: usize, p: usize) -> bool
+fn is_other(ranks: &Ranks, n: usize, k: usize, p: usize) -> bool
     requires { ⌜ (n ≤ maxPoints) × (k < n) × (p < 24) ⌝ }
     ensures { λ r. ⌜ r ≡ isOther (viewAt n (now (ranks .entry)) [] []) k p ⌝ }
 {
@@ -106,15 +107,7 @@ fn on_line(a: usize, b: usize, c: usize) -> bool
 }
 
 // Whether place p serves: it has a point of another index, and is off the line through the offsets e and f if that line is to be left.
-fn serves(
-    ranks: &[u16; RANKS_SIZE],
-    n: usize,
-    k: usize,
-    leave: bool,
-    e: usize,
-    f: usize,
-    p: usize,
-) -> bool
+fn serves(ranks: &Ranks, n: usize, k: usize, leave: bool, e: usize, f: usize, p: usize) -> bool
     requires { ⌜ (n ≤ maxPoints) × (k < n) × (e < 25) × (f < 25) × (p < 24) ⌝ }
     ensures { λ r. ⌜ r ≡ isServing (viewAt n (now (ranks .entry)) [] []) k leave e f p ⌝ }
 {
@@ -129,7 +122,7 @@ fn serves(
 
 // The first place from `start` on that serves.
 fn next_place(
-    ranks: &[u16; RANKS_SIZE],
+    ranks: &Ranks,
     n: usize,
     k: usize,
     leave: bool,
@@ -151,7 +144,7 @@ fn next_place(
 }
 
 // The base of rank k.
-pub fn pick_local_h_base(ranks: &[u16; RANKS_SIZE], n: usize, k: usize) -> Base
+pub fn pick_local_h_base(ranks: &Ranks, n: usize, k: usize) -> Base
     requires { ⌜ (n ≤ maxPoints) × (k < n) ⌝ }
     ensures { λ r. ⌜ ((xs ys : List Float) → r ≡ baseOf (viewAt n (now (ranks .entry)) xs ys) k) ⌝ }
 {
@@ -189,7 +182,7 @@ fn key_point(key: u32) -> PlanePoint
 }
 
 // That of rank k.
-fn cell_point(keys: &[u32; MAX_POINTS], k: usize) -> PlanePoint
+fn cell_point(keys: &Words, k: usize) -> PlanePoint
     requires { ⌜ k < maxPoints ⌝ }
     ensures { λ r. ⌜ r ≡ cellPoint (cellsAt (now (keys .entry)) k) ⌝ }
 {
@@ -197,7 +190,7 @@ fn cell_point(keys: &[u32; MAX_POINTS], k: usize) -> PlanePoint
 }
 
 // Where rank k is seen.
-fn seen_point(x: &[f32; MAX_POINTS], y: &[f32; MAX_POINTS], k: usize) -> PlanePoint
+fn seen_point(x: &Floats, y: &Floats, k: usize) -> PlanePoint
     requires { ⌜ k < maxPoints ⌝ }
     ensures { λ r. ⌜ r ≡ seenAt (viewAt 0 [] (now (x .entry)) (now (y .entry))) k ⌝ }
 {
@@ -219,9 +212,9 @@ fn residual_by(fit: HomographyFit, p: PlanePoint, q: PlanePoint) -> Residual
 
 // The residual of rank k by the ranks i, j, l and m.
 fn residual_from(
-    keys: &[u32; MAX_POINTS],
-    x: &[f32; MAX_POINTS],
-    y: &[f32; MAX_POINTS],
+    keys: &Words,
+    x: &Floats,
+    y: &Floats,
     k: usize,
     i: usize,
     j: usize,
@@ -249,10 +242,10 @@ fn residual_from(
 
 // The residual of rank k.
 pub fn local_h_residual(
-    ranks: &[u16; RANKS_SIZE],
-    keys: &[u32; MAX_POINTS],
-    x: &[f32; MAX_POINTS],
-    y: &[f32; MAX_POINTS],
+    ranks: &Ranks,
+    keys: &Words,
+    x: &Floats,
+    y: &Floats,
     n: usize,
     k: usize,
 ) -> Residual

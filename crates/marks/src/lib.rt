@@ -2,7 +2,8 @@
 pub mod filters;
 
 use view::MAX_POINTS;
-use view::RANKS_SIZE;
+use view::Marks;
+use view::Ranks;
 ghost use mathlib.Core.Path.{_≡_};
 ghost use mathlib.Core.Bool.{cond, _&&_};
 ghost use mathlib.Core.List.{List, []};
@@ -33,7 +34,7 @@ pub fn one_more(t: bool, c: usize) -> usize
 }
 
 // Sets the mark m, if it is to be set and m is below n.
-pub fn set_if(set: bool, m: usize, n: usize, mark: &mut [u8; MAX_POINTS])
+pub fn set_if(set: bool, m: usize, n: usize, mark: &mut Marks)
     requires { ⌜ n ≤ maxPoints ⌝ }
     ensures { λ r. ⌜ Marked (λ (i : ℕ). set && (ltb m n && eqb m i)) (now (mark .entry)) (now (mark .exit)) ⌝ }
 {
@@ -46,7 +47,7 @@ pub fn set_if(set: bool, m: usize, n: usize, mark: &mut [u8; MAX_POINTS])
 }
 
 // The marks, each at the place of its index.
-fn at_index(ranks: &[u16; RANKS_SIZE], mark: &[u8; MAX_POINTS], n: usize) -> [u8; MAX_POINTS]
+fn at_index(ranks: &Ranks, mark: &Marks, n: usize) -> Marks
     requires { ⌜ n ≤ maxPoints ⌝ }
     ensures { λ r. ⌜ r ≡ column maxPoints 0 n (λ (m : ℕ). bit (placeHas (viewAt n (now (ranks .entry)) [] []) (now (mark .entry)) m)) ⌝ }
 {
@@ -60,7 +61,7 @@ fn at_index(ranks: &[u16; RANKS_SIZE], mark: &[u8; MAX_POINTS], n: usize) -> [u8
 }
 
 // At each rank the mark of its index: whether some point with that index is marked.
-pub fn by_index(ranks: &[u16; RANKS_SIZE], mark: &[u8; MAX_POINTS], n: usize) -> [u8; MAX_POINTS]
+pub fn by_index(ranks: &Ranks, mark: &Marks, n: usize) -> Marks
     requires { ⌜ Ranked n (now ranks) ⌝ }
     ensures { λ r. ⌜ ((xs ys : List Float) → r ≡ indexMarks (viewAt n (now (ranks .entry)) xs ys) (now (mark .entry))) ⌝ }
 {
@@ -85,12 +86,7 @@ fn marked_byte(marks: u8, mark: u8, f: usize) -> u8
 }
 
 // The bytes of marks after filter f has marked the points whose mark is set.
-pub fn marked_by(
-    marks: &[u8; MAX_POINTS],
-    mark: &[u8; MAX_POINTS],
-    f: usize,
-    n: usize,
-) -> [u8; MAX_POINTS]
+pub fn marked_by(marks: &Marks, mark: &Marks, f: usize, n: usize) -> Marks
     requires { ⌜ (n ≤ maxPoints) × (f < filterCount) ⌝ }
     ensures { λ r. ⌜ r ≡ markedBy n f (isSet (now (mark .entry))) (now (marks .entry)) ⌝ }
 {
@@ -107,7 +103,7 @@ pub fn marked_by(
 pub const COUNTS: usize = filters::FILTERS + 1;
 
 // How many points each filter is the first to mark, and how many are kept.
-pub fn tally(marks: &[u8; MAX_POINTS], n: usize) -> [usize; COUNTS]
+pub fn tally(marks: &Marks, n: usize) -> [usize; COUNTS]
     requires { ⌜ n ≤ maxPoints ⌝ }
     ensures { λ r. ⌜ r ≡ countsOf n (now (marks .entry)) ⌝ }
 {

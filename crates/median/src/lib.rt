@@ -1,4 +1,5 @@
 // The median of the positive numbers of an array, by a sort of their bit patterns.
+use view::Floats;
 use view::MAX_POINTS;
 ghost use mathlib.Core.Path.{_≡_};
 ghost use Prim.Native.Nat.{_≤_, _<_};
@@ -20,7 +21,7 @@ fn put(x: f32, c: usize, a: &mut [u64; MAX_POINTS]) -> usize
     c
 }
 
-fn pack(v: &[f32; MAX_POINTS], n: usize, a: &mut [u64; MAX_POINTS]) -> usize
+fn pack(v: &Floats, n: usize, a: &mut [u64; MAX_POINTS]) -> usize
     requires { ⌜ (n ≤ maxPoints) × (length (now a) ≡ maxPoints) ⌝ }
     ensures { λ r. ⌜ Packed (now (v .entry)) n r (now (a .exit)) ⌝ }
 {
@@ -41,7 +42,7 @@ fn narrow(x: u64) -> u32
 }
 
 // The median of the positive ones among the first n; NaN where there is none.
-pub fn middle(v: &[f32; MAX_POINTS], n: usize) -> f32
+pub fn middle(v: &Floats, n: usize) -> f32
     requires { ⌜ n ≤ maxPoints ⌝ }
     ensures { λ r. ⌜ r ≡ medianOf (positives (now (v .entry)) n) ⌝ }
 {

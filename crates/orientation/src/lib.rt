@@ -1,8 +1,10 @@
 // Votes on the orientation of the lattice, and the marks of the indices whose points cast those of the minority.
+use view::Floats;
 use view::MAX_POINTS;
+use view::Marks;
 use view::NEXT_U;
 use view::NEXT_V;
-use view::RANKS_SIZE;
+use view::Ranks;
 ghost use mathlib.Core.Path.{_≡_};
 ghost use mathlib.Core.List.{[]};
 ghost use Prim.Native.Nat.{ℕ, _+_, _*_, _≤_, _<_};
@@ -32,13 +34,7 @@ fn cross_of(ax: f32, ay: f32, bx: f32, by: f32) -> f32
 }
 
 // The vote of rank k: 0 for none, 1 and 2 for the two sides.
-fn vote_at(
-    ranks: &[u16; RANKS_SIZE],
-    x: &[f32; MAX_POINTS],
-    y: &[f32; MAX_POINTS],
-    n: usize,
-    k: usize,
-) -> u8
+fn vote_at(ranks: &Ranks, x: &Floats, y: &Floats, n: usize, k: usize) -> u8
     requires { ⌜ (n ≤ maxPoints) × (k < n) ⌝ }
     ensures { λ r. ⌜ r ≡ voteAt (viewAt n (now (ranks .entry)) (now (x .entry)) (now (y .entry))) k ⌝ }
 {
@@ -53,12 +49,7 @@ fn vote_at(
     vote_by(cross_of(x[a] - x[k], y[a] - y[k], x[b] - x[k], y[b] - y[k]))
 }
 
-fn votes(
-    ranks: &[u16; RANKS_SIZE],
-    x: &[f32; MAX_POINTS],
-    y: &[f32; MAX_POINTS],
-    n: usize,
-) -> [u8; MAX_POINTS]
+fn votes(ranks: &Ranks, x: &Floats, y: &Floats, n: usize) -> Marks
     requires { ⌜ n ≤ maxPoints ⌝ }
     ensures { λ r. ⌜ r ≡ column maxPoints 0 n (voteAt (viewAt n (now (ranks .entry)) (now (x .entry)) (now (y .entry)))) ⌝ }
 {
@@ -72,7 +63,7 @@ fn votes(
 }
 
 // How many votes are for the side.
-fn votes_for(vote: &[u8; MAX_POINTS], n: usize, side: u8) -> usize
+fn votes_for(vote: &Marks, n: usize, side: u8) -> usize
     requires { ⌜ n ≤ maxPoints ⌝ }
     ensures { λ r. ⌜ r ≡ tally (λ (k : ℕ). eqb (getD (now (vote .entry)) k 0) side) n ⌝ }
 {
@@ -86,14 +77,7 @@ fn votes_for(vote: &[u8; MAX_POINTS], n: usize, side: u8) -> usize
 }
 
 // Marks the three points of rank k's vote, if it is for the side.
-fn mark_voters(
-    ranks: &[u16; RANKS_SIZE],
-    vote: &[u8; MAX_POINTS],
-    n: usize,
-    side: u8,
-    k: usize,
-    mark: &mut [u8; MAX_POINTS],
-)
+fn mark_voters(ranks: &Ranks, vote: &Marks, n: usize, side: u8, k: usize, mark: &mut Marks)
     requires { ⌜ (n ≤ maxPoints) × (k < n) ⌝ }
     ensures { λ r. ⌜ Marked (voters (viewAt n (now (ranks .entry)) [] []) (now (vote .entry)) side k) (now (mark .entry)) (now (mark .exit)) ⌝ }
 {
@@ -106,12 +90,7 @@ fn mark_voters(
 }
 
 // The members of the side.
-fn side_members(
-    ranks: &[u16; RANKS_SIZE],
-    vote: &[u8; MAX_POINTS],
-    n: usize,
-    side: u8,
-) -> [u8; MAX_POINTS]
+fn side_members(ranks: &Ranks, vote: &Marks, n: usize, side: u8) -> Marks
     requires { ⌜ n ≤ maxPoints ⌝ }
     ensures { λ r. ⌜ r ≡ column maxPoints 0 n (λ (m : ℕ). bit (some (λ (k : ℕ). votersAt (viewAt n (now (ranks .entry)) [] []) (now (vote .entry)) side k m) n)) ⌝ }
 {
@@ -144,13 +123,7 @@ fn turned_by(np: usize, nn: usize, p: bool, q: bool) -> bool
 }
 
 // The marks of the indices, from their memberships.
-fn combined(
-    np: usize,
-    nn: usize,
-    p: &[u8; MAX_POINTS],
-    q: &[u8; MAX_POINTS],
-    n: usize,
-) -> [u8; MAX_POINTS]
+fn combined(np: usize, nn: usize, p: &Marks, q: &Marks, n: usize) -> Marks
     requires { ⌜ n ≤ maxPoints ⌝ }
     ensures { λ r. ⌜ r ≡ column maxPoints 0 n (λ (k : ℕ). bit (turned np nn (isSet (now (p .entry)) k) (isSet (now (q .entry)) k))) ⌝ }
 {
@@ -164,12 +137,7 @@ fn combined(
 }
 
 // The orientation mark of each rank's index.
-pub fn lattice_orientation_drops(
-    ranks: &[u16; RANKS_SIZE],
-    x: &[f32; MAX_POINTS],
-    y: &[f32; MAX_POINTS],
-    n: usize,
-) -> [u8; MAX_POINTS]
+pub fn lattice_orientation_drops(ranks: &Ranks, x: &Floats, y: &Floats, n: usize) -> Marks
     requires { ⌜ Ranked n (now ranks) ⌝ }
     ensures { λ r. ⌜ r ≡ orientationOf (viewAt n (now (ranks .entry)) (now (x .entry)) (now (y .entry))) ⌝ }
 {

@@ -1,4 +1,8 @@
 // The boxes of patches, for the edge gate: whether a point is on the boundary of its patch's box. See specs/Boxes.antt.
+use view::Marks;
+use view::Places;
+use view::Ranks;
+use view::Words;
 ghost use mathlib.Core.Path.{_≡_};
 ghost use mathlib.Core.Bool.{cond, _&&_, _||_};
 ghost use mathlib.Core.List.{List, []};
@@ -13,7 +17,6 @@ ghost use Rattle.patches.specs.Boxes.{CellKeys, boundaryAmong, boundaryO
 ghost use Rattle.patches.specs.Extents.{extent, farthestOf, atEnd};
 use crate::labels;
 use view::MAX_POINTS;
-use view::RANKS_SIZE;
 
 // The greatest that a part of a cell's key can be.
 const FAR_END: u16 = (cells::STRIDE - 1) as u16;
@@ -43,12 +46,7 @@ fn larger_of(x: u16, y: u16) -> u16
 }
 
 // How far the patch of each label reaches one way.
-fn farthest(
-    keys: &[u32; MAX_POINTS],
-    label: &[u16; MAX_POINTS],
-    n: usize,
-    way: usize,
-) -> [u16; MAX_POINTS]
+fn farthest(keys: &Words, label: &Places, n: usize, way: usize) -> Places
     requires { ⌜ (n ≤ maxPoints) × CellKeys n (now keys) ⌝ }
     ensures { λ r. ⌜ r ≡ farthestOf n (now (label .entry)) (now (keys .entry)) way ⌝ }
 {
@@ -66,7 +64,7 @@ fn farthest(
 }
 
 // Whether the cell lies as far one way as the patch with label s reaches.
-fn reaches(key: u32, way: usize, s: usize, far: &[u16; MAX_POINTS]) -> bool
+fn reaches(key: u32, way: usize, s: usize, far: &Places) -> bool
     requires { ⌜ (key < 2 ^ 28) × (s < maxPoints) ⌝ }
     ensures { λ r. ⌜ r ≡ atEnd (now (far .entry)) way s key ⌝ }
 {
@@ -74,15 +72,7 @@ fn reaches(key: u32, way: usize, s: usize, far: &[u16; MAX_POINTS]) -> bool
 }
 
 // Whether a cell lies as far one way as its patch does, or another way, or a third or a fourth.
-fn on_boundary(
-    key: u32,
-    s: usize,
-    n: usize,
-    a: &[u16; MAX_POINTS],
-    b: &[u16; MAX_POINTS],
-    c: &[u16; MAX_POINTS],
-    d: &[u16; MAX_POINTS],
-) -> u8
+fn on_boundary(key: u32, s: usize, n: usize, a: &Places, b: &Places, c: &Places, d: &Places) -> u8
     requires { ⌜ (key < 2 ^ 28) × (n ≤ maxPoints) ⌝ }
     ensures { λ r. ⌜ r ≡ bit (ltb s n && (atEnd (now (b .entry)) 1 s key || (atEnd (now (a .entry)) 0 s key || (atEnd (now (d .entry)) 3 s key || atEnd (now (c .entry)) 2 s key)))) ⌝ }
 {
@@ -105,12 +95,7 @@ fn on_boundary(
 }
 
 // 1 at each rank whose index has its place on the boundary of the box of its patch, given the labels.
-fn boundary_among(
-    ranks: &[u16; RANKS_SIZE],
-    keys: &[u32; MAX_POINTS],
-    label: &[u16; MAX_POINTS],
-    n: usize,
-) -> [u8; MAX_POINTS]
+fn boundary_among(ranks: &Ranks, keys: &Words, label: &Places, n: usize) -> Marks
     requires { ⌜ Ranked n (now ranks) × CellKeys n (now keys) ⌝ }
     ensures { λ r. ⌜ r ≡ boundaryAmong (viewAt n (now (ranks .entry)) [] []) (now (label .entry)) (cellsAt (now (keys .entry))) ⌝ }
 {
@@ -129,12 +114,7 @@ fn boundary_among(
 }
 
 // 1 at each rank whose index has its place on the boundary of the box of its patch of all points.
-pub fn boundary(
-    ranks: &[u16; RANKS_SIZE],
-    keys: &[u32; MAX_POINTS],
-    sides: &[u8],
-    n: usize,
-) -> [u8; MAX_POINTS]
+pub fn boundary(ranks: &Ranks, keys: &Words, sides: &[u8], n: usize) -> Marks
     requires { ⌜ Ranked n (now ranks) × Offsets (now sides) × CellKeys n (now keys) ⌝ }
     ensures { λ r. ⌜ ((xs ys : List Float) → r ≡ boundaryOf (viewAt n (now (ranks .entry)) xs ys) (now (sides .entry)) (cellsAt (now (keys .entry)))) ⌝ }
 {

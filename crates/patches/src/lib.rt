@@ -1,6 +1,9 @@
 // Patches of surviving points: cells joined by shared edges, over any list of offsets. See specs/Patches.antt.
 pub mod boxes;
 
+use view::Marks;
+use view::Places;
+use view::Ranks;
 ghost use mathlib.Core.Path.{_≡_};
 ghost use mathlib.Core.List.{List};
 ghost use Prim.Native.Nat.{_+_, _≤_, _<_};
@@ -13,7 +16,6 @@ use view::NEXT_U;
 use view::NEXT_V;
 use view::PREV_U;
 use view::PREV_V;
-use view::RANKS_SIZE;
 
 // The offsets of the square lattice: to u - 1, u + 1, v - 1 and v + 1.
 pub fn square_sides() -> [u8; 4]
@@ -34,9 +36,9 @@ fn offset(d: u8) -> usize
 fn visit(
     s: u16,
     j: usize,
-    visited: &mut [u8; MAX_POINTS],
-    label: &mut [u16; MAX_POINTS],
-    queue: &mut [u16; MAX_POINTS],
+    visited: &mut Marks,
+    label: &mut Places,
+    queue: &mut Places,
     tail: usize,
 ) -> usize
     requires { ⌜ Worklist (now visited) (now label) (now queue) tail ⌝ }
@@ -56,13 +58,13 @@ fn visit(
 
 // Visits each neighbour of the rank at `head` of the worklist.
 fn expand(
-    ranks: &[u16; RANKS_SIZE],
+    ranks: &Ranks,
     sides: &[u8],
     s: u16,
     head: usize,
-    visited: &mut [u8; MAX_POINTS],
-    label: &mut [u16; MAX_POINTS],
-    queue: &mut [u16; MAX_POINTS],
+    visited: &mut Marks,
+    label: &mut Places,
+    queue: &mut Places,
     tail: usize,
 ) -> usize
     requires { ⌜ Offsets (now sides) × (head < tail) × Worklist (now visited) (now label) (now queue) tail ⌝ }
@@ -81,12 +83,12 @@ fn expand(
 
 // Marks and labels the whole patch of rank s, if it has no mark yet.
 fn fill(
-    ranks: &[u16; RANKS_SIZE],
+    ranks: &Ranks,
     sides: &[u8],
     s: u16,
-    visited: &mut [u8; MAX_POINTS],
-    label: &mut [u16; MAX_POINTS],
-    queue: &mut [u16; MAX_POINTS],
+    visited: &mut Marks,
+    label: &mut Places,
+    queue: &mut Places,
     start: usize,
 ) -> usize
     requires { ⌜ Offsets (now sides) × Worklist (now visited) (now label) (now queue) start ⌝ }
@@ -104,7 +106,7 @@ fn fill(
 // ---- labels
 
 // The marks before the search: set at each number that is not the rank of a survivor.
-fn start_marks(dropped: &[u8; MAX_POINTS], n: usize) -> [u8; MAX_POINTS]
+fn start_marks(dropped: &Marks, n: usize) -> Marks
     requires { ⌜ n ≤ maxPoints ⌝ }
     ensures { λ r. ⌜ r ≡ startMarks n (now (dropped .entry)) ⌝ }
 {
@@ -118,7 +120,7 @@ fn start_marks(dropped: &[u8; MAX_POINTS], n: usize) -> [u8; MAX_POINTS]
 }
 
 // A label of n, none, for each rank.
-fn blank(n: usize) -> [u16; MAX_POINTS]
+fn blank(n: usize) -> Places
     requires { ⌜ n ≤ maxPoints ⌝ }
     ensures { λ r. ⌜ r ≡ unlabelled n ⌝ }
 {
@@ -133,12 +135,7 @@ fn blank(n: usize) -> [u16; MAX_POINTS]
 }
 
 // The label of each rank: the least rank of its patch; n where it does not survive.
-pub fn labels(
-    ranks: &[u16; RANKS_SIZE],
-    dropped: &[u8; MAX_POINTS],
-    sides: &[u8],
-    n: usize,
-) -> [u16; MAX_POINTS]
+pub fn labels(ranks: &Ranks, dropped: &Marks, sides: &[u8], n: usize) -> Places
     requires { ⌜ (n ≤ maxPoints) × Offsets (now sides) ⌝ }
     ensures { λ r. ⌜ ((xs ys : List Float) → r ≡ patchLabels (viewAt n (now (ranks .entry)) xs ys) (now (sides .entry)) (now (dropped .entry))) ⌝ }
 {

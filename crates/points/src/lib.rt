@@ -1,5 +1,7 @@
 // The points of a sheet file: the refusals 6 to 9, and the points in cell order.
+use view::Floats;
 use view::MAX_POINTS;
+use view::Words;
 ghost use mathlib.Core.Path.{_≡_};
 ghost use mathlib.Core.List.{[]};
 ghost use Prim.Native.Nat.{ℕ, _+_, _*_, _/_, _%_, _≤_, _<_};
@@ -149,7 +151,7 @@ fn some_clash(file: &[u8], at: usize, n: usize, by_index: bool, entries: &[u64; 
 // ---- the points in cell order
 
 // The keys of the cells.
-fn keys(entries: &[u64; MAX_POINTS], n: usize) -> [u32; MAX_POINTS]
+fn keys(entries: &[u64; MAX_POINTS], n: usize) -> Words
     requires { ⌜ n ≤ maxPoints ⌝ }
     requires { ⌜ ((k : ℕ) → k < n → getD (now entries) k 0 / 4096 < 0x1_0000_0000) ⌝ }
     ensures { λ r. ⌜ r ≡ column maxPoints 0 n (λ (k : ℕ). getD (now (entries .entry)) k 0 / 4096) ⌝ }
@@ -164,7 +166,7 @@ fn keys(entries: &[u64; MAX_POINTS], n: usize) -> [u32; MAX_POINTS]
 }
 
 // The indices.
-fn indices(file: &[u8], at: usize, n: usize, entries: &[u64; MAX_POINTS]) -> [u32; MAX_POINTS]
+fn indices(file: &[u8], at: usize, n: usize, entries: &[u64; MAX_POINTS]) -> Words
     requires { ⌜ EntriesHeld (now file) at n (now entries) ⌝ }
     ensures { λ r. ⌜ r ≡ column maxPoints 0 n (λ (k : ℕ). entryPoint (now (file .entry)) at (getD (now (entries .entry)) k 0) .index) ⌝ }
 {
@@ -185,7 +187,7 @@ fn coordinates(
     field: usize,
     n: usize,
     entries: &[u64; MAX_POINTS],
-) -> [f32; MAX_POINTS]
+) -> Floats
     requires { ⌜ CoordinatesHeld (now file) at field n (now entries) ⌝ }
     ensures { λ r. ⌜ r ≡ column maxPoints nan n (λ (k : ℕ). floatAt (now (file .entry)) (at + 20 * (getD (now (entries .entry)) k 0 % 4096) + field)) ⌝ }
 {
@@ -203,10 +205,10 @@ fn coordinates(
 // The points in cell order, one array a field; or a number from 6 to 9, and no points.
 pub struct Table {
     pub number: u8,
-    pub keys: [u32; MAX_POINTS],
-    pub idx: [u32; MAX_POINTS],
-    pub x: [f32; MAX_POINTS],
-    pub y: [f32; MAX_POINTS],
+    pub keys: Words,
+    pub idx: Words,
+    pub x: Floats,
+    pub y: Floats,
 }
 
 // No points, and the number of a refusal.

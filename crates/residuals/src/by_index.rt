@@ -1,6 +1,8 @@
 // The values of indices, from those of their ranks.
+use view::Floats;
 use view::MAX_POINTS;
-use view::RANKS_SIZE;
+use view::Marks;
+use view::Ranks;
 ghost use mathlib.Core.Path.{_≡_};
 ghost use mathlib.Core.List.{[]};
 ghost use Prim.Native.Nat.{ℕ, _<_};
@@ -14,12 +16,7 @@ ghost use Rattle.view.specs.View.{maxPoints, viewAt, Ranked};
 ghost use Rattle.residuals.specs.ByIndex.{lastValue};
 
 // At the place of each index the value of its last rank with a mark, or 0.
-fn last_values(
-    ranks: &[u16; RANKS_SIZE],
-    mark: &[u8; MAX_POINTS],
-    value: &[f32; MAX_POINTS],
-    n: usize,
-) -> [f32; MAX_POINTS]
+fn last_values(ranks: &Ranks, mark: &Marks, value: &Floats, n: usize) -> Floats
     requires { ⌜ Ranked n (now ranks) ⌝ }
     ensures { λ r. ⌜ Scattered nan (viewAt n (now (ranks .entry)) [] [] .byIdx) (isSet (now (mark .entry))) (λ k x. getD (now (value .entry)) k nan) (replicate maxPoints zeroF) n r ⌝ }
 {
@@ -37,12 +34,7 @@ fn last_values(
 }
 
 // For each rank the value of the last rank with its index that has a mark, or 0.
-pub fn values(
-    ranks: &[u16; RANKS_SIZE],
-    mark: &[u8; MAX_POINTS],
-    value: &[f32; MAX_POINTS],
-    n: usize,
-) -> [f32; MAX_POINTS]
+pub fn values(ranks: &Ranks, mark: &Marks, value: &Floats, n: usize) -> Floats
     requires { ⌜ Ranked n (now ranks) ⌝ }
     ensures { λ r. ⌜ r ≡ column maxPoints nan n (lastValue (viewAt n (now (ranks .entry)) [] []) (isSet (now (mark .entry))) (λ (k : ℕ). getD (now (value .entry)) k nan)) ⌝ }
 {

@@ -1,7 +1,10 @@
 // The residuals of indices: "a residual comes from the last cell, in the order of the rows, having one", and a flag from any cell stays.
 use local_h::Residual;
+use view::Floats;
 use view::MAX_POINTS;
-use view::RANKS_SIZE;
+use view::Marks;
+use view::Ranks;
+use view::Words;
 ghost use mathlib.Core.Path.{_≡_};
 ghost use Prim.Native.Nat.{ℕ, _≤_};
 ghost use lib.ListN.{getD};
@@ -15,10 +18,10 @@ mod by_index;
 
 // For each rank: whether there is a residual, and which, or 0; whether it is over the tolerance, and over twice the tolerance.
 pub struct Residuals {
-    pub has: [u8; MAX_POINTS],
-    pub value: [f32; MAX_POINTS],
-    pub over: [u8; MAX_POINTS],
-    pub high: [u8; MAX_POINTS],
+    pub has: Marks,
+    pub value: Floats,
+    pub over: Marks,
+    pub high: Marks,
 }
 
 fn has_value(r: Residual) -> u8
@@ -59,11 +62,11 @@ fn is_high(limit: f32, r: Residual) -> bool
 
 // The residual of each rank, and its flags: the tolerance times the scale of the rank's index is the limit.
 fn cell_residuals(
-    ranks: &[u16; RANKS_SIZE],
-    keys: &[u32; MAX_POINTS],
-    x: &[f32; MAX_POINTS],
-    y: &[f32; MAX_POINTS],
-    scale: &[f32; MAX_POINTS],
+    ranks: &Ranks,
+    keys: &Words,
+    x: &Floats,
+    y: &Floats,
+    scale: &Floats,
     n: usize,
     tolerance: f32,
 ) -> Residuals
@@ -95,11 +98,11 @@ fn cell_residuals(
 
 // For each rank what its index has: the residual of the index's last cell that has one, and the flags of any of its cells.
 pub fn index_residuals(
-    ranks: &[u16; RANKS_SIZE],
-    keys: &[u32; MAX_POINTS],
-    x: &[f32; MAX_POINTS],
-    y: &[f32; MAX_POINTS],
-    scale: &[f32; MAX_POINTS],
+    ranks: &Ranks,
+    keys: &Words,
+    x: &Floats,
+    y: &Floats,
+    scale: &Floats,
     n: usize,
     tolerance: f32,
 ) -> Residuals

@@ -3,7 +3,9 @@
 // made by make/make.rs.
 use libc::STDIN_FILENO;
 use libc::STDOUT_FILENO;
+use view::Floats;
 use view::MAX_POINTS;
+use view::Words;
 
 // The longest file: tag 3 with 65,535 bytes of data, and all else.
 const LONGEST: usize = 65600;
@@ -12,13 +14,7 @@ fn mixed(h: u64, v: u32) -> u64 {
     std::num::wrapping_add_u64(h << 5 | h >> 59, v as u64)
 }
 
-fn digest(
-    keys: &[u32; MAX_POINTS],
-    idx: &[u32; MAX_POINTS],
-    x: &[f32; MAX_POINTS],
-    y: &[f32; MAX_POINTS],
-    n: usize,
-) -> u64 {
+fn digest(keys: &Words, idx: &Words, x: &Floats, y: &Floats, n: usize) -> u64 {
     let mut h: u64 = 0;
     for k in 0..MAX_POINTS {
         if k < n {

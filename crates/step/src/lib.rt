@@ -1,4 +1,7 @@
 // The local step of each index, its scale, and the steps that lie too far from their median.
+use view::Floats;
+use view::Marks;
+use view::Ranks;
 ghost use mathlib.Core.Path.{_≡_};
 ghost use mathlib.Core.Bool.{_&&_};
 ghost use mathlib.Core.List.{List, []};
@@ -14,7 +17,6 @@ ghost use Rattle.view.specs.View.{maxPoints, viewAt, Ranked};
 ghost use Rattle.step.specs.Step.{spacing, axisStep, meanStep, keptStep, localStep, stepAt, scaleAt};
 ghost use Rattle.step.specs.Deviation.{isStepOutside, deviates};
 use view::MAX_POINTS;
-use view::RANKS_SIZE;
 use view::rank_at;
 
 // A step, or none.
@@ -24,7 +26,7 @@ enum Step {
 }
 
 // The distance from rank p to rank q.
-fn spacing(x: &[f32; MAX_POINTS], y: &[f32; MAX_POINTS], p: usize, q: usize) -> f32
+fn spacing(x: &Floats, y: &Floats, p: usize, q: usize) -> f32
     requires { ⌜ (p < maxPoints) × (q < maxPoints) ⌝ }
     ensures { λ r. ⌜ r ≡ spacing (λ (k : ℕ). getD (now (x .entry)) k nan) (λ (k : ℕ). getD (now (y .entry)) k nan) p q ⌝ }
 {
@@ -33,9 +35,9 @@ fn spacing(x: &[f32; MAX_POINTS], y: &[f32; MAX_POINTS], p: usize, q: usize) -> 
 
 // The step of rank m along the axis with the neighbours at the two offsets.
 fn axis_step(
-    ranks: &[u16; RANKS_SIZE],
-    x: &[f32; MAX_POINTS],
-    y: &[f32; MAX_POINTS],
+    ranks: &Ranks,
+    x: &Floats,
+    y: &Floats,
     n: usize,
     m: usize,
     before: usize,
@@ -89,13 +91,7 @@ fn kept_step(a: Step) -> f32
     }
 }
 
-fn local_step(
-    ranks: &[u16; RANKS_SIZE],
-    x: &[f32; MAX_POINTS],
-    y: &[f32; MAX_POINTS],
-    n: usize,
-    m: usize,
-) -> f32
+fn local_step(ranks: &Ranks, x: &Floats, y: &Floats, n: usize, m: usize) -> f32
     requires { ⌜ (n ≤ maxPoints) × (m < maxPoints) ⌝ }
     ensures { λ r. ⌜ r ≡ localStep (viewAt n (now (ranks .entry)) (now (x .entry)) (now (y .entry))) m ⌝ }
 {
@@ -105,14 +101,7 @@ fn local_step(
 }
 
 // The step at place m, or 0.
-fn step_at(
-    ranks: &[u16; RANKS_SIZE],
-    x: &[f32; MAX_POINTS],
-    y: &[f32; MAX_POINTS],
-    n: usize,
-    aware: bool,
-    m: usize,
-) -> f32
+fn step_at(ranks: &Ranks, x: &Floats, y: &Floats, n: usize, aware: bool, m: usize) -> f32
     requires { ⌜ (n ≤ maxPoints) × (m < maxPoints) ⌝ }
     ensures { λ r. ⌜ r ≡ stepAt (viewAt n (now (ranks .entry)) (now (x .entry)) (now (y .entry))) aware m ⌝ }
 {
@@ -125,13 +114,7 @@ fn step_at(
 }
 
 // The step of each index, at the last of its ranks; 0 where there is none, and everywhere without the step flag.
-pub fn steps(
-    ranks: &[u16; RANKS_SIZE],
-    x: &[f32; MAX_POINTS],
-    y: &[f32; MAX_POINTS],
-    n: usize,
-    aware: bool,
-) -> [f32; MAX_POINTS]
+pub fn steps(ranks: &Ranks, x: &Floats, y: &Floats, n: usize, aware: bool) -> Floats
     requires { ⌜ n ≤ maxPoints ⌝ }
     ensures { λ r. ⌜ r ≡ column maxPoints nan n (stepAt (viewAt n (now (ranks .entry)) (now (x .entry)) (now (y .entry))) aware) ⌝ }
 {
@@ -146,13 +129,7 @@ pub fn steps(
 }
 
 // The scale of rank k's index, from the steps of the indices.
-fn scale_at(
-    ranks: &[u16; RANKS_SIZE],
-    steps: &[f32; MAX_POINTS],
-    n: usize,
-    size: f32,
-    k: usize,
-) -> f32
+fn scale_at(ranks: &Ranks, steps: &Floats, n: usize, size: f32, k: usize) -> f32
     requires { ⌜ Ranked n (now ranks) × (k < n) ⌝ }
     ensures { λ r. ⌜ r ≡ scaleAt (viewAt n (now (ranks .entry)) [] []) (λ (m : ℕ). getD (now (steps .entry)) m nan) size k ⌝ }
 {
@@ -161,12 +138,7 @@ fn scale_at(
 }
 
 // The scale of each rank's index; `size` is the cell size.
-pub fn scales(
-    ranks: &[u16; RANKS_SIZE],
-    steps: &[f32; MAX_POINTS],
-    n: usize,
-    size: f32,
-) -> [f32; MAX_POINTS]
+pub fn scales(ranks: &Ranks, steps: &Floats, n: usize, size: f32) -> Floats
     requires { ⌜ Ranked n (now ranks) ⌝ }
     ensures { λ r. ⌜ ((xs ys : List Float) → r ≡ column maxPoints nan n (scaleAt (viewAt n (now (ranks .entry)) xs ys) (λ (m : ℕ). getD (now (steps .entry)) m nan) size)) ⌝ }
 {
@@ -181,7 +153,7 @@ pub fn scales(
 }
 
 // How many steps there are.
-fn how_many(steps: &[f32; MAX_POINTS], n: usize) -> usize
+fn how_many(steps: &Floats, n: usize) -> usize
     requires { ⌜ n ≤ maxPoints ⌝ }
     ensures { λ r. ⌜ r ≡ tally (λ (k : ℕ). lt zero (getD (now (steps .entry)) k nan)) n ⌝ }
 {
@@ -221,7 +193,7 @@ fn outside(median: f32, t: f32, s: f32) -> u8
 }
 
 // 1 for each step outside the limits, else 0.
-fn mark_outside(steps: &[f32; MAX_POINTS], n: usize, median: f32, t: f32) -> [u8; MAX_POINTS]
+fn mark_outside(steps: &Floats, n: usize, median: f32, t: f32) -> Marks
     requires { ⌜ n ≤ maxPoints ⌝ }
     ensures { λ r. ⌜ r ≡ column maxPoints 0 n (λ (m : ℕ). bit (lt zero (getD (now (steps .entry)) m nan) && isStepOutside median t (getD (now (steps .entry)) m nan))) ⌝ }
 {
@@ -235,7 +207,7 @@ fn mark_outside(steps: &[f32; MAX_POINTS], n: usize, median: f32, t: f32) -> [u8
 }
 
 // 1 for each index whose step lies too far from the median of all steps, at its place, else 0. A threshold of 0 or less marks none.
-pub fn deviations(steps: &[f32; MAX_POINTS], n: usize, t: f32) -> [u8; MAX_POINTS]
+pub fn deviations(steps: &Floats, n: usize, t: f32) -> Marks
     requires { ⌜ n ≤ maxPoints ⌝ }
     ensures { λ r. ⌜ r ≡ column maxPoints 0 n (λ (m : ℕ). bit (deviates (λ (k : ℕ). getD (now (steps .entry)) k nan) n t m)) ⌝ }
 {

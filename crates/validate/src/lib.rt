@@ -1,12 +1,15 @@
 // The validate mark of each index, its residual and its edge figures: rules 1 to 5 over lines, residuals, steps and edge shapes.
 use edge_shape::Figures;
 use edge_shape::Reason;
-use edges::EDGES_SIZE;
+use edges::Edges;
 use judged::Judged;
 use sheet_file::EdgeGate;
 use sheet_file::Settings;
+use view::Floats;
 use view::MAX_POINTS;
-use view::RANKS_SIZE;
+use view::Marks;
+use view::Ranks;
+use view::Words;
 ghost use mathlib.Core.Path.{_≡_};
 ghost use mathlib.Core.Bool.{_||_};
 ghost use mathlib.Core.List.{List};
@@ -25,20 +28,13 @@ ghost use Rattle.validate.specs.Parts.{Prepared, byRulesOf};
 
 // What rules 1 to 4 give: the mark of each rank's index, and its residual, if it has one.
 struct ByRules {
-    marks: [u8; MAX_POINTS],
-    has: [u8; MAX_POINTS],
-    value: [f32; MAX_POINTS],
+    marks: Marks,
+    has: Marks,
+    value: Floats,
 }
 
 // Rules 1 to 4.
-fn by_rules(
-    s: Settings,
-    ranks: &[u16; RANKS_SIZE],
-    keys: &[u32; MAX_POINTS],
-    x: &[f32; MAX_POINTS],
-    y: &[f32; MAX_POINTS],
-    n: usize,
-) -> ByRules
+fn by_rules(s: Settings, ranks: &Ranks, keys: &Words, x: &Floats, y: &Floats, n: usize) -> ByRules
     requires { ⌜ Ranked n (now ranks) ⌝ }
     ensures { λ r. ⌜ r ≡ byRulesOf s (viewAt n (now (ranks .entry)) (now (x .entry)) (now (y .entry))) (cellsAt (now (keys .entry))) ⌝ }
 {
@@ -58,10 +54,10 @@ fn by_rules(
 // The figures of each rank's index; blank without a gate.
 fn figures_by(
     gate: EdgeGate,
-    ranks: &[u16; RANKS_SIZE],
-    x: &[f32; MAX_POINTS],
-    y: &[f32; MAX_POINTS],
-    edges: &[f32; EDGES_SIZE],
+    ranks: &Ranks,
+    x: &Floats,
+    y: &Floats,
+    edges: &Edges,
     n: usize,
 ) -> [Figures; MAX_POINTS]
     requires { ⌜ WithEdges n (now ranks) (now x) (now y) (now edges) ⌝ }
@@ -77,12 +73,7 @@ fn figures_by(
 }
 
 // 1 where each rank's index lies on the boundary of its patch's box; nowhere without a gate.
-fn boundary_by(
-    gate: EdgeGate,
-    ranks: &[u16; RANKS_SIZE],
-    keys: &[u32; MAX_POINTS],
-    n: usize,
-) -> [u8; MAX_POINTS]
+fn boundary_by(gate: EdgeGate, ranks: &Ranks, keys: &Words, n: usize) -> Marks
     requires { ⌜ Ranked n (now ranks) × CellKeys n (now keys) ⌝ }
     ensures { λ r. ⌜ ((xs ys : List Float) → r ≡ gateBoundary gate (viewAt n (now (ranks .entry)) xs ys) (cellsAt (now (keys .entry)))) ⌝ }
 {
@@ -110,11 +101,7 @@ fn mark_with(marked: u8, reason: Reason) -> u8
 }
 
 // Rule 5, beside the others.
-fn with_reasons(
-    mark: &[u8; MAX_POINTS],
-    figures: [Figures; MAX_POINTS],
-    n: usize,
-) -> [u8; MAX_POINTS]
+fn with_reasons(mark: &Marks, figures: [Figures; MAX_POINTS], n: usize) -> Marks
     requires { ⌜ n ≤ maxPoints ⌝ }
     ensures { λ r. ⌜ r ≡ column maxPoints 0 n (λ (k : ℕ). bit (isSet (now (mark .entry)) k || hasReason figures k)) ⌝ }
 {
@@ -132,11 +119,11 @@ fn with_reasons(
 // For each rank the validate mark of its index, which is 0 or 1, the residual and the edge figures: a judged sheet as far as it goes by these.
 pub fn validate(
     s: Settings,
-    ranks: &[u16; RANKS_SIZE],
-    keys: &[u32; MAX_POINTS],
-    x: &[f32; MAX_POINTS],
-    y: &[f32; MAX_POINTS],
-    edges: &[f32; EDGES_SIZE],
+    ranks: &Ranks,
+    keys: &Words,
+    x: &Floats,
+    y: &Floats,
+    edges: &Edges,
     n: usize,
 ) -> Judged
     requires { ⌜ Prepared n (now ranks) (now keys) (now x) (now y) (now edges) ⌝ }

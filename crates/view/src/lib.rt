@@ -13,6 +13,17 @@ pub const MAX_POINTS: usize = 2048;
 // The table of ranks: 25 neighbours for each point, then its row, its column and the place of its index, each in a block of its own.
 pub const RANKS_SIZE: usize = 28 * MAX_POINTS;
 
+pub type Ranks = [u16; RANKS_SIZE];
+
+// An entry for each point: a coordinate or another number, a mark or a small count, a rank, a key or an index.
+pub type Floats = [f32; MAX_POINTS];
+
+pub type Marks = [u8; MAX_POINTS];
+
+pub type Places = [u16; MAX_POINTS];
+
+pub type Words = [u32; MAX_POINTS];
+
 pub const ROWS_AT: usize = 25 * MAX_POINTS;
 
 pub const COLUMNS_AT: usize = 26 * MAX_POINTS;
@@ -51,7 +62,7 @@ pub fn wide(x: u16) -> usize
 }
 
 // The rank at offset d from rank k, or none.
-pub fn rank_at(ranks: &[u16; RANKS_SIZE], k: usize, d: usize) -> usize
+pub fn rank_at(ranks: &Ranks, k: usize, d: usize) -> usize
     requires { ⌜ (k < maxPoints) × (d < 25) ⌝ }
     ensures { λ r. ⌜ r ≡ getD (now (ranks .entry)) (25 * k + d) 0 ⌝ }
 {
@@ -59,7 +70,7 @@ pub fn rank_at(ranks: &[u16; RANKS_SIZE], k: usize, d: usize) -> usize
 }
 
 // The first rank of rank k's row.
-pub fn row_of(ranks: &[u16; RANKS_SIZE], k: usize) -> usize
+pub fn row_of(ranks: &Ranks, k: usize) -> usize
     requires { ⌜ k < maxPoints ⌝ }
     ensures { λ r. ⌜ r ≡ getD (now (ranks .entry)) (rowsAt + k) 0 ⌝ }
 {
@@ -67,7 +78,7 @@ pub fn row_of(ranks: &[u16; RANKS_SIZE], k: usize) -> usize
 }
 
 // The first rank of rank k's column.
-pub fn column_of(ranks: &[u16; RANKS_SIZE], k: usize) -> usize
+pub fn column_of(ranks: &Ranks, k: usize) -> usize
     requires { ⌜ k < maxPoints ⌝ }
     ensures { λ r. ⌜ r ≡ getD (now (ranks .entry)) (columnsAt + k) 0 ⌝ }
 {
@@ -75,7 +86,7 @@ pub fn column_of(ranks: &[u16; RANKS_SIZE], k: usize) -> usize
 }
 
 // The last rank with rank k's index, which is the place of the index.
-pub fn index_of(ranks: &[u16; RANKS_SIZE], k: usize) -> usize
+pub fn index_of(ranks: &Ranks, k: usize) -> usize
     requires { ⌜ k < maxPoints ⌝ }
     ensures { λ r. ⌜ r ≡ getD (now (ranks .entry)) (indicesAt + k) 0 ⌝ }
 {
@@ -83,7 +94,7 @@ pub fn index_of(ranks: &[u16; RANKS_SIZE], k: usize) -> usize
 }
 
 // 1 if there is a point at offset d from rank k, else 0.
-fn there(ranks: &[u16; RANKS_SIZE], n: usize, k: usize, d: usize) -> u8
+fn there(ranks: &Ranks, n: usize, k: usize, d: usize) -> u8
     requires { ⌜ (k < maxPoints) × (d < 25) ⌝ }
     ensures { λ r. ⌜ (r ≡ bit (ltb (getD (now (ranks .entry)) (25 * k + d) 0) n)) × (r ≤ 1) ⌝ }
 {
@@ -91,7 +102,7 @@ fn there(ranks: &[u16; RANKS_SIZE], n: usize, k: usize, d: usize) -> u8
 }
 
 // How many of the four cells that share an edge with rank k's hold a point.
-pub fn degree_at(ranks: &[u16; RANKS_SIZE], n: usize, k: usize) -> u8
+pub fn degree_at(ranks: &Ranks, n: usize, k: usize) -> u8
     requires { ⌜ k < maxPoints ⌝ }
     ensures { λ r. ⌜ r ≡ degreeAt (viewAt n (now (ranks .entry)) [] []) k ⌝ }
 {

@@ -1,9 +1,12 @@
 // Ends of rows and columns whose spacing has a kink.
 use float::constants::FRONTIER_TOLERANCE;
+use view::Floats;
 use view::MAX_POINTS;
+use view::Marks;
 use view::PREV_U;
 use view::PREV_V;
-use view::RANKS_SIZE;
+use view::Places;
+use view::Ranks;
 ghost use mathlib.Core.Path.{_≡_};
 ghost use mathlib.Core.Bool.{cond, _&&_};
 ghost use mathlib.Core.List.{[]};
@@ -19,7 +22,7 @@ ghost use Rattle.wrong_label_filters.specs.Frontier.{kink, kinkAt, front
 ghost use Rattle.wrong_label_filters.specs.Lasts.{lineStart, backSide, lineMark, Lasts};
 
 // The distance from rank a to rank b.
-fn rank_distance(x: &[f32; MAX_POINTS], y: &[f32; MAX_POINTS], a: usize, b: usize) -> f32
+fn rank_distance(x: &Floats, y: &Floats, a: usize, b: usize) -> f32
     requires { ⌜ (a < maxPoints) × (b < maxPoints) ⌝ }
     ensures { λ r. ⌜ r ≡ normOf (getD (now (x .entry)) b nan ⊖ getD (now (x .entry)) a nan) (getD (now (y .entry)) b nan ⊖ getD (now (y .entry)) a nan) ⌝ }
 {
@@ -36,14 +39,7 @@ fn has_kink(e0: f32, e1: f32, e2: f32) -> bool
 }
 
 // Whether four cells follow each other inward from rank k, with a kink there.
-fn kink_at(
-    ranks: &[u16; RANKS_SIZE],
-    x: &[f32; MAX_POINTS],
-    y: &[f32; MAX_POINTS],
-    n: usize,
-    inward: usize,
-    k: usize,
-) -> bool
+fn kink_at(ranks: &Ranks, x: &Floats, y: &Floats, n: usize, inward: usize, k: usize) -> bool
     requires { ⌜ (n ≤ maxPoints) × (inward < 25) × (k < n) ⌝ }
     ensures { λ r. ⌜ r ≡ kinkAt (viewAt n (now (ranks .entry)) (now (x .entry)) (now (y .entry))) inward k ⌝ }
 {
@@ -71,9 +67,9 @@ fn kink_at(
 
 // Whether rank k is the end of its line, with a kink there.
 fn end_at(
-    ranks: &[u16; RANKS_SIZE],
-    x: &[f32; MAX_POINTS],
-    y: &[f32; MAX_POINTS],
+    ranks: &Ranks,
+    x: &Floats,
+    y: &Floats,
     n: usize,
     end: usize,
     inward: usize,
@@ -89,7 +85,7 @@ fn end_at(
 }
 
 // The first rank of rank k's row (way 0) or column.
-fn line_of(ranks: &[u16; RANKS_SIZE], way: usize, k: usize) -> usize
+fn line_of(ranks: &Ranks, way: usize, k: usize) -> usize
     requires { ⌜ k < maxPoints ⌝ }
     ensures { λ r. ⌜ r ≡ cond (eqb way 0) (getD (now (ranks .entry)) (rowsAt + k) 0) (getD (now (ranks .entry)) (columnsAt + k) 0) ⌝ }
 {
@@ -107,7 +103,7 @@ fn as_rank(k: usize) -> u16
 }
 
 // The last rank of each line, at the place of the line.
-fn lasts_of(ranks: &[u16; RANKS_SIZE], n: usize, way: usize) -> [u16; MAX_POINTS]
+fn lasts_of(ranks: &Ranks, n: usize, way: usize) -> Places
     requires { ⌜ Ranked n (now ranks) ⌝ }
     ensures { λ r. ⌜ Lasts (lineStart (viewAt n (now (ranks .entry)) [] []) way) n r ⌝ }
 {
@@ -129,10 +125,10 @@ fn back_of(way: usize) -> usize
 
 // Whether rank k is the first or the last of its line, with a kink there.
 fn line_end_at(
-    ranks: &[u16; RANKS_SIZE],
-    x: &[f32; MAX_POINTS],
-    y: &[f32; MAX_POINTS],
-    lasts: &[u16; MAX_POINTS],
+    ranks: &Ranks,
+    x: &Floats,
+    y: &Floats,
+    lasts: &Places,
     n: usize,
     way: usize,
     k: usize,
@@ -148,14 +144,7 @@ fn line_end_at(
 }
 
 // Marks both ends of each row (way 0) or column that have a kink there.
-fn mark_ends(
-    ranks: &[u16; RANKS_SIZE],
-    x: &[f32; MAX_POINTS],
-    y: &[f32; MAX_POINTS],
-    n: usize,
-    way: usize,
-    mark: &mut [u8; MAX_POINTS],
-)
+fn mark_ends(ranks: &Ranks, x: &Floats, y: &Floats, n: usize, way: usize, mark: &mut Marks)
     requires { ⌜ Ranked n (now ranks) ⌝ }
     ensures { λ r. ⌜ Marked (λ (m : ℕ). ltb m n && lineMark (viewAt n (now (ranks .entry)) (now (x .entry)) (now (y .entry))) way m) (now (mark .entry)) (now (mark .exit)) ⌝ }
 {
@@ -168,13 +157,7 @@ fn mark_ends(
 }
 
 // Marks both ends of each row and column that have a kink there.
-pub(crate) fn mark_frontier(
-    ranks: &[u16; RANKS_SIZE],
-    x: &[f32; MAX_POINTS],
-    y: &[f32; MAX_POINTS],
-    n: usize,
-    mark: &mut [u8; MAX_POINTS],
-)
+pub(crate) fn mark_frontier(ranks: &Ranks, x: &Floats, y: &Floats, n: usize, mark: &mut Marks)
     requires { ⌜ Ranked n (now ranks) ⌝ }
     ensures { λ r. ⌜ Marked (λ (m : ℕ). ltb m n && frontierMark (viewAt n (now (ranks .entry)) (now (x .entry)) (now (y .entry))) m) (now (mark .entry)) (now (mark .exit)) ⌝ }
 {

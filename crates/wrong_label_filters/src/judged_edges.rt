@@ -1,10 +1,12 @@
 // Edges that are too long, or off the axis of their neighbours.
-use edges::EDGES_SIZE;
+use edges::Edges;
 use float::constants::GLOBAL_OVERLONG_RATIO;
 use float::constants::OVERLONG_RATIO;
+use view::Floats;
 use view::MAX_POINTS;
+use view::Marks;
 use view::OWN;
-use view::RANKS_SIZE;
+use view::Ranks;
 ghost use mathlib.Core.Path.{_≡_};
 ghost use mathlib.Core.Bool.{true, _&&_, _||_};
 ghost use mathlib.Core.List.{List, []};
@@ -56,8 +58,8 @@ fn with_edge(v: Window, under: bool, ux: f32, uy: f32) -> Window
 // The window v with the edge that starts at offset j from rank k, if that is one of the window of rank k's edge, which has the length own.
 fn with_edge_at(
     v: Window,
-    ranks: &[u16; RANKS_SIZE],
-    edges: &[f32; EDGES_SIZE],
+    ranks: &Ranks,
+    edges: &Edges,
     n: usize,
     way: usize,
     k: usize,
@@ -87,14 +89,7 @@ fn with_edge_at(
 }
 
 // The window of rank k's edge, which has the length own.
-fn window_at(
-    ranks: &[u16; RANKS_SIZE],
-    edges: &[f32; EDGES_SIZE],
-    n: usize,
-    way: usize,
-    k: usize,
-    own: f32,
-) -> Window
+fn window_at(ranks: &Ranks, edges: &Edges, n: usize, way: usize, k: usize, own: f32) -> Window
     requires { ⌜ (n ≤ maxPoints) × (way < 2) × (k < n) ⌝ }
     ensures { λ r. ⌜ r ≡ windowTo (viewAt n (now (ranks .entry)) [] []) (tableEdge (now (edges .entry)) way) k own 25 ⌝ }
 {
@@ -124,7 +119,7 @@ fn off_axis(sx: f32, sy: f32, ux: f32, uy: f32) -> bool
 }
 
 // How many of the way's edges have a positive length.
-fn sheet_count(edges: &[f32; EDGES_SIZE], n: usize, way: usize) -> usize
+fn sheet_count(edges: &Edges, n: usize, way: usize) -> usize
     requires { ⌜ (n ≤ maxPoints) × (way < 2) ⌝ }
     ensures { λ r. ⌜ r ≡ tally (λ (k : ℕ). lt zeroF (getD (now (edges .entry)) (edgePlace way 0 k) nan)) n ⌝ }
 {
@@ -138,7 +133,7 @@ fn sheet_count(edges: &[f32; EDGES_SIZE], n: usize, way: usize) -> usize
 }
 
 // The lengths of the way's edges.
-fn lengths_of(edges: &[f32; EDGES_SIZE], n: usize, way: usize) -> [f32; MAX_POINTS]
+fn lengths_of(edges: &Edges, n: usize, way: usize) -> Floats
     requires { ⌜ (n ≤ maxPoints) × (way < 2) ⌝ }
     ensures { λ r. ⌜ r ≡ column maxPoints nan n (λ (k : ℕ). getD (now (edges .entry)) (edgePlace way 0 k) nan) ⌝ }
 {
@@ -153,7 +148,7 @@ fn lengths_of(edges: &[f32; EDGES_SIZE], n: usize, way: usize) -> [f32; MAX_POIN
 }
 
 // The sheet's limit, taken where it is not known yet.
-fn sheet_limit(limit: Limit, edges: &[f32; EDGES_SIZE], n: usize, way: usize) -> Limit
+fn sheet_limit(limit: Limit, edges: &Edges, n: usize, way: usize) -> Limit
     requires { ⌜ (n ≤ maxPoints) × (way < 2) × Limits (tableEdge (now edges) way) n limit ⌝ }
     ensures { λ r. ⌜ (r .known ≡ true) × Limits (tableEdge (now (edges .entry)) way) n r ⌝ }
 {
@@ -178,8 +173,8 @@ fn fails_in(v: Window, ux: f32, uy: f32) -> bool
 
 // Whether the way's edge that starts at rank k fails; total of the way's edges have a positive length.
 fn fails_at(
-    ranks: &[u16; RANKS_SIZE],
-    edges: &[f32; EDGES_SIZE],
+    ranks: &Ranks,
+    edges: &Edges,
     n: usize,
     way: usize,
     k: usize,
@@ -218,14 +213,14 @@ fn fails_at(
 
 // Marks the ends of the way's edge that starts at rank k, if it fails.
 fn mark_edge(
-    ranks: &[u16; RANKS_SIZE],
-    edges: &[f32; EDGES_SIZE],
+    ranks: &Ranks,
+    edges: &Edges,
     n: usize,
     way: usize,
     k: usize,
     total: usize,
     limit: Limit,
-    mark: &mut [u8; MAX_POINTS],
+    mark: &mut Marks,
 ) -> Limit
     requires { ⌜ Asked n (now edges) way k total limit ⌝ }
     ensures { λ r. ⌜ Marked (failingEnds (viewAt n (now (ranks .entry)) [] []) (side way) (fails (viewAt n (now (ranks .entry)) [] []) (tableEdge (now (edges .entry)) way)) k) (now (mark .entry)) (now (mark .exit)) × Limits (tableEdge (now (edges .entry)) way) n r ⌝ }
@@ -244,13 +239,7 @@ fn mark_edge(
 }
 
 // Marks the ends of each of the way's edges that fails.
-pub(crate) fn mark_failing(
-    ranks: &[u16; RANKS_SIZE],
-    edges: &[f32; EDGES_SIZE],
-    n: usize,
-    way: usize,
-    mark: &mut [u8; MAX_POINTS],
-)
+pub(crate) fn mark_failing(ranks: &Ranks, edges: &Edges, n: usize, way: usize, mark: &mut Marks)
     requires { ⌜ (n ≤ maxPoints) × (way < 2) ⌝ }
     ensures { λ r. ⌜ ((xs ys : List Float) → now (edges .entry) ≡ edgesOf (viewAt n (now (ranks .entry)) xs ys) → Marked (λ (m : ℕ). ltb m n && edgeMark (viewAt n (now (ranks .entry)) xs ys) (side way) m) (now (mark .entry)) (now (mark .exit))) ⌝ }
 {

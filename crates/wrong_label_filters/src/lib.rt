@@ -2,9 +2,11 @@
 mod frontier;
 mod judged_edges;
 
-use edges::EDGES_SIZE;
+use edges::Edges;
+use view::Floats;
 use view::MAX_POINTS;
-use view::RANKS_SIZE;
+use view::Marks;
+use view::Ranks;
 ghost use mathlib.Core.Path.{_≡_};
 ghost use Rattle.view.specs.View.{viewAt};
 ghost use Rattle.wrong_label_filters.specs.WrongLabel.{wrongLabelOf};
@@ -12,13 +14,13 @@ ghost use Rattle.wrong_label_filters.specs.EdgesReady.{EdgesReady};
 
 // The wrong-label mark of each rank's index.
 pub fn topological_wrong_label_drops(
-    ranks: &[u16; RANKS_SIZE],
-    x: &[f32; MAX_POINTS],
-    y: &[f32; MAX_POINTS],
-    edges: &[f32; EDGES_SIZE],
+    ranks: &Ranks,
+    x: &Floats,
+    y: &Floats,
+    edges: &Edges,
     n: usize,
     cell: f32,
-) -> [u8; MAX_POINTS]
+) -> Marks
     requires { ⌜ EdgesReady n (now ranks) (now x) (now y) (now edges) ⌝ }
     ensures { λ r. ⌜ r ≡ wrongLabelOf (viewAt n (now (ranks .entry)) (now (x .entry)) (now (y .entry))) cell ⌝ }
 {

@@ -8,11 +8,8 @@ use Rattle.listing.proofs.put_head.Tie as tie
 returns : tie.Need-returns
 unfolding headText
 returns c =
-    let e = c .before .before in
-    let d = e .before .before .before .before in
-    let b = d .before .before .before .before in
-    let a = b .before .before .before .before .before in
-    let start = a .before .before .before .before in
+    let e = c .before .before in let d = e .before .before .before .before in let b = d .before .before .before .before in
+    let a = b .before .before .before .before .before in let start = a .before .before .before .before in
     stored-then (stored-then (stored-then (stored-then (start .put-text .ensures) (a .put-decimal .ensures)) (b .put-text2 .ensures)) (d .put-decimal2 .ensures)) (e .put-byte .ensures)
 
 pub put-head-spec : {M : Type 1} → statement M

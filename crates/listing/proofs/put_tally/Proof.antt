@@ -8,9 +8,7 @@ use Rattle.listing.proofs.put_tally.Tie as tie
 returns : tie.Need-returns
 unfolding tallyText
 returns c =
-    let d = c .before .before in
-    let b = d .before .before .before .before in
-    let a = b .before .before .before .before in
+    let d = c .before .before in let b = d .before .before .before .before in let a = b .before .before .before .before in
     let start = a .before .before .before .before .before in
     stored-then (stored-then (stored-then (start .put-text .ensures) (a .put-decimal .ensures)) (b .put-counts .ensures)) (d .put-byte .ensures)
 

@@ -8,9 +8,7 @@ use Rattle.listing.proofs.write_refusal.Tie as tie
 returns : tie.Need-returns
 unfolding refusalOf
 returns c =
-    let d = c .before .before .before in
-    let b = d .before .before .before .before in
-    let start = b .before .before .before .before in
+    let d = c .before .before .before in let b = d .before .before .before .before in let start = b .before .before .before .before in
     shows (stored-then (stored-then (start .put-text .ensures) (b .put-decimal .ensures)) (d .put-byte .ensures)) (c .answer .ensures)
 
 pub write-refusal-spec : {M : Type 1} → statement M
