@@ -13,14 +13,18 @@ use files::{Form, Load, LONGEST_BUFFER, LONGEST_FILE};
 use std::hint::black_box;
 use std::ops::Range;
 use std::sync::atomic::{AtomicUsize, Ordering};
+use std::sync::OnceLock;
 use std::time::{Duration, Instant};
 
 /// A call that takes more processor time fails: 50 ms, and what this processor takes longer for the
 /// subnormal products of the dearest sheets, two for each pair of points that share an x.
 fn limit() -> Duration {
-    let pairs = (MAX_POINTS * MAX_POINTS / 2) as u32;
-    let extra = product(1e-20).saturating_sub(product(1e-10));
-    Duration::from_millis(50) + 2 * pairs * extra / PRODUCTS
+    static LIMIT: OnceLock<Duration> = OnceLock::new();
+    *LIMIT.get_or_init(|| {
+        let pairs = (MAX_POINTS * MAX_POINTS / 2) as u32;
+        let extra = product(1e-20).saturating_sub(product(1e-10));
+        Duration::from_millis(50) + 2 * pairs * extra / PRODUCTS
+    })
 }
 
 const PRODUCTS: u32 = 1 << 16;

@@ -19,7 +19,7 @@ pub const FAULTS: [&str; 14] = [
     "counts a component too many",
     "changes a row",
     "answers as in the call before",
-    "takes 60 ms",
+    "takes 10 ms more than the limit",
     "takes 400 KB more of the stack",
 ];
 
@@ -54,7 +54,7 @@ pub unsafe extern "C" fn call(
         11 => return BEFORE.swap(returned as usize, Ordering::Relaxed) as u64,
         12 => {
             let start = processor();
-            while processor() - start < Duration::from_millis(60) {}
+            while processor() - start < super::limit() + Duration::from_millis(10) {}
         }
         13 => return deep(keep, file, file_len, rows, rows_len),
         _ => {}
