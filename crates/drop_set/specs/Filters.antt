@@ -36,8 +36,8 @@ module _ (s : Settings) (w : View) where
 
   -- ---- and those that go by what these leave
 
-  -- "A survivor is a point whose index gets no mark under these rules other than the component mark": one whose byte is 0. Of the others,
-  -- "smaller patches are marked"; with the largest-patch switch off, none.
+  -- "A survivor is a point whose index gets no mark under these rules other than the component mark": one whose byte is 0. Of the survivors'
+  -- patches the "smaller patches are marked"; with the largest-patch switch off, none.
   abbrev pub componentMarked : List ℕ → ℕ → Bool
   componentMarked marks = let c = filterOf w (sidesOf s) marks .marks in λ k. s .«apply_largest_component» && isSet c k
 
