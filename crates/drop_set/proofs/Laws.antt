@@ -2,9 +2,10 @@
 use mathlib.Core.Path.{_≡_, refl, sym, ap, _∙_}
 use mathlib.Core.Bool.{Bool, true, false, cond, _&&_}
 use mathlib.Core.List.{List, []}
-use Prim.Native.Nat.{ℕ, _≤_}
+use Prim.Native.Nat.{ℕ, _≤_, _<_}
 use lib.Dec.{eqb}
 use lib.ListN.{getD, replicate}
+use lib.Ieee.{Float}
 use native.Mathlib.Omega.{arith}
 use Rattle.folds.specs.Below.{tally}
 use Rattle.folds.proofs.Below.{tally-le}
@@ -19,13 +20,19 @@ use Rattle.marks.specs.Marks.{isSet}
 use Rattle.marks.specs.Byte.{markedBy, markedByAll}
 use Rattle.marks.proofs.Guards.{set-is}
 use Rattle.marks.proofs.Byte.{by-same}
-use Rattle.validate.specs.Validate.{validateMark, validateMarks, validatedOf}
+use Rattle.edge_shape.specs.Figures.{noFigures}
+use Rattle.edge_shape.specs.declared.Figures.{Figures}
+use Rattle.validate.specs.Validate.{gateFigures, figuresOf, validateMark, validateMarks}
+use Rattle.validate.specs.Parts.{validatedOf}
 use Rattle.orientation.specs.Orientation.{orientationMark, orientationOf}
 use Rattle.wrong_label_filters.specs.WrongLabel.{wrongLabelMark, wrongLabelOf}
 use Rattle.components.specs.Components.{filterOf, patchCount}
 use Rattle.patches.specs.Patches.{patchLabels}
 use Rattle.components.specs.declared.ComponentFilter.{ComponentFilter}
-use Rattle.judged.specs.declared.Judged.{Judged}
+use Rattle.judged.specs.declared.Findings.{Findings}
+use Rattle.judged.specs.Columns.{reasonFrom, figuresIn}
+use Rattle.judged.proofs.Columns.{reason-read}
+use Rattle.judged.specs.Judged.{Judged, judgedFrom}
 use Rattle.drop_set.specs.declared.DropSet.{DropSet}
 use Rattle.drop_set.specs.Filters.{sidesOf, wrongMark, componentMarked, componentsIn, patchedOf, pointMarks, measuredOf, judgedOf}
 use Rattle.drop_set.specs.Given.{Joined}
@@ -57,22 +64,32 @@ module _ (s : Settings) (w : View) where
       ∙ ap (markedBy n wrong (isSet r)) (by-same n orientation (isSet o) (orientationMark w) (markedBy n validate (validateMark s w cell) []) (set-is maxPoints n (orientationMark w) o eo))
       ∙ by-same n wrong (isSet r) (wrongMark s w) (markedBy n orientation (orientationMark w) (markedBy n validate (validateMark s w cell) [])) (set-is maxPoints n (wrongMark s w) r er)
 
-  pub marks-of : (cell : ℕ → Cell) {v : Judged} → v ≡ validatedOf s w cell → v .marks ≡ validateMarks s w cell
+  -- the table has the edge reasons
+  pub reasons-read : (counts : List ℕ) (measures : List Float) → figuresIn counts measures ≡ gateFigures (s .«edge_shape») w → w .count ≤ maxPoints
+      → (k : ℕ) → k < w .count → reasonFrom counts k ≡ getD (figuresOf s w) k noFigures .reason
+  unfolding figuresOf
+  reasons-read counts measures e h k l =
+      sym (reason-read counts measures k (omega arith)) ∙ ap (λ (f : List Figures). getD f k noFigures .reason) e
+
+  pub marks-of : (cell : ℕ → Cell) {v : Findings} → v ≡ validatedOf s w cell → v .marks ≡ validateMarks s w cell
   unfolding validatedOf
-  marks-of cell e = ap (λ (x : Judged). x .marks) e
+  marks-of cell e = ap (λ (x : Findings). x .marks) e
 
   -- as one step
-  measuredBy : List ℕ → Judged → Judged
-  measuredBy l x = record { marks = l; components = x .components; has = x .has; value = x .value; figures = x .figures; boundary = x .boundary }
+  measuredBy : List ℕ → Findings → List Figures → Judged
+  measuredBy l x g = record { marks = l; components = x .components; has = x .has; value = x .value; figures = g; boundary = x .boundary }
 
-  by-parts : (cell : ℕ → Cell) → measuredBy (pointMarks s w cell) (validatedOf s w cell) ≡ measuredOf s w cell
+  by-parts : (cell : ℕ → Cell) → measuredBy (pointMarks s w cell) (validatedOf s w cell) (figuresOf s w) ≡ measuredOf s w cell
   unfolding measuredOf validatedOf measuredBy
   by-parts cell = refl
 
-  pub measured-is : (cell : ℕ → Cell) {v : Judged} {m : List ℕ} → v ≡ validatedOf s w cell → m ≡ pointMarks s w cell
-      → _≡_ {A = Judged} (record { marks = m; components = v .components; has = v .has; value = v .value; figures = v .figures; boundary = v .boundary }) (measuredOf s w cell)
-  unfolding measuredBy
-  measured-is cell {v} {m} e f = ap (measuredBy m) e ∙ ap (λ (l : List ℕ). measuredBy l (validatedOf s w cell)) f ∙ by-parts cell
+  pub measured-is : (cell : ℕ → Cell) (counts : List ℕ) (measures : List Float) {v : Findings} {m : List ℕ}
+      → v ≡ validatedOf s w cell → m ≡ pointMarks s w cell → figuresIn counts measures ≡ gateFigures (s .«edge_shape») w
+      → judgedFrom (record { marks = m; components = v .components; has = v .has; value = v .value; boundary = v .boundary }) counts measures ≡ measuredOf s w cell
+  unfolding measuredBy judgedFrom figuresOf
+  measured-is cell counts measures {v} {m} e f g =
+      ap (λ (x : Findings). measuredBy m x (figuresIn counts measures)) e ∙ ap (λ (l : List ℕ). measuredBy l (validatedOf s w cell) (figuresIn counts measures)) f
+      ∙ ap (measuredBy (pointMarks s w cell) (validatedOf s w cell)) g ∙ by-parts cell
 
   -- ---- the second step
 
@@ -107,10 +124,11 @@ module _ (s : Settings) (w : View) where
   unfolding judgedOf judgedBy
   both-parts cell = refl
 
-  pub judged-is : (cell : ℕ → Cell) {m : Judged} {d : DropSet} → m ≡ measuredOf s w cell → d ≡ patchedOf s w (m .marks)
-      → _≡_ {A = Judged} (record { marks = d .marks; components = d .components; has = m .has; value = m .value; figures = m .figures; boundary = m .boundary }) (judgedOf s w cell)
-  unfolding judgedBy
-  judged-is cell {m} e f = ap (judgedBy m) f ∙ ap (λ (x : Judged). judgedBy x (patchedOf s w (x .marks))) e ∙ both-parts cell
+  pub judged-is : (cell : ℕ → Cell) (counts : List ℕ) (measures : List Float) (m : Findings) {d : DropSet} → judgedFrom m counts measures ≡ measuredOf s w cell → d ≡ patchedOf s w (m .marks)
+      → judgedFrom (record { marks = d .marks; components = d .components; has = m .has; value = m .value; boundary = m .boundary }) counts measures ≡ judgedOf s w cell
+  unfolding judgedBy judgedFrom
+  judged-is cell counts measures m e f =
+      ap (judgedBy (judgedFrom m counts measures)) f ∙ ap (λ (x : Judged). judgedBy x (patchedOf s w (x .marks))) e ∙ both-parts cell
 
 -- there are at most as many patches as points
 pub components-few : (s : Settings) (w : View) (marks : List ℕ) → componentsIn s w marks ≤ w .count

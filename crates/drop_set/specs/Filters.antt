@@ -13,7 +13,7 @@ use Rattle.validate.specs.Validate.{validateMark, residualsOf, figuresOf, bound
 use Rattle.orientation.specs.Orientation.{orientationMark}
 use Rattle.wrong_label_filters.specs.WrongLabel.{wrongLabelMark}
 use Rattle.components.specs.Components.{filterOf}
-use Rattle.judged.specs.declared.Judged.{Judged}
+use Rattle.judged.specs.Judged.{Judged}
 use Rattle.drop_set.specs.declared.DropSet.{DropSet}
 
 -- the offsets that join cells to patches, on a sheet with these settings

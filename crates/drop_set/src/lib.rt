@@ -2,7 +2,9 @@
 use components::ComponentFilter;
 use edges::EDGES_SIZE;
 use edges::Edges;
-use judged::Judged;
+use judged::Findings;
+use judged::figures::Counts;
+use judged::figures::Measures;
 use marks::filters;
 use sheet_file::Settings;
 use view::Floats;
@@ -22,6 +24,8 @@ ghost use Rattle.marks.specs.Filters.{validate as Validate, orientation as Orie
 ghost use Rattle.marks.specs.Marks.{isSet};
 ghost use Rattle.marks.specs.Byte.{markedBy};
 ghost use Rattle.wrong_label_filters.specs.EdgesReady.{EdgesReady};
+ghost use Rattle.judged.specs.Columns.{Blank};
+ghost use Rattle.judged.specs.Judged.{judgedFrom};
 ghost use Rattle.drop_set.specs.Given.{Celled, Joined};
 ghost use Rattle.drop_set.specs.Filters.{wrongMark, patchedOf, measuredOf, judgedOf};
 
@@ -61,14 +65,25 @@ fn point_marks(validate: &Marks, orientation: &Marks, wrong: &Marks, n: usize) -
 }
 
 // What the filters find that go by the points themselves: the judged sheet without the marks and the count of patches.
-pub fn measure(s: Settings, ranks: &Ranks, keys: &Words, x: &Floats, y: &Floats, n: usize) -> Judged
-    requires { ⌜ Celled n (now ranks) (now keys) (now x) (now y) ⌝ }
-    ensures { λ r. ⌜ r ≡ measuredOf s (viewAt n (now (ranks .entry)) (now (x .entry)) (now (y .entry))) (cellsAt (now (keys .entry))) ⌝ }
+pub fn measure(
+    s: Settings,
+    ranks: &Ranks,
+    keys: &Words,
+    x: &Floats,
+    y: &Floats,
+    n: usize,
+    counts: &mut Counts,
+    measures: &mut Measures,
+) -> Findings
+    requires { ⌜ Celled n (now ranks) (now keys) (now x) (now y) × Blank (now counts) (now measures) ⌝ }
+    ensures { λ r. ⌜ judgedFrom r (now (counts .exit)) (now (measures .exit)) ≡ measuredOf s (viewAt n (now (ranks .entry)) (now (x .entry)) (now (y .entry))) (cellsAt (now (keys .entry))) ⌝ }
 {
     let none = edges::no_edge();
     let mut edges = [none; EDGES_SIZE];
     edges::fill(ranks, x, y, n, &mut edges);
-    let mut j = validate::validate(s, ranks, keys, x, y, &edges, n);
+    let gate = s.edge_shape;
+    validate::edge_figures(gate, ranks, x, y, &edges, n, counts, measures);
+    let mut j = validate::validate(s, ranks, keys, x, y, n, counts);
     let orientation = orientation::lattice_orientation_drops(ranks, x, y, n);
     let wrong = wrong_marks(s, ranks, x, y, &edges, n);
     let validated = j.marks;
@@ -105,7 +120,7 @@ pub fn drop_patches(s: Settings, ranks: &Ranks, marks: &Marks, n: usize) -> Drop
     }
 }
 
-// The judged sheet.
+// The judged sheet, its edge figures into empty tables.
 pub fn judge<'a>(
     s: Settings,
     ranks: &Ranks,
@@ -113,11 +128,13 @@ pub fn judge<'a>(
     x: &'a Floats,
     y: &'a Floats,
     n: usize,
-) -> Judged
-    requires { ⌜ Celled n (now ranks) (now keys) (now x) (now y) ⌝ }
-    ensures { λ r. ⌜ r ≡ judgedOf s (viewAt n (now (ranks .entry)) (now (x .entry)) (now (y .entry))) (cellsAt (now (keys .entry))) ⌝ }
+    counts: &mut Counts,
+    measures: &mut Measures,
+) -> Findings
+    requires { ⌜ Celled n (now ranks) (now keys) (now x) (now y) × Blank (now counts) (now measures) ⌝ }
+    ensures { λ r. ⌜ judgedFrom r (now (counts .exit)) (now (measures .exit)) ≡ judgedOf s (viewAt n (now (ranks .entry)) (now (x .entry)) (now (y .entry))) (cellsAt (now (keys .entry))) ⌝ }
 {
-    let mut j = measure(s, ranks, keys, x, y, n);
+    let mut j = measure(s, ranks, keys, x, y, n, counts, measures);
     let measured = j.marks;
     let d = drop_patches(s, ranks, &measured, n);
     let marks = d.marks;

@@ -2,7 +2,6 @@
 use edges::Edges;
 use sheet_file::EdgeShapeParams;
 use view::Floats;
-use view::MAX_POINTS;
 use view::Ranks;
 ghost use mathlib.Core.Path.{_≡_};
 ghost use mathlib.Core.Bool.{cond};
@@ -11,7 +10,7 @@ ghost use Prim.Native.Nat.{_-_, _≤_, _<_};
 ghost use lib.Ieee.{lt};
 ghost use Rattle.view.specs.View.{viewAt, maxPoints};
 ghost use Rattle.edges.specs.Edges.{side};
-ghost use Rattle.edge_shape.specs.Figures.{compared, noted, continuationAt, shapeAt, withinGate, continuationFails, isAdjacent, isValid, notedCell, reasonOf, reasonNumber, figuresBy, figuresAt, noFigures, indexFigures};
+ghost use Rattle.edge_shape.specs.Figures.{compared, noted, continuationAt, shapeAt, withinGate, continuationFails, isAdjacent, isValid, notedCell, reasonOf, reasonNumber, figuresBy, figuresAt};
 ghost use Rattle.edge_shape.specs.Given.{WithEdges, rankFrom, sideBy, OneOrNone};
 
 // Offset (-1, -1).
@@ -296,7 +295,7 @@ fn figures_by(
 }
 
 // All figures of rank k's cell.
-fn figures_at(
+pub fn figures_at(
     g: EdgeShapeParams,
     ranks: &Ranks,
     x: &Floats,
@@ -316,40 +315,4 @@ fn figures_at(
     let c = cell_at(ranks, x, y, edges, n, view::rank_at(ranks, k, DIAGONAL));
     let d = cell_at(ranks, x, y, edges, n, view::rank_at(ranks, k, view::PREV_V));
     figures_by(g, degree, note(along_u, along_v), a, b, c, d)
-}
-
-// No figures: what a row shows without a gate, and what stands past the last rank.
-pub fn no_figures() -> Figures
-    ensures { λ r. ⌜ r ≡ noFigures ⌝ }
-{
-    Figures {
-        degree: 0,
-        adjacent: 0,
-        valid: 0,
-        continuation: Measure::Absent,
-        cells: Measure::Absent,
-        reason: Reason::NoReason,
-    }
-}
-
-// The figures of each rank's index: those of the cell that has the index's place.
-pub fn evaluate_edge_shape(
-    g: EdgeShapeParams,
-    ranks: &Ranks,
-    x: &Floats,
-    y: &Floats,
-    edges: &Edges,
-    n: usize,
-) -> [Figures; MAX_POINTS]
-    requires { ⌜ WithEdges n (now ranks) (now x) (now y) (now edges) ⌝ }
-    ensures { λ r. ⌜ r ≡ indexFigures g (viewAt n (now (ranks .entry)) (now (x .entry)) (now (y .entry))) ⌝ }
-{
-    let none = no_figures();
-    let mut out = [none; MAX_POINTS];
-    let mut k: usize = 0;
-    while k < n {
-        out[k] = figures_at(g, ranks, x, y, edges, n, view::index_of(ranks, k));
-        k += 1;
-    }
-    out
 }

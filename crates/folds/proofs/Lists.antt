@@ -7,8 +7,9 @@ use Prim.Native.Nat.{ℕ, zero, suc, _+_, _≤_, _<_}
 use native.Mathlib.Nat.{lt-suc-self, le-step}
 use native.Mathlib.Numerals.{add-one}
 use native.Mathlib.Omega.{arith}
-use lib.ListN.{length, getD, take, set, length-append}
-use lib.Seq.{length-take-le, ext-getD, take-suc, take-suc-set, getD-set-same, getD-set-other}
+use lib.ListN.{length, getD, take, set, length-append, length-set}
+use mathlib.Core.Logic.{_⊎_, inl, inr}
+use lib.Seq.{sets, length-take-le, ext-getD, take-suc, take-suc-set, getD-set-same, getD-set-other}
 use borrow.Author.Count.{below-more}
 use Rattle.folds.specs.Below.{fold, tally}
 use Rattle.folds.specs.Lists.{upFrom, listOf, listed, All, over, Gathered}
@@ -171,3 +172,20 @@ gathered-put p n l c h g e = record {
 
 pub gathered-count : (p : ℕ → Bool) (n : ℕ) (l : List ℕ) (c : ℕ) → c ≤ length l → Gathered p n l c → c ≡ tally p n
 gathered-count p n l c h g = sym (length-take-le c l h) ∙ ap length (g .held) ∙ listed-length p (λ (k : ℕ). k) n
+
+-- ---- what is read after a run of stores
+
+module _ {A : Type 0} where
+  pub stored-out : (l s : List A) (at i : ℕ) (d : A) → (i < at) ⊎ (at + length s ≤ i) → getD (sets l at s) i d ≡ getD l i d
+  stored-out l [] at i d h = refl
+  stored-out l (a ∷ s) at i d (inl h) =
+      let ne : (i ≡ at → ⊥) = λ q. omega arith in stored-out (set l at a) s (suc at) i d (inl (omega arith)) ∙ getD-set-other l at i a d ne
+  stored-out l (a ∷ s) at i d (inr h) =
+      let ne : (i ≡ at → ⊥) = λ q. omega arith in stored-out (set l at a) s (suc at) i d (inr (omega arith)) ∙ getD-set-other l at i a d ne
+
+  pub stored-in : (l s : List A) (at j : ℕ) (d : A) → at + length s ≤ length l → j < length s → getD (sets l at s) (at + j) d ≡ getD s j d
+  stored-in l [] at j d h m = absurd (omega arith)
+  stored-in l (a ∷ s) at zero d h m =
+      let z : at + 0 ≡ at = omega arith in rw z (stored-out (set l at a) s (suc at) at d (inl (omega arith)) ∙ getD-set-same l at a d (omega arith))
+  stored-in l (a ∷ s) at (suc j) d h m =
+      let w : at + suc j ≡ suc at + j = omega arith in rw w (stored-in (set l at a) s (suc at) j d (omega (arith, length-set l at a)) (omega arith))

@@ -1,1 +1,3 @@
+pub mod Columns
+pub mod Judged
 pub mod Shown

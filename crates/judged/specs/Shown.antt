@@ -7,7 +7,7 @@ use lib.ListN.{getD}
 use lib.Ieee.{Float, nan}
 use Rattle.edge_shape.specs.Figures.{noFigures}
 use Rattle.edge_shape.specs.declared.Figures.{Figures}
-use Rattle.judged.specs.declared.Judged.{Judged}
+use Rattle.judged.specs.Judged.{Judged}
 
 pub record Shown : Type 0 where
   pub marks : ℕ

@@ -28,7 +28,7 @@ use Rattle.points.specs.declared.Table.{Table}
 use Rattle.drop_set.specs.Filters.{judgedOf, measuredOf, patchedOf}
 use Rattle.drop_set.proofs.Laws.{components-few}
 use Rattle.drop_set.specs.Given.{Celled}
-use Rattle.judged.specs.declared.Judged.{Judged}
+use Rattle.judged.specs.Judged.{Judged}
 use Rattle.judging.specs.Judging.{Arrays, judgedBy, judgedFor}
 
 -- what the filters ask of the arrays of a table

@@ -9,7 +9,7 @@ use Rattle.grid.specs.Views.{viewOf}
 use Rattle.sheet_file.specs.declared.Settings.{Settings}
 use Rattle.points.specs.declared.Table.{Table}
 use Rattle.drop_set.specs.Filters.{judgedOf}
-use Rattle.judged.specs.declared.Judged.{Judged}
+use Rattle.judged.specs.Judged.{Judged}
 
 -- what the filters find of the points ps, which stand in cell order
 unfoldable pub judgedFor : Settings → List Point → Judged

@@ -16,7 +16,7 @@ use Rattle.ruling.specs.declared.Sheet.{Sheet}
 use Rattle.ruling.proofs.Given.{none-applies}
 use Rattle.ruling.proofs.Standing.{accepted-file}
 use Rattle.judged.specs.Shown.{shownAt}
-use Rattle.judged.specs.declared.Judged.{Judged}
+use Rattle.judged.specs.Judged.{Judged}
 use Rattle.judging.specs.Judging.{Arrays, judgedBy, judgedFor}
 use Rattle.judging.proofs.Sheets.{AcceptedSheet, accepted-sheet, sheet-arrays, sheet-judged, sheet-few}
 use Rattle.rows.specs.Rows.{rowSize, rowsOver}

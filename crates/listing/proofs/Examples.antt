@@ -11,7 +11,7 @@ use Rattle.folds.specs.Lists.{listOf, upFrom}
 use Rattle.cells.specs.Cell.{Cell}
 use Rattle.cells.proofs.Edges.{cellAt}
 use Rattle.judged.specs.Shown.{shownAt}
-use Rattle.judged.specs.declared.Judged.{Judged}
+use Rattle.judged.specs.Judged.{Judged}
 use Rattle.marks.specs.Byte.{firstMark}
 use Rattle.marks.specs.Tally.{countUnder, countsOf}
 use Rattle.text.specs.Text.{bytes, each, digits, decimal, whole, hex}

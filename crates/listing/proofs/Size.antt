@@ -19,7 +19,7 @@ use Rattle.text.specs.Text.{bytes, each, decimal, whole, hex, digit}
 use Rattle.cells.specs.Points.{bias, stride}
 use Rattle.cells.specs.Cell.{cellOfKey, cellsAt}
 use Rattle.judged.specs.Shown.{Shown, shownAt}
-use Rattle.judged.specs.declared.Judged.{Judged}
+use Rattle.judged.specs.Judged.{Judged}
 use Rattle.edge_shape.specs.Figures.{reasonNumber}
 use Rattle.marks.specs.Filters.{filterCount, filterAt}
 use Rattle.marks.specs.Byte.{hasMark, firstMark}

@@ -10,7 +10,7 @@ use Rattle.view.specs.View.{maxPoints}
 use Rattle.cells.specs.Cell.{Cell}
 use Rattle.edge_shape.specs.Figures.{reasonNumber}
 use Rattle.judged.specs.Shown.{Shown, shownAt}
-use Rattle.judged.specs.declared.Judged.{Judged}
+use Rattle.judged.specs.Judged.{Judged}
 use Rattle.marks.specs.Filters.{filterAt, filterCount}
 use Rattle.marks.specs.Byte.{hasMark}
 use Rattle.marks.specs.Tally.{countsOf}

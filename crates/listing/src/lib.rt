@@ -1,13 +1,15 @@
 // The text that the program `sheet` prints, into a buffer that the caller lends. What it is stands in specs/Listing.antt.
 mod line;
 
-use judged::Judged;
+use judged::Findings;
+use judged::figures::Counts;
 use marks::COUNTS;
 use marks::filters::FILTERS;
 use text::Written;
 use view::MAX_POINTS;
 use view::Words;
 ghost use mathlib.Core.Path.{_≡_};
+ghost use mathlib.Core.List.{List};
 ghost use Prim.Native.Nat.{_≤_};
 ghost use lib.ListN.{getD};
 ghost use Rattle.view.specs.View.{maxPoints};
@@ -16,6 +18,8 @@ ghost use Rattle.marks.specs.Filters.{filterCount};
 ghost use Rattle.text.specs.Answer.{Shows};
 ghost use Rattle.text.specs.Stored.{Stored};
 ghost use Rattle.text.specs.Text.{each};
+ghost use lib.Ieee.{Float};
+ghost use Rattle.judged.specs.Judged.{judgedFrom};
 ghost use Rattle.listing.specs.Listing.{headText, linesOf, tallyText, listingOf, refusalOf, listingSize, countText};
 
 // A buffer of this size has room for every listing.
@@ -39,16 +43,22 @@ fn put_head(n: usize, components: usize, out: &mut [u8], at: usize) -> usize
 }
 
 // A line for each point.
-fn put_lines(n: usize, keys: &Words, idx: &Words, j: Judged, out: &mut [u8], at: usize) -> usize
+fn put_lines(
+    n: usize,
+    keys: &Words,
+    idx: &Words,
+    j: Findings,
+    counts: &Counts,
+    out: &mut [u8],
+    at: usize,
+) -> usize
     requires { ⌜ n ≤ maxPoints ⌝ }
-    ensures { λ r. ⌜ Stored (now (out .entry)) at (linesOf (cellsAt (now (keys .entry))) (now (idx .entry)) j n) (now (out .exit)) r ⌝ }
+    ensures { λ r. ⌜ ((measures : List Float) → Stored (now (out .entry)) at (linesOf (cellsAt (now (keys .entry))) (now (idx .entry)) (judgedFrom j (now (counts .entry)) measures) n) (now (out .exit)) r) ⌝ }
 {
     let mut to = at;
     let mut k = 0;
     while k < n {
-        let f = j.figures[k];
-        let reason = f.reason;
-        let number = edge_shape::reason_number(reason);
+        let number = edge_shape::reason_number(judged::figures::reason_from(counts, k));
         let next = line::put_line(
             keys[k],
             idx[k],
@@ -88,13 +98,21 @@ fn put_tally(counts: &[usize; COUNTS], out: &mut [u8], at: usize) -> usize
     text::put_byte(b'\n', out, c)
 }
 
-// The listing of n points in cell order: the keys of their cells, their indices, and what was judged of them.
-pub fn write_listing(n: usize, keys: &Words, idx: &Words, j: Judged, out: &mut [u8]) -> Written
+// The listing of n points in cell order: the keys of their cells, their indices, and what was judged of them. Of the edge figures it shows
+// the reasons alone.
+pub fn write_listing(
+    n: usize,
+    keys: &Words,
+    idx: &Words,
+    j: Findings,
+    counts: &Counts,
+    out: &mut [u8],
+) -> Written
     requires { ⌜ n ≤ maxPoints ⌝ }
-    ensures { λ r. ⌜ Shows (listingOf n (cellsAt (now (keys .entry))) (now (idx .entry)) j) (now (out .entry)) (now (out .exit)) r ⌝ }
+    ensures { λ r. ⌜ ((measures : List Float) → Shows (listingOf n (cellsAt (now (keys .entry))) (now (idx .entry)) (judgedFrom j (now (counts .entry)) measures)) (now (out .entry)) (now (out .exit)) r) ⌝ }
 {
     let a = put_head(n, j.components, out, 0);
-    let b = put_lines(n, keys, idx, j, out, a);
+    let b = put_lines(n, keys, idx, j, counts, out, a);
     let marks = j.marks;
     let counts = marks::tally(&marks, n);
     let c = put_tally(&counts, out, b);

@@ -1,13 +1,16 @@
 // Rows: what is shown of each point, 28 bytes in cell order.
 use edge_shape::Figures;
 use edge_shape::Measure;
-use judged::Judged;
+use judged::Findings;
+use judged::figures::Counts;
+use judged::figures::Measures;
 ghost use mathlib.Core.Path.{_≡_};
 ghost use Prim.Native.Nat.{_+_, _*_, _≤_};
 ghost use lib.ListN.{length};
 ghost use lib.Seq.{sets};
 ghost use Rattle.view.specs.View.{maxPoints};
 ghost use Rattle.folds.specs.Marked.{bit};
+ghost use Rattle.judged.specs.Judged.{judgedFrom};
 ghost use Rattle.judged.specs.Shown.{residualOf, shownAt};
 ghost use Rattle.rows.specs.Rows.{littleEndian, bitsOf, isPresent, cosineOf, ratioOf, floatsOf, presence, rowOf, rowSize, rowsOver};
 
@@ -108,18 +111,17 @@ fn put_row(marks: u8, has: u8, value: f32, f: Figures, boundary: u8, rows: &mut 
 }
 
 // Writes the rows of ranks 0 to n - 1 of a judged sheet.
-pub fn write_rows(j: Judged, n: usize, rows: &mut [u8])
+pub fn write_rows(j: Findings, counts: &Counts, measures: &Measures, n: usize, rows: &mut [u8])
     requires { ⌜ (n ≤ maxPoints) × (rowSize * n ≤ length (now rows)) ⌝ }
-    ensures { λ r. ⌜ now (rows .exit) ≡ rowsOver n (shownAt j) (now (rows .entry)) ⌝ }
+    ensures { λ r. ⌜ now (rows .exit) ≡ rowsOver n (shownAt (judgedFrom j (now (counts .entry)) (now (measures .entry)))) (now (rows .entry)) ⌝ }
 {
     let mut k: usize = 0;
     while k < n {
-        let f = j.figures[k];
         put_row(
             j.marks[k],
             j.has[k],
             j.value[k],
-            f,
+            judged::figures::figures_from(counts, measures, k),
             j.boundary[k],
             rows,
             ROW_SIZE * k,

@@ -11,7 +11,7 @@ use Rattle.ruling.specs.Ruling.{Ruling, refused, accepted, rulingOf}
 use Rattle.ruling.specs.Sheet.{Ruled}
 use Rattle.ruling.specs.declared.Sheet.{Sheet}
 use Rattle.ruling.proofs.Standing.{accepted-order}
-use Rattle.judged.specs.declared.Judged.{Judged}
+use Rattle.judged.specs.Judged.{Judged}
 use Rattle.judging.specs.Judging.{Arrays, judgedBy, judgedFor}
 use Rattle.judging.proofs.Sheets.{AcceptedSheet, accepted-sheet, sheet-arrays, sheet-judged, sheet-few}
 use Rattle.listing.specs.Listing.{listingOf, refusalOf}

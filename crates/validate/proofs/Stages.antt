@@ -1,5 +1,5 @@
 -- The stages of `validate`, one after the other: what the code makes of each is what the definitions say. Assumes nothing.
-use mathlib.Core.Path.{_≡_, refl, ap}
+use mathlib.Core.Path.{_≡_, refl, ap, _∙_}
 use mathlib.Core.Bool.{Bool, _||_}
 use mathlib.Core.List.{List}
 use Prim.Native.Nat.{ℕ, _≤_, _<_}
@@ -24,11 +24,14 @@ use Rattle.residuals.specs.declared.Residuals.{Residuals}
 use Rattle.blame.specs.Marks.{evidenceBy, isMarked, blameMarks}
 use Rattle.edge_shape.specs.Figures.{noFigures, indexFigures}
 use Rattle.edge_shape.specs.declared.Figures.{Figures}
+use Rattle.edge_shape.specs.declared.Reason.{Reason}
 use Rattle.patches.specs.Boxes.{boundaryOf}
 use Rattle.validate.specs.declared.ByRules.{ByRules}
-use Rattle.judged.specs.declared.Judged.{Judged}
-use Rattle.validate.specs.Validate.{stepsOf, scalesOf, flagsOf, residualsOf, deviationsOf, evidenceOf, gateFigures, gateBoundary, figuresOf, boundaryIn, hasReason, validateMark, validateMarks, validatedOf}
-use Rattle.validate.specs.Parts.{byRulesOf}
+use Rattle.judged.specs.declared.Findings.{Findings}
+use Rattle.judged.specs.Columns.{Blank, reasonFrom, figuresIn}
+use Rattle.judged.proofs.Columns.{blank-in}
+use Rattle.validate.specs.Validate.{stepsOf, scalesOf, flagsOf, residualsOf, deviationsOf, evidenceOf, gateFigures, gateBoundary, figuresOf, boundaryIn, isReason, validateMark, validateMarks}
+use Rattle.validate.specs.Parts.{byRulesOf, validatedOf}
 
 module _ (s : Settings) (w : View) (cell : ℕ → Cell) where
   -- rules 1 to 4
@@ -49,12 +52,19 @@ module _ (s : Settings) (w : View) (cell : ℕ → Cell) where
   marked-is k l = set-is maxPoints (w .count) (λ (j : ℕ). isMarked w (evidenceOf s w cell) (w .byIdx j)) (blameMarks w (evidenceOf s w cell)) refl k l
 
   -- with rule 5
-  pub all-are : {r : ByRules} {figures : List Figures} {boundary marks : List ℕ} → r ≡ byRulesOf s w cell → figures ≡ gateFigures (s .«edge_shape») w → boundary ≡ gateBoundary (s .«edge_shape») w cell
-      → marks ≡ column maxPoints 0 (w .count) (λ (k : ℕ). bit (isSet (r .marks) k || hasReason figures k))
-      → _≡_ {A = Judged} (record { marks = marks; components = 0; has = r .has; value = r .value; figures = figures; boundary = boundary }) (validatedOf s w cell)
-  unfolding validatedOf validateMarks validateMark figuresOf boundaryIn
-  all-are e f g h =
-      rw (h, e, f, g, column-ext maxPoints 0 (w .count) _ _ (λ k l. ap (λ (b : Bool). bit (b || hasReason (gateFigures (s .«edge_shape») w) k)) (marked-is k l)))
+  pub all-are : (counts : List ℕ) {r : ByRules} {boundary marks : List ℕ} → r ≡ byRulesOf s w cell
+      → ((k : ℕ) → k < w .count → reasonFrom counts k ≡ getD (figuresOf s w) k noFigures .reason) → boundary ≡ gateBoundary (s .«edge_shape») w cell
+      → marks ≡ column maxPoints 0 (w .count) (λ (k : ℕ). bit (isSet (r .marks) k || isReason (reasonFrom counts k)))
+      → _≡_ {A = Findings} (record { marks = marks; components = 0; has = r .has; value = r .value; boundary = boundary }) (validatedOf s w cell)
+  unfolding validatedOf validateMarks validateMark boundaryIn
+  all-are counts e f g h =
+      rw (
+        h,
+        e,
+        g,
+        column-ext maxPoints 0 (w .count) _ _ (λ k l. ap (λ (b : Bool). bit (b || isReason (reasonFrom counts k))) (marked-is k l)
+            ∙ ap (λ (t : Reason). bit (isMarked w (evidenceOf s w cell) (w .byIdx k) || isReason t)) (f k l)),
+      )
 
 -- ---- with and without a gate
 
@@ -62,8 +72,8 @@ blank : {A : Type 0} (d : A) (n : ℕ) → n ≤ maxPoints → replicate maxPoin
 blank d n h = filled n h (record { long = refl; done = λ k l. replicate-at maxPoints d k; left = λ k l. refl })
 
 module _ (w : View) {gate : EdgeGate} where
-  pub off-figures : {none : Figures} → gate ≡ Off → w .count ≤ maxPoints → none ≡ noFigures → replicate maxPoints none ≡ gateFigures gate w
-  off-figures e h p = rw (e, p, blank noFigures (w .count) h)
+  pub off-figures : {counts : List ℕ} {measures : List Float} → gate ≡ Off → w .count ≤ maxPoints → Blank counts measures → figuresIn counts measures ≡ gateFigures gate w
+  off-figures e h b = rw e (blank-in (w .count) h b)
 
   pub on-figures : (g : EdgeShapeParams) {figures : List Figures} → gate ≡ On g → figures ≡ indexFigures g w → figures ≡ gateFigures gate w
   on-figures g e f = rw (e, f)

@@ -23,7 +23,6 @@ use Rattle.edge_shape.specs.Figures.{noFigures, indexFigures, reasonNumber}
 use Rattle.edge_shape.specs.declared.Figures.{Figures}
 use Rattle.edge_shape.specs.declared.Reason.{Reason}
 use Rattle.patches.specs.Boxes.{boundaryOf}
-use Rattle.judged.specs.declared.Judged.{Judged}
 
 -- the edge figures of each rank's index. "Absent means no edge-shape gate."
 abbrev pub gateFigures : EdgeGate → View → List Figures
@@ -91,15 +90,3 @@ module _ (s : Settings) (w : View) where
 
     unfoldable pub validateMarks : List ℕ
     validateMarks = column maxPoints 0 (w .count) (λ (k : ℕ). bit (validateMark k))
-
-    -- all of it
-    unfoldable pub validatedOf : Judged
-    validatedOf =
-        record {
-          marks = validateMarks;
-          components = 0;
-          has = residualsOf .has;
-          value = residualsOf .value;
-          figures = figuresOf;
-          boundary = boundaryIn;
-        }

@@ -1,8 +1,9 @@
 // The validate mark of each index, its residual and its edge figures: rules 1 to 5 over lines, residuals, steps and edge shapes.
-use edge_shape::Figures;
 use edge_shape::Reason;
 use edges::Edges;
-use judged::Judged;
+use judged::Findings;
+use judged::figures::Counts;
+use judged::figures::Measures;
 use sheet_file::EdgeGate;
 use sheet_file::Settings;
 use view::Floats;
@@ -23,8 +24,9 @@ ghost use Rattle.view.specs.View.{viewAt, maxPoints, Ranked};
 ghost use Rattle.cells.specs.Cell.{cellsAt};
 ghost use Rattle.edge_shape.specs.Given.{WithEdges};
 ghost use Rattle.patches.specs.Boxes.{CellKeys};
-ghost use Rattle.validate.specs.Validate.{isReason, hasReason, gateFigures, gateBoundary, validatedOf};
-ghost use Rattle.validate.specs.Parts.{Prepared, byRulesOf};
+ghost use Rattle.judged.specs.Columns.{Blank, reasonFrom, figuresIn};
+ghost use Rattle.validate.specs.Validate.{isReason, gateFigures, gateBoundary};
+ghost use Rattle.validate.specs.Parts.{Prepared, byRulesOf, validatedOf};
 
 // What rules 1 to 4 give: the mark of each rank's index, and its residual, if it has one.
 struct ByRules {
@@ -51,24 +53,25 @@ fn by_rules(s: Settings, ranks: &Ranks, keys: &Words, x: &Floats, y: &Floats, n:
     ByRules { marks, has, value }
 }
 
-// The figures of each rank's index; blank without a gate.
-fn figures_by(
+// The edge figures of each rank's index, into empty tables; none without a gate.
+pub fn edge_figures(
     gate: EdgeGate,
     ranks: &Ranks,
     x: &Floats,
     y: &Floats,
     edges: &Edges,
     n: usize,
-) -> [Figures; MAX_POINTS]
-    requires { ⌜ WithEdges n (now ranks) (now x) (now y) (now edges) ⌝ }
-    ensures { λ r. ⌜ r ≡ gateFigures gate (viewAt n (now (ranks .entry)) (now (x .entry)) (now (y .entry))) ⌝ }
+    counts: &mut Counts,
+    measures: &mut Measures,
+)
+    requires { ⌜ WithEdges n (now ranks) (now x) (now y) (now edges) × Blank (now counts) (now measures) ⌝ }
+    ensures { λ r. ⌜ figuresIn (now (counts .exit)) (now (measures .exit)) ≡ gateFigures gate (viewAt n (now (ranks .entry)) (now (x .entry)) (now (y .entry))) ⌝ }
 {
     match gate {
-        EdgeGate::Off => {
-            let none = edge_shape::no_figures();
-            [none; MAX_POINTS]
+        EdgeGate::Off => {}
+        EdgeGate::On(g) => {
+            judged::figures::evaluate_edge_shape(g, ranks, x, y, edges, n, counts, measures);
         }
-        EdgeGate::On(g) => edge_shape::evaluate_edge_shape(g, ranks, x, y, edges, n),
     }
 }
 
@@ -101,32 +104,31 @@ fn mark_with(marked: u8, reason: Reason) -> u8
 }
 
 // Rule 5, beside the others.
-fn with_reasons(mark: &Marks, figures: [Figures; MAX_POINTS], n: usize) -> Marks
+fn with_reasons(mark: &Marks, counts: &Counts, n: usize) -> Marks
     requires { ⌜ n ≤ maxPoints ⌝ }
-    ensures { λ r. ⌜ r ≡ column maxPoints 0 n (λ (k : ℕ). bit (isSet (now (mark .entry)) k || hasReason figures k)) ⌝ }
+    ensures { λ r. ⌜ r ≡ column maxPoints 0 n (λ (k : ℕ). bit (isSet (now (mark .entry)) k || isReason (reasonFrom (now (counts .entry)) k))) ⌝ }
 {
     let mut out = [0u8; MAX_POINTS];
     let mut k: usize = 0;
     while k < n {
-        let f = figures[k];
-        let reason = f.reason;
-        out[k] = mark_with(mark[k], reason);
+        out[k] = mark_with(mark[k], judged::figures::reason_from(counts, k));
         k += 1;
     }
     out
 }
 
-// For each rank the validate mark of its index, which is 0 or 1, the residual and the edge figures: a judged sheet as far as it goes by these.
+// For each rank the validate mark of its index, which is 0 or 1, and the residual: a judged sheet as far as it goes by these. The table of
+// counts has the edge reasons.
 pub fn validate(
     s: Settings,
     ranks: &Ranks,
     keys: &Words,
     x: &Floats,
     y: &Floats,
-    edges: &Edges,
     n: usize,
-) -> Judged
-    requires { ⌜ Prepared n (now ranks) (now keys) (now x) (now y) (now edges) ⌝ }
+    counts: &Counts,
+) -> Findings
+    requires { ⌜ Prepared s n (now ranks) (now keys) (now x) (now y) (now counts) ⌝ }
     ensures { λ r. ⌜ r ≡ validatedOf s (viewAt n (now (ranks .entry)) (now (x .entry)) (now (y .entry))) (cellsAt (now (keys .entry))) ⌝ }
 {
     let gate = s.edge_shape;
@@ -134,16 +136,11 @@ pub fn validate(
     let ruled = r.marks;
     let has = r.has;
     let value = r.value;
-    let mut j = Judged {
-        marks: [0; MAX_POINTS],
+    Findings {
+        marks: with_reasons(&ruled, counts, n),
         components: 0,
         has,
         value,
-        figures: figures_by(gate, ranks, x, y, edges, n),
         boundary: boundary_by(gate, ranks, keys, n),
-    };
-    let figures = j.figures;
-    let marks = with_reasons(&ruled, figures, n);
-    j.marks = marks;
-    j
+    }
 }

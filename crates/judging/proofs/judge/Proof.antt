@@ -6,17 +6,16 @@ use Rattle.judging.proofs.judge.Statement.{statement}
 use Rattle.judging.proofs.judge.Tie as tie
 
 fill-requires : tie.Need-fill-requires
-fill-requires c κs = (c .before .before .before .before .pre .keys, refl)
+fill-requires c κs = (c .before .before .before .before .pre .0 .keys, refl)
 
 judge-requires : tie.Need-judge-requires
 judge-requires c κs =
-    let f = c .before .before .before .before .before in
+    let f = c .before .before .before .before .before .before .before in
     let a = f .before .before .before .before .before in
-    celled (a .args .n) (a .args .t3) (a .pre) (f .fill .ensures)
+    (celled (a .args .n) (a .args .t3) (a .pre .0) (f .fill .ensures), a .pre .1)
 
 returns : tie.Need-returns
-returns c = c .judge .ensures ∙ rw (c .before .before .before .before .before .before .fill .ensures)
+returns c = c .judge .ensures ∙ rw (c .before .before .before .before .before .before .before .before .fill .ensures)
 
 pub judge-spec : {M : Type 1} → statement M
-judge-spec = tie.close
-    (tie.spec fill-requires judge-requires returns)
+judge-spec = tie.close (tie.spec fill-requires judge-requires returns)

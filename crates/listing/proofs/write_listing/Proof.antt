@@ -1,4 +1,5 @@
 -- `listing::write_listing` meets its contract. Assumes nothing.
+use Rattle.judged.specs.Judged.{judgedFrom}
 use Rattle.listing.specs.Listing.{listingOf}
 use Rattle.text.proofs.Stores.{stored-then, shows}
 use borrow.Author.Needs.{needs}
@@ -6,13 +7,13 @@ use Rattle.listing.proofs.write_listing.Statement.{statement}
 use Rattle.listing.proofs.write_listing.Tie as tie
 
 returns : tie.Need-returns
-unfolding listingOf
-returns c =
+unfolding listingOf judgedFrom
+returns c measures =
     let e = c .before .before .before in
     let counts = e .before .before .before in
     let b = counts .before .before .before .before .before in
     let a = b .before .before .before .before in
-    shows (stored-then (stored-then (a .put-head .ensures) (b .put-lines .ensures)) (rw (counts .tally .ensures) at (e .put-tally .ensures))) (c .answer .ensures)
+    shows (stored-then (stored-then (a .put-head .ensures) (b .put-lines .ensures measures)) (rw (counts .tally .ensures) at (e .put-tally .ensures))) (c .answer .ensures)
 
 pub write-listing-spec : {M : Type 1} → statement M
 write-listing-spec =

@@ -5,7 +5,9 @@ use native.Mathlib.Omega.{arith}
 use lib.ListN.{length}
 use Rattle.folds.specs.Column.{Filling}
 use Rattle.folds.proofs.Column.{fill-start, filled-over}
+use Rattle.judged.specs.Judged.{judgedFrom}
 use Rattle.judged.specs.Shown.{shownAt}
+use Rattle.judged.proofs.Shown.{shown-is}
 use Rattle.rows.specs.Rows.{rowSize, rowByte, rowsOver}
 use Rattle.rows.proofs.Laws.{fill-row}
 use borrow.Author.Needs.{needs}
@@ -13,10 +15,10 @@ use Rattle.rows.proofs.write_rows.Statement.{statement}
 use Rattle.rows.proofs.write_rows.Tie as tie
 
 abbrev Inv-loop : tie.InvT-loop
-Inv-loop n rows₀ j k₀ rows k = (k ≤ n) × Filling rows₀ 0 (rowByte (shownAt j)) (rowSize * k) rows
+Inv-loop counts measures n rows₀ j k₀ rows k = (k ≤ n) × Filling rows₀ 0 (rowByte (shownAt (judgedFrom j counts measures))) (rowSize * k) rows
 
 abbrev μ-loop : tie.MeasureT-loop
-μ-loop n rows₀ j k₀ rows k = n - k
+μ-loop counts measures n rows₀ j k₀ rows k = n - k
 
 -- there is room for the row
 room : (c : tie.In-loop Inv-loop μ-loop) {n : ℕ} → n ≡ length (c .before .before .before .args .rows .now) → rowSize * c .before .loop .k + rowSize ≤ n
@@ -29,11 +31,14 @@ put-row-requires : tie.Need-put-row-requires Inv-loop μ-loop
 put-row-requires c κs = let l = c .before .before .before .before .before .before .before in room (c .before .before .before .before .before .before) (l .loop .inv .1 .long)
 
 loop-again : tie.Need-loop-again Inv-loop μ-loop
-unfolding shownAt
 loop-again c =
-    let l = c .before .before .before .before .before .before .before .before .before .before in
-    let a = l .before .before .args in
-    (omega arith, fill-row (a .rows .now) (shownAt (a .t1)) (l .loop .k) refl (c .before .before .put-row .ensures) (room (c .before .before .before .before .before .before .before .before .before) refl) (l .loop .inv .1))
+    let g = c .before .before .before .before .before in
+    let l = g .before .before .before .before .before in
+    let a = l .before .before .args in (
+      omega arith,
+      fill-row (a .rows .now) _ (l .loop .k) (shown-is (a .t1) (a .counts .now) (a .measures .now) (l .loop .k) (omega (arith, l .before .before .pre .0)) (g .figures-from .ensures))
+          (c .before .before .put-row .ensures) (room (g .before .before .before .before) refl) (l .loop .inv .1),
+    )
 
 same-length : tie.Need-same-length Inv-loop μ-loop
 same-length c = c .before .loop .inv .1 .long
@@ -45,6 +50,5 @@ returns c = let e : c .before .loop .k ≡ c .before .before .before .args .n = 
 pub write-rows-spec : {M : Type 1} → statement M
 write-rows-spec =
     tie.close
-    (tie.spec Inv-loop μ-loop loop-holds (λ c. search needs) (λ c. search needs) (λ c. search needs) (λ c. search needs) (λ c. search needs)
-    (λ c. search needs) (λ c. search needs) (λ c. search needs) put-row-requires (λ c. search needs) (λ c. search needs) loop-again
-    same-length returns)
+    (tie.spec Inv-loop μ-loop loop-holds (λ c. search needs) (λ c. search needs) (λ c. search needs) (λ c. search needs) (λ c κs. search needs)
+    (λ c. search needs) (λ c. search needs) put-row-requires (λ c. search needs) (λ c. search needs) loop-again same-length returns)

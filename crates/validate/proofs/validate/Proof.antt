@@ -8,14 +8,12 @@ use Rattle.validate.proofs.validate.Tie as tie
 
 returns : tie.Need-returns
 returns c =
-    let b = c .before .before .before in
-    let f = b .before in
-    let r = f .before .before .before .before in
-    let a = r .before .args in
-    all-are (a .s) (viewAt (a .n) (a .ranks .now) (a .x .now) (a .y .now)) (cellsAt (a .keys .now)) (r .by-rules .ensures) (f .figures-by .ensures)
-    (b .boundary-by .ensures (a .x .now) (a .y .now)) (c .with-reasons .ensures)
+    let w = c .before in
+    let r = w .before .before .before .before .before in
+    let s = r .before in
+    let a = s .args in
+    all-are (a .s) (viewAt (a .n) (a .ranks .now) (a .x .now) (a .y .now)) (cellsAt (a .keys .now)) (a .counts .now) (r .by-rules .ensures) (s .pre .reasons)
+    (c .boundary-by .ensures (a .x .now) (a .y .now)) (w .with-reasons .ensures)
 
 pub validate-spec : {M : Type 1} → statement M
-validate-spec =
-    tie.close
-    (tie.spec (λ c κs. search needs) (λ c κs. search needs) (λ c κs. search needs) (λ c κs. search needs) returns)
+validate-spec = tie.close (tie.spec (λ c κs. search needs) (λ c κs. search needs) (λ c κs. search needs) returns)

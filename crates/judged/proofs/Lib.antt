@@ -1,0 +1,2 @@
+pub mod Columns
+pub mod Shown
