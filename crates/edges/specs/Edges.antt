@@ -2,20 +2,17 @@
 -- by one in u and agree in v, or the other way round"; an edge in the direction nextU or nextV leads to the neighbour there.
 -- Assumes nothing.
 use mathlib.Core.Bool.{cond}
-use mathlib.Core.List.{List, [], _∷_, _++_}
-use Prim.Native.Nat.{ℕ, _+_, _*_}
-use lib.Dec.{eqb}
-use lib.ListN.{getD, replicate}
+use mathlib.Core.List.{List}
+use Prim.Native.Nat.{ℕ, _+_, _*_, _/_, _%_}
+use lib.Dec.{eqb, ltb}
+use lib.ListN.{replicate}
 use lib.Ieee.{Float, nan, sub, div, ofBits}
 use Rattle.folds.specs.Arith.{_⊖_, _⊘_, zeroF}
-use Rattle.folds.specs.Column.{column, Filling}
+use Rattle.folds.specs.Column.{Filling}
+use Rattle.folds.specs.Lists.{listOf}
 use Rattle.float.specs.Scalar.{normOf}
 use Rattle.view.specs.View.{maxPoints, View, rankAt, present, nextU, nextV}
-
-pub record Edge : Type 0 where
-  pub len : Float
-  pub ux : Float
-  pub uy : Float
+use Rattle.edges.specs.declared.Edge.{Edge}
 
 -- the edge along (dx, dy); its unit vector means something only where the length is above 0
 unfoldable pub edgeBy : Float → Float → Edge
@@ -39,32 +36,29 @@ edgeAt w o k =
 abbrev pub side : ℕ → ℕ
 side way = cond (eqb way 0) nextU nextV
 
--- lists one after the other
-unfoldable pub chained : List (List Float) → List Float
-chained [] = []
-chained (l ∷ ls) = l ++ chained ls
+-- a part of an edge: its length, then the parts of its unit vector
+abbrev pub partOf : ℕ → Edge → Float
+partOf p e = cond (eqb p 0) (e .len) (cond (eqb p 1) (e .ux) (e .uy))
 
--- one part of the edges of all ranks
-abbrev pub edgeColumn : View → ℕ → (Edge → Float) → List Float
-edgeColumn w o part = column maxPoints nan (w .count) (λ (k : ℕ). part (edgeAt w o k))
-
--- lengths and unit vectors along u, then along v
-abbrev pub edgeColumns : View → List (List Float)
-edgeColumns w =
-    edgeColumn w nextU (λ e. e .len) ∷ edgeColumn w nextU (λ e. e .ux) ∷ edgeColumn w nextU (λ e. e .uy)
-    ∷ edgeColumn w nextV (λ e. e .len) ∷ edgeColumn w nextV (λ e. e .ux) ∷ edgeColumn w nextV (λ e. e .uy) ∷ []
-
-unfoldable pub edgesOf : View → List Float
-unfolding chained column edgeAt
-edgesOf w = chained (edgeColumns w)
-
+-- the edges along u, then those along v, each as its three parts
 abbrev pub edgesSize : ℕ
 edgesSize = 6 * maxPoints
 
 -- where the table has a way's length (part 0) and the parts of its unit vector (1 along x, 2 along y) at rank k
 abbrev pub edgePlace : ℕ → ℕ → ℕ → ℕ
-edgePlace way part k = maxPoints * (3 * way + part) + k
+edgePlace way part k = 3 * (maxPoints * way + k) + part
+
+-- at place i: nothing past the last rank
+unfoldable pub entryAt : View → ℕ → Float
+unfolding edgeAt
+entryAt w i =
+    let k = i / 3 % maxPoints in
+    cond (ltb k (w .count)) (partOf (i % 3) (edgeAt w (side (i / 3 / maxPoints)) k)) nan
+
+unfoldable pub edgesOf : View → List Float
+unfolding entryAt listOf
+edgesOf w = listOf edgesSize (entryAt w)
 
 -- the table, filled up to place i
 abbrev pub FilledTo : View → ℕ → List Float → Type 0
-FilledTo w i l = Filling (replicate edgesSize nan) nan (λ (j : ℕ). getD (edgesOf w) j nan) i l
+FilledTo w i l = Filling (replicate edgesSize nan) nan (entryAt w) i l

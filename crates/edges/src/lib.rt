@@ -9,12 +9,19 @@ ghost use Prim.Native.Nat.{_+_, _*_, _≤_, _<_};
 ghost use lib.ListN.{getD, replicate};
 ghost use lib.Ieee.{nan};
 ghost use Rattle.view.specs.View.{maxPoints, viewAt};
-ghost use Rattle.edges.specs.Edges.{edgesSize, side, edgesOf, edgePlace, FilledTo};
+ghost use Rattle.edges.specs.Edges.{edgesSize, side, edgeAt, edgesOf, edgePlace, FilledTo};
 
-// Lengths and unit vectors (x, then y) of the edges along u, then of those along v, with MAX_POINTS entries each.
+// The edges along u, then those along v: for each of MAX_POINTS ranks the length and the unit vector (x, then y).
 pub const EDGES_SIZE: usize = 6 * MAX_POINTS;
 
 pub type Edges = [f32; EDGES_SIZE];
+
+// An edge: its length and its unit vector, which means something only where the length is above 0.
+pub struct Edge {
+    pub len: f32,
+    pub ux: f32,
+    pub uy: f32,
+}
 
 // The offset that the edges of a way lead over: way 0 is along u, 1 along v.
 pub fn side_of(way: usize) -> usize
@@ -23,36 +30,49 @@ pub fn side_of(way: usize) -> usize
     if way == 0 { NEXT_U } else { NEXT_V }
 }
 
-// The entry for rank k of the column c, whose lengths the table has already; an edge to no point has zeros.
-fn entry(ranks: &Ranks, x: &Floats, y: &Floats, n: usize, table: &Edges, c: usize, k: usize) -> f32
-    requires { ⌜ (n ≤ maxPoints) × (c < 6) × (k < n) × FilledTo (viewAt n (now ranks) (now x) (now y)) (maxPoints * c + k) (now table) ⌝ }
-    ensures { λ r. ⌜ r ≡ getD (edgesOf (viewAt n (now (ranks .entry)) (now (x .entry)) (now (y .entry)))) (maxPoints * c + k) nan ⌝ }
+// The way's edge that starts at rank k: zeros where it leads to no point.
+fn edge_at(ranks: &Ranks, x: &Floats, y: &Floats, n: usize, way: usize, k: usize) -> Edge
+    requires { ⌜ (n ≤ maxPoints) × (k < n) ⌝ }
+    ensures { λ r. ⌜ r ≡ edgeAt (viewAt n (now (ranks .entry)) (now (x .entry)) (now (y .entry))) (side way) k ⌝ }
 {
-    let j = view::rank_at(ranks, k, side_of(c / 3));
+    let j = view::rank_at(ranks, k, side_of(way));
     if n <= j {
-        return 0.0;
+        return Edge {
+            len: 0.0,
+            ux: 0.0,
+            uy: 0.0,
+        };
     }
     let dx = x[j] - x[k];
     let dy = y[j] - y[k];
-    if c % 3 == 0 {
-        return float::norm(dx, dy);
+    let len = float::norm(dx, dy);
+    Edge {
+        len,
+        ux: dx / len,
+        uy: dy / len,
     }
-    let len = length(table, c / 3, k);
-    if c % 3 == 1 {
-        return dx / len;
-    }
-    dy / len
 }
 
-// Fills the column c of the table.
-fn fill_column(ranks: &Ranks, x: &Floats, y: &Floats, n: usize, table: &mut Edges, c: usize)
-    requires { ⌜ (n ≤ maxPoints) × (c < 6) × FilledTo (viewAt n (now ranks) (now x) (now y)) (maxPoints * c) (now table) ⌝ }
-    ensures { λ r. ⌜ FilledTo (viewAt n (now (ranks .entry)) (now (x .entry)) (now (y .entry))) (maxPoints * (c + 1)) (now (table .exit)) ⌝ }
+// Where the table has the way's edge that starts at rank k.
+fn place(way: usize, k: usize) -> usize
+    requires { ⌜ (way < 2) × (k < maxPoints) ⌝ }
+    ensures { λ r. ⌜ (r ≡ edgePlace way 0 k) × (r + 2 < edgesSize) ⌝ }
+{
+    3 * (MAX_POINTS * way + k)
+}
+
+// Fills in the edges of a way.
+fn fill_way(ranks: &Ranks, x: &Floats, y: &Floats, n: usize, table: &mut Edges, way: usize)
+    requires { ⌜ (n ≤ maxPoints) × (way < 2) × FilledTo (viewAt n (now ranks) (now x) (now y)) (edgePlace way 0 0) (now table) ⌝ }
+    ensures { λ r. ⌜ FilledTo (viewAt n (now (ranks .entry)) (now (x .entry)) (now (y .entry))) (edgePlace (way + 1) 0 0) (now (table .exit)) ⌝ }
 {
     let mut k = 0;
     while k < n {
-        let e = entry(ranks, x, y, n, table, c, k);
-        table[MAX_POINTS * c + k] = e;
+        let e = edge_at(ranks, x, y, n, way, k);
+        let at = place(way, k);
+        table[at] = e.len;
+        table[at + 1] = e.ux;
+        table[at + 2] = e.uy;
         k += 1;
     }
 }
@@ -69,11 +89,8 @@ pub fn fill(ranks: &Ranks, x: &Floats, y: &Floats, n: usize, table: &mut Edges)
     requires { ⌜ (n ≤ maxPoints) × (now table ≡ replicate edgesSize nan) ⌝ }
     ensures { λ r. ⌜ now (table .exit) ≡ edgesOf (viewAt n (now (ranks .entry)) (now (x .entry)) (now (y .entry))) ⌝ }
 {
-    let mut c = 0;
-    while c < 6 {
-        fill_column(ranks, x, y, n, table, c);
-        c += 1;
-    }
+    fill_way(ranks, x, y, n, table, 0);
+    fill_way(ranks, x, y, n, table, 1);
 }
 
 // The length of the way's edge that starts at rank k.
@@ -81,7 +98,7 @@ pub fn length(edges: &Edges, way: usize, k: usize) -> f32
     requires { ⌜ (way < 2) × (k < maxPoints) ⌝ }
     ensures { λ r. ⌜ r ≡ getD (now (edges .entry)) (edgePlace way 0 k) nan ⌝ }
 {
-    edges[MAX_POINTS * (3 * way) + k]
+    edges[place(way, k)]
 }
 
 // The parts of its unit vector.
@@ -89,12 +106,12 @@ pub fn unit_x(edges: &Edges, way: usize, k: usize) -> f32
     requires { ⌜ (way < 2) × (k < maxPoints) ⌝ }
     ensures { λ r. ⌜ r ≡ getD (now (edges .entry)) (edgePlace way 1 k) nan ⌝ }
 {
-    edges[MAX_POINTS * (3 * way + 1) + k]
+    edges[place(way, k) + 1]
 }
 
 pub fn unit_y(edges: &Edges, way: usize, k: usize) -> f32
     requires { ⌜ (way < 2) × (k < maxPoints) ⌝ }
     ensures { λ r. ⌜ r ≡ getD (now (edges .entry)) (edgePlace way 2 k) nan ⌝ }
 {
-    edges[MAX_POINTS * (3 * way + 2) + k]
+    edges[place(way, k) + 2]
 }

@@ -25,8 +25,9 @@ use Rattle.median.specs.Median.{medianOf}
 use Rattle.median.proofs.Median.{over-median-of}
 use Rattle.median.specs.Packed.{positives}
 use Rattle.view.specs.View.{View, maxPoints, viewAt, own, rankAt, present}
-use Rattle.edges.specs.Edges.{Edge, edgeAt, side, edgesOf, edgePlace}
-use Rattle.edges.proofs.Laws.{partOf, edge-part}
+use Rattle.edges.specs.declared.Edge.{Edge}
+use Rattle.edges.specs.Edges.{edgeAt, side, partOf, edgesOf, edgePlace}
+use Rattle.edges.proofs.Laws.{edge-part}
 use Rattle.wrong_label_filters.specs.Judged.{positiveEdge, inWindow, windowLens, sheetLens, windowX, windowY, overlong, offAxis, fails, endOfFailing, edgeMark}
 use Rattle.wrong_label_filters.specs.Windows.{tableEdge, isUnder, windowTo, withEdgeAt, positiveLens, failingEnds}
 use Rattle.wrong_label_filters.specs.declared.judged_edges.Window.{Window}

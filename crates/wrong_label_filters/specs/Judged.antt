@@ -13,7 +13,8 @@ use Rattle.folds.specs.Lists.{listed}
 use Rattle.float.specs.Constants.{overlongRatio, globalOverlongRatio}
 use Rattle.float.specs.Scalar.{normOf, over30Degrees}
 use Rattle.view.specs.View.{View, own, rankAt, present}
-use Rattle.edges.specs.Edges.{Edge, edgeAt}
+use Rattle.edges.specs.declared.Edge.{Edge}
+use Rattle.edges.specs.Edges.{edgeAt}
 use Rattle.median.specs.Median.{medianOf}
 
 module _ (w : View) (E : ℕ → Edge) where

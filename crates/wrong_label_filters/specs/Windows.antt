@@ -12,7 +12,8 @@ use Rattle.folds.specs.Lists.{listed}
 use Rattle.float.specs.Constants.{overlongRatio, globalOverlongRatio}
 use Rattle.median.specs.Median.{medianOf}
 use Rattle.view.specs.View.{View, maxPoints, rankAt, present}
-use Rattle.edges.specs.Edges.{Edge, edgePlace}
+use Rattle.edges.specs.declared.Edge.{Edge}
+use Rattle.edges.specs.Edges.{edgePlace}
 use Rattle.wrong_label_filters.specs.Judged.{inWindow}
 use Rattle.wrong_label_filters.specs.declared.judged_edges.Window.{Window}
 use Rattle.wrong_label_filters.specs.declared.judged_edges.Limit.{Limit}
