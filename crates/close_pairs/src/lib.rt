@@ -9,6 +9,7 @@ ghost use mathlib.Core.Bool.{_&&_, _||_};
 ghost use mathlib.Core.List.{List};
 ghost use Prim.Native.Nat.{ℕ, _+_, _*_, _%_, _≤_, _<_};
 ghost use lib.Dec.{T, eqb, ltb};
+ghost use lib.ListN.{getD};
 ghost use lib.Ieee.Scale.{finite};
 ghost use Rattle.folds.specs.Below.{some};
 ghost use Rattle.folds.specs.Marked.{Marked};
@@ -79,7 +80,18 @@ fn mark_pair(near: bool, a: usize, b: usize, mark: &mut Marks)
     }
 }
 
-// Marks the pairs of the point at place i with those that follow it.
+// Whether a and b are both marked already.
+fn both_marked(mark: &Marks, a: usize, b: usize) -> bool
+    requires { ⌜ (a < maxPoints) × (b < maxPoints) ⌝ }
+    ensures { λ r. ⌜ r ≡ eqb (getD (now (mark .entry)) a 0) 1 && eqb (getD (now (mark .entry)) b 0) 1 ⌝ }
+{
+    if mark[a] == 1 {
+        return mark[b] == 1;
+    }
+    false
+}
+
+// Marks the pairs of the point at place i with those that follow it. Of two that are marked already nothing is computed.
 fn sweep_from(
     order: &Places,
     x: &Floats,
@@ -96,6 +108,10 @@ fn sweep_from(
     let mut j = i + 1;
     while j < n {
         let b = view::wide(order[j]);
+        if both_marked(mark, a, b) {
+            j += 1;
+            continue;
+        }
         let dx = x[b] - x[a];
         let square = dx * dx;
         if square < limit {
