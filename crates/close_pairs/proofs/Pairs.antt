@@ -31,6 +31,20 @@ use Rattle.close_pairs.proofs.Places.{place}
 use Rattle.close_pairs.proofs.Squares.{far, square-turned}
 use Rattle.close_pairs.proofs.KeyOrder.{rising-order}
 
+-- ---- one pair
+
+-- two ranks that are marked already stay as they are
+pub pair-marked : (near : Bool) (a b : ℕ) (marks : List ℕ) → eqb (getD marks a 0) 1 && eqb (getD marks b 0) 1 ≡ true → Marked (λ (m : ℕ). near && (eqb a m || eqb b m)) marks marks
+pair-marked near a b marks h = record { size = refl; at = λ m l. kept m (near && (eqb a m || eqb b m)) refl }
+  where
+    one : (m : ℕ) (t : Bool) → eqb a m ≡ t → t || eqb b m ≡ true → getD marks m 0 ≡ 1
+    one m true e u = rw (← eqb-true a m e) (eqb-true (getD marks a 0) 1 (and-left (eqb (getD marks a 0) 1) (eqb (getD marks b 0) 1) h))
+    one m false e u = rw (← eqb-true b m u) (eqb-true (getD marks b 0) 1 (and-right (eqb (getD marks a 0) 1) (eqb (getD marks b 0) 1) h))
+
+    kept : (m : ℕ) (t : Bool) → near && (eqb a m || eqb b m) ≡ t → getD marks m 0 ≡ cond t 1 (getD marks m 0)
+    kept m true e = one m (eqb a m) refl (and-right near (eqb a m || eqb b m) e)
+    kept m false e = refl
+
 -- ---- the loop of a sweep
 
 some-cut : (p : ℕ → Bool) (j n : ℕ) → j ≤ n → ((k : ℕ) → j ≤ k → k < n → p k ≡ false) → some p j ≡ some p n
@@ -51,25 +65,6 @@ module _ (order : List ℕ) (xs ys : List Float) (limit : Float) (n i : ℕ) whe
   pub pair-is : (j m : ℕ) → i < j → closeIn xs ys limit (getD order j 0) (getD order i 0) && (eqb (getD order i 0) m || eqb (getD order j 0) m) ≡ pairHits order xs ys limit i j m
   unfolding pairHits
   pair-is j m h = rw (lt-ltb i j h)
-
-  -- two ranks that are marked already stay as they are
-  pub pair-marked : (j : ℕ) (marks : List ℕ) → eqb (getD marks (getD order i 0) 0) 1 && eqb (getD marks (getD order j 0) 0) 1 ≡ true → Marked (pairHits order xs ys limit i j) marks marks
-  unfolding pairHits
-  pair-marked j marks h = record { size = refl; at = λ m l. kept m (pairHits order xs ys limit i j m) refl }
-    where
-      a : ℕ
-      a = getD order i 0
-
-      b : ℕ
-      b = getD order j 0
-
-      one : (m : ℕ) (t : Bool) → eqb a m ≡ t → t || eqb b m ≡ true → getD marks m 0 ≡ 1
-      one m true e u = rw (← eqb-true a m e) (eqb-true (getD marks a 0) 1 (and-left (eqb (getD marks a 0) 1) (eqb (getD marks b 0) 1) h))
-      one m false e u = rw (← eqb-true b m u) (eqb-true (getD marks b 0) 1 (and-right (eqb (getD marks a 0) 1) (eqb (getD marks b 0) 1) h))
-
-      kept : (m : ℕ) (t : Bool) → pairHits order xs ys limit i j m ≡ t → getD marks m 0 ≡ cond t 1 (getD marks m 0)
-      kept m true e = one m (eqb a m) refl (and-right (closeIn xs ys limit b a) (eqb a m || eqb b m) (and-right (ltb i j) (closeIn xs ys limit b a && (eqb a m || eqb b m)) e))
-      kept m false e = refl
 
   pub sweep-stop : (s : Sweepable order xs ys limit n) (j m : ℕ) → i < j → j < n → lt (squareX xs (getD order j 0) (getD order i 0)) limit ≡ false
       → some (λ k. pairHits order xs ys limit i k m) j ≡ sweepHits order xs ys limit n i m

@@ -1,14 +1,22 @@
 use lib.Dec.{ltb}
+use lib.Ieee.{ofBits}
+use Rattle.float.specs.Constants.{duplicateFraction}
+use Rattle.float.proofs.Order.{mul-plain, above-zero}
 use Rattle.folds.proofs.Below.{and-false}
 use Rattle.folds.proofs.Marked.{marked-none, marked-as}
 use Rattle.close_pairs.specs.Close.{limitOf, closeMark}
 use Rattle.close_pairs.proofs.Pairs.{sweepable, swept}
+use Rattle.close_pairs.proofs.Squares.{reaches}
 use borrow.Author.Needs.{needs}
 use Rattle.close_pairs.proofs.mark_close.Statement.{statement}
 use Rattle.close_pairs.proofs.mark_close.Tie as tie
 
 sweep-requires : tie.Need-sweep-requires
-sweep-requires c κs = let p = c .before .before .before .before .pre in sweepable _ _ _ _ (p .0) (c .before .before .order-of .ensures) (p .2) _
+unfolding ofBits
+sweep-requires c κs =
+    let t = c .before .before .before in
+    let p = t .before .pre in
+    (sweepable _ _ _ _ (p .0) (c .before .before .order-of .ensures) (p .2) _, reaches _ (mul-plain duplicateFraction (t .before .args .cell) tt (above-zero (t .before .args .cell) (t .if1 .taken))))
 
 returns : tie.Need-returns
 unfolding limitOf
