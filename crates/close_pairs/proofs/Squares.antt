@@ -9,11 +9,11 @@ use borrow.Author.Tests.{ltb-true, ltb-false}
 use lib.Ieee.Scale.{finite}
 use lib.IntN.{ℤ}
 use lib.Pow.{pow-pos}
-use lib.Ieee.{Float, Format, nan, inf, fin, binary32, up, down, low, prec, emax, fits, lt, le, eq, neg, add, sub, mul, sum, round, units, odd}
+use lib.Ieee.{Float, Format, nan, inf, fin, binary32, up, down, low, prec, emax, fits, lt, le, eq, neg, add, sub, mul, sum, round, units, odd, ofBits}
 use lib.Ieee.Exact.{HasValue, round-exact}
 use lib.Ieee.Fits.{round-is, down-pos, mul-fits}
 use lib.Ieee.Order.{round-mono, le-of-values}
-use Rattle.folds.specs.Arith.{_⊕_, _⊖_, _⊗_}
+use Rattle.folds.specs.Arith.{_⊕_, _⊖_, _⊗_, zeroF}
 use Rattle.folds.proofs.Below.{not-true}
 use Rattle.float.specs.Scalar.{absOf}
 use Rattle.float.proofs.Order.{plain, plain-cases, plain-pair, plain-round, plain-le-inf, lt-after, lt-or-eq, under}
@@ -300,3 +300,26 @@ pub apart-in-y : (side limit dx dy : Float) → Reach side limit → lt side (ab
 unfolding squareOf
 apart-in-y side limit dx dy r h =
     not-true (lt (dx ⊗ dx ⊕ dy ⊗ dy) limit) (λ u. true≢false (sym (under-second dx dy limit u) ∙ rw (← square-abs dy) (r (absOf dy) h)))
+
+-- ---- nothing is under a limit of 0
+
+zero-least : (u : Float) → T (plain u) → T (le zeroF u)
+unfolding ofBits
+zero-least u p =
+    plain-cases (λ (a : Float). T (le zeroF a)) (unfold le in tt)
+    (λ m e. le-of-values zeroF (fin false m e) 0 1 (m * up e) (down e) (omega arith) (down-pos e) (refl, refl) (refl, refl) (rw (zero-mul (down e)) (omega arith))) u p
+
+sum-plain : (u v : Float) → T (plain u) → T (plain v) → T (plain (u ⊕ v))
+unfolding add sum
+sum-plain u v p q =
+    plain-pair (λ (a b : Float). T (plain (a ⊕ b))) tt (λ n d. tt) (λ m e. tt)
+    (λ m e n d. plain-round binary32 (m * up e * down d + n * up d * down e) (down e * down d)) u v p q
+
+pub none-close : (dx dy limit : Float) → lt zeroF limit ≡ false → lt (squareOf dx dy) limit ≡ false
+unfolding squareOf ofBits
+none-close dx dy limit h =
+    not-true (lt (dx ⊗ dx ⊕ dy ⊗ dy) limit)
+    (λ u.
+    let p = first-plain dx (dy ⊗ dy) limit u in
+    let s = sum-plain (dx ⊗ dx) (dy ⊗ dy) p (second-plain (dx ⊗ dx) dy limit p u) in
+    true≢false (sym (lt-after zeroF (dx ⊗ dx ⊕ dy ⊗ dy) limit tt s (zero-least (dx ⊗ dx ⊕ dy ⊗ dy) s) u) ∙ h))

@@ -137,15 +137,18 @@ fn sweep(order: &Places, x: &Floats, y: &Floats, side: f32, limit: f32, n: usize
     }
 }
 
-// Marks the points that lie closer than 0.2 cell sizes to another.
+// Marks the points that lie closer than 0.2 cell sizes to another. Where the square of that underflows to 0, none does.
 pub fn mark_close(x: &Floats, y: &Floats, cell: f32, n: usize, mark: &mut Marks)
     requires { ⌜ (n ≤ maxPoints) × Finite n (now x) × Finite n (now y) ⌝ }
     ensures { λ r. ⌜ ((ranks : List ℕ) → Marked (λ (m : ℕ). ltb m n && closeMark (viewAt n ranks (now (x .entry)) (now (y .entry))) cell m) (now (mark .entry)) (now (mark .exit))) ⌝ }
 {
     if 0.0 < cell {
         let side = DUPLICATE_FRACTION * cell;
-        let order = order_of(x, n);
-        sweep(&order, x, y, side, side * side, n, mark);
-        return;
+        let limit = side * side;
+        if 0.0 < limit {
+            let order = order_of(x, n);
+            sweep(&order, x, y, side, limit, n, mark);
+            return;
+        }
     }
 }
