@@ -1,6 +1,6 @@
 -- The pairs that the sweep marks are all the close pairs. Assumes nothing.
 use mathlib.Core.Path.{_≡_, refl, sym, ap, _∙_}
-use mathlib.Core.Bool.{Bool, true, false, not, _&&_, _||_, true≢false}
+use mathlib.Core.Bool.{Bool, true, false, cond, not, _&&_, _||_, true≢false}
 use mathlib.Core.List.{List, _++_}
 use Prim.Native.Nat.{ℕ, _+_, _-_, _≤_, _<_}
 use native.Mathlib.Omega.{arith}
@@ -15,20 +15,35 @@ use Rattle.folds.proofs.Lists.{length-list}
 use Rattle.sort.specs.Numbers.{sorted}
 use Rattle.sort.proofs.Numbers.{sorted-length}
 use lib.Ieee.{Float, nan, lt}
-use Rattle.folds.specs.Arith.{zeroF}
+use Rattle.folds.specs.Arith.{_⊖_, zeroF}
 use Rattle.folds.specs.Below.{some}
 use Rattle.folds.proofs.Below.{some-yes, some-at, some-no, both-ways, and-left, and-right, and-false, or-true}
 use Rattle.folds.specs.Column.{column}
 use Rattle.folds.proofs.Column.{column-at}
-use Rattle.view.specs.View.{maxPoints, viewAt, Finite}
+use Rattle.folds.specs.Marked.{Marked}
+use Rattle.view.specs.View.{View, maxPoints, viewAt, Finite}
 use Rattle.sort.specs.Packed.{packed, inOrder}
 use Rattle.sort.proofs.Packed.{placed-below, placed-is, place-of, placed-rises}
 use Rattle.close_pairs.specs.Close.{close, squareOf, closeMark, limitOf}
 use Rattle.close_pairs.specs.Keys.{xKey, rankIn, OrderedByX}
 use Rattle.close_pairs.specs.Sweep.{closeIn, squareX, pairHits, sweepHits, Sweepable}
 use Rattle.close_pairs.proofs.Places.{place}
-use Rattle.close_pairs.proofs.Squares.{far, square-turned}
+use Rattle.close_pairs.proofs.Squares.{far, square-turned, none-close}
 use Rattle.close_pairs.proofs.KeyOrder.{rising-order}
+
+-- ---- one pair
+
+-- two ranks that are marked already stay as they are
+pub pair-marked : (near : Bool) (a b : ℕ) (marks : List ℕ) → eqb (getD marks a 0) 1 && eqb (getD marks b 0) 1 ≡ true → Marked (λ (m : ℕ). near && (eqb a m || eqb b m)) marks marks
+pair-marked near a b marks h = record { size = refl; at = λ m l. kept m (near && (eqb a m || eqb b m)) refl }
+  where
+    one : (m : ℕ) (t : Bool) → eqb a m ≡ t → t || eqb b m ≡ true → getD marks m 0 ≡ 1
+    one m true e u = rw (← eqb-true a m e) (eqb-true (getD marks a 0) 1 (and-left (eqb (getD marks a 0) 1) (eqb (getD marks b 0) 1) h))
+    one m false e u = rw (← eqb-true b m u) (eqb-true (getD marks b 0) 1 (and-right (eqb (getD marks a 0) 1) (eqb (getD marks b 0) 1) h))
+
+    kept : (m : ℕ) (t : Bool) → near && (eqb a m || eqb b m) ≡ t → getD marks m 0 ≡ cond t 1 (getD marks m 0)
+    kept m true e = one m (eqb a m) refl (and-right near (eqb a m || eqb b m) e)
+    kept m false e = refl
 
 -- ---- the loop of a sweep
 
@@ -189,3 +204,9 @@ unfolding column inOrder
 sorted-keys key n a k e s i h =
     let t : take n k ≡ listOf n (packed key) = rw e (take-at (listOf n (packed key)) (replicate (maxPoints - n) 0) n (length-list n (packed key))) in
     rw (s, t) (List·getD-append (sorted (listOf n (packed key))) (drop n k) 0 i (omega (arith, sorted-length (listOf n (packed key)), length-list n (packed key))))
+
+-- where the limit is 0, no point is close to another
+pub nothing-close : (w : View) (cell : Float) (k : ℕ) → lt zeroF (limitOf cell) ≡ false → closeMark w cell k ≡ false
+unfolding closeMark close
+nothing-close w cell k h =
+    rw (some-no (λ j. not (eqb j k) && close (w .x) (w .y) (limitOf cell) j k) (w .count) (λ j l. rw (none-close (w .x j ⊖ w .x k) (w .y j ⊖ w .y k) (limitOf cell) h) (and-false (not (eqb j k))))) (and-false (lt zeroF cell))

@@ -2,21 +2,24 @@
 use mathlib.Core.Path.{_≡_, refl, sym, ap, _∙_, subst}
 use mathlib.Core.Bool.{Bool, true, false, Bool·beq, cond, not, _&&_, true≢false, false≢true}
 use Prim.Native.Nat.{ℕ, zero, suc, _+_, _-_, _*_, _^_, _≤_, _<_}
-use native.Mathlib.Nat.{mul-assoc, mul-comm, mul-left-comm, mul-right-comm, mul-pos, mul-le-mul, zero-mul, le-refl, mul-le-mul-right, mul-lt-mul-of-pos-right, lt-of-mul-lt-mul-right, eq-of-mul-eq-mul-right}
+use native.Mathlib.Nat.{add-comm, mul-assoc, mul-comm, mul-left-comm, mul-right-comm, mul-pos, mul-le-mul, zero-mul, le-refl, mul-le-mul-right, mul-lt-mul-of-pos-right, lt-of-mul-lt-mul-right, eq-of-mul-eq-mul-right}
 use native.Mathlib.Omega.{arith}
 use lib.Dec.{T, ltb}
 use borrow.Author.Tests.{ltb-true, ltb-false}
 use lib.Ieee.Scale.{finite}
 use lib.IntN.{ℤ}
 use lib.Pow.{pow-pos}
-use lib.Ieee.{Float, Format, nan, inf, fin, binary32, up, down, low, prec, emax, fits, lt, le, eq, neg, add, sub, mul, sum, round, units, odd}
+use lib.Ieee.{Float, Format, nan, inf, fin, binary32, up, down, low, prec, emax, fits, lt, le, eq, neg, add, sub, mul, sum, round, units, odd, ofBits}
 use lib.Ieee.Exact.{HasValue, round-exact}
 use lib.Ieee.Fits.{round-is, down-pos, mul-fits}
 use lib.Ieee.Order.{round-mono, le-of-values}
-use Rattle.folds.specs.Arith.{_⊕_, _⊖_, _⊗_}
+use Rattle.folds.specs.Arith.{_⊕_, _⊖_, _⊗_, zeroF}
 use Rattle.folds.proofs.Below.{not-true}
-use Rattle.float.proofs.Order.{plain, plain-round, plain-le-inf, lt-after, lt-or-eq}
+use Rattle.float.specs.Scalar.{absOf}
+use Rattle.float.proofs.Order.{plain, plain-cases, plain-pair, plain-round, plain-le-inf, lt-after, lt-or-eq, under}
+use Rattle.close_pairs.specs.Close.{squareOf}
 use Rattle.close_pairs.specs.Keys.{Number}
+use Rattle.close_pairs.specs.Sweep.{Reach}
 use Rattle.close_pairs.proofs.Places.{place, apart, sub-is, exponent, digits}
 
 -- ---- the square does not see the sign
@@ -227,3 +230,96 @@ far a b c d e z na nb nc nd ne ab bc h =
         (square-plain (near (apart (place c) (place a))) (near-plain (apart (place c) (place a))))
         (square-mono (near (apart (place b) (place a))) (near (apart (place c) (place a))) (near-plain (apart (place b) (place a))) (near-plain (apart (place c) (place a))) (near-mono (apart (place b) (place a)) (apart (place c) (place a)) (omega arith)))
         (rw (square-sub c a nc na) at u))
+
+-- ---- a difference over the side
+
+after-plain : (u v : Float) → T (plain u) → lt u v ≡ true → T (plain v)
+unfolding lt
+after-plain u nan p = plain-cases (λ (a : Float). lt a nan ≡ true → T (plain nan)) (λ h. absurd (false≢true h)) (λ m e h. absurd (false≢true h)) u p
+after-plain u (inf true) p = plain-cases (λ (a : Float). lt a (inf true) ≡ true → T (plain (inf true))) (λ h. absurd (false≢true h)) (λ m e h. absurd (false≢true h)) u p
+after-plain u (inf false) p = λ h. tt
+after-plain u (fin true n d) p = plain-cases (λ (a : Float). lt a (fin true n d) ≡ true → T (plain (fin true n d))) (λ h. absurd (false≢true h)) (λ m e h. absurd (false≢true h)) u p
+after-plain u (fin false n d) p = λ h. tt
+
+not-under-itself : (u : Float) → T (plain u) → lt u u ≡ true → ⊥
+unfolding lt
+not-under-itself u p = plain-cases (λ (a : Float). lt a a ≡ true → ⊥) (λ h. false≢true h) (λ m e h. omega (arith, ltb-true (m * up e * down e) (m * up e * down e) h)) u p
+
+-- the side's own square is such a limit
+pub reaches : (side : Float) → T (plain side) → Reach side (side ⊗ side)
+reaches side p d h =
+    let q = after-plain side d p h in
+    not-true (lt (d ⊗ d) (side ⊗ side))
+    (λ u. not-under-itself (side ⊗ side) (square-plain side p)
+    (lt-after (side ⊗ side) (d ⊗ d) (side ⊗ side) (square-plain side p) (square-plain d q) (square-mono side d p q (under d side h)) u))
+
+plus-turned : (x y : Float) → T (plain x) → T (plain y) → x ⊕ y ≡ y ⊕ x
+unfolding add sum
+plus-turned x y p q =
+    plain-pair (λ (a b : Float). a ⊕ b ≡ b ⊕ a) refl (λ n d. refl) (λ m e. refl)
+    (λ m e n d. rw (add-comm (m * up e * down d) (n * up d * down e), mul-comm (down e) (down d))) x y p q
+
+no-sum : (u z : Float) → T (plain u) → lt (u ⊕ nan) z ≡ true → ⊥
+unfolding add lt
+no-sum u z p = plain-cases (λ (a : Float). lt (a ⊕ nan) z ≡ true → ⊥) (λ h. false≢true h) (λ m e h. false≢true h) u p
+
+-- where the square of x is part of a sum under z, x is no NaN, and so its square is plain
+first-plain : (x u z : Float) → lt (x ⊗ x ⊕ u) z ≡ true → T (plain (x ⊗ x))
+unfolding mul add lt
+first-plain nan u z h = absurd (false≢true h)
+first-plain (inf true) u z h = tt
+first-plain (inf false) u z h = tt
+first-plain (fin true m e) u z h = plain-round binary32 (m * up e * (m * up e)) (down e * down e)
+first-plain (fin false m e) u z h = plain-round binary32 (m * up e * (m * up e)) (down e * down e)
+
+second-plain : (u y z : Float) → T (plain u) → lt (u ⊕ y ⊗ y) z ≡ true → T (plain (y ⊗ y))
+unfolding mul
+second-plain u nan z p h = absurd (no-sum u z p h)
+second-plain u (inf true) z p h = tt
+second-plain u (inf false) z p h = tt
+second-plain u (fin true m e) z p h = plain-round binary32 (m * up e * (m * up e)) (down e * down e)
+second-plain u (fin false m e) z p h = plain-round binary32 (m * up e * (m * up e)) (down e * down e)
+
+-- of a sum of squares that is under z, the second is
+under-second : (x y z : Float) → lt (x ⊗ x ⊕ y ⊗ y) z ≡ true → lt (y ⊗ y) z ≡ true
+under-second x y z h =
+    let p = first-plain x (y ⊗ y) z h in
+    let q = second-plain (x ⊗ x) y z p h in
+    under-sum (y ⊗ y) (x ⊗ x) z q p (mul-fits binary32 y y) (rw (plus-turned (x ⊗ x) (y ⊗ y) p q) at h)
+
+square-abs : (x : Float) → absOf x ⊗ absOf x ≡ x ⊗ x
+unfolding absOf mul
+square-abs nan = refl
+square-abs (inf true) = refl
+square-abs (inf false) = refl
+square-abs (fin true m e) = refl
+square-abs (fin false m e) = refl
+
+-- over the side in y: not close
+pub apart-in-y : (side limit dx dy : Float) → Reach side limit → lt side (absOf dy) ≡ true → lt (squareOf dx dy) limit ≡ false
+unfolding squareOf
+apart-in-y side limit dx dy r h =
+    not-true (lt (dx ⊗ dx ⊕ dy ⊗ dy) limit) (λ u. true≢false (sym (under-second dx dy limit u) ∙ rw (← square-abs dy) (r (absOf dy) h)))
+
+-- ---- nothing is under a limit of 0
+
+zero-least : (u : Float) → T (plain u) → T (le zeroF u)
+unfolding ofBits
+zero-least u p =
+    plain-cases (λ (a : Float). T (le zeroF a)) (unfold le in tt)
+    (λ m e. le-of-values zeroF (fin false m e) 0 1 (m * up e) (down e) (omega arith) (down-pos e) (refl, refl) (refl, refl) (rw (zero-mul (down e)) (omega arith))) u p
+
+sum-plain : (u v : Float) → T (plain u) → T (plain v) → T (plain (u ⊕ v))
+unfolding add sum
+sum-plain u v p q =
+    plain-pair (λ (a b : Float). T (plain (a ⊕ b))) tt (λ n d. tt) (λ m e. tt)
+    (λ m e n d. plain-round binary32 (m * up e * down d + n * up d * down e) (down e * down d)) u v p q
+
+pub none-close : (dx dy limit : Float) → lt zeroF limit ≡ false → lt (squareOf dx dy) limit ≡ false
+unfolding squareOf ofBits
+none-close dx dy limit h =
+    not-true (lt (dx ⊗ dx ⊕ dy ⊗ dy) limit)
+    (λ u.
+    let p = first-plain dx (dy ⊗ dy) limit u in
+    let s = sum-plain (dx ⊗ dx) (dy ⊗ dy) p (second-plain (dx ⊗ dx) dy limit p u) in
+    true≢false (sym (lt-after zeroF (dx ⊗ dx ⊕ dy ⊗ dy) limit tt s (zero-least (dx ⊗ dx ⊕ dy ⊗ dy) s) u) ∙ h))

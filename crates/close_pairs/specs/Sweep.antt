@@ -1,6 +1,6 @@
 -- The pairs that a sweep along an order of the ranks compares. Assumes nothing.
 use mathlib.Core.Path.{_≡_}
-use mathlib.Core.Bool.{Bool, false, _&&_, _||_}
+use mathlib.Core.Bool.{Bool, true, false, _&&_, _||_}
 use mathlib.Core.List.{List}
 use Prim.Native.Nat.{ℕ, _≤_, _<_}
 use lib.Dec.{eqb, ltb}
@@ -25,6 +25,10 @@ pairHits order xs ys limit i j m =
 
 abbrev pub sweepHits : List ℕ → List Float → List Float → Float → ℕ → ℕ → ℕ → Bool
 sweepHits order xs ys limit n i m = some (λ j. pairHits order xs ys limit i j m) n
+
+-- a difference over the side has a square that is not under the limit
+abbrev pub Reach : Float → Float → Type 0
+Reach side limit = (d : Float) → lt side d ≡ true → lt (d ⊗ d) limit ≡ false
 
 -- The order is one along which a sweep may stop: where the square in x alone reaches the limit, nothing later is close.
 pub record Sweepable (order : List ℕ) (xs ys : List Float) (limit : Float) (n : ℕ) : Type 0 where

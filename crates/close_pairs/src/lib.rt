@@ -9,13 +9,15 @@ ghost use mathlib.Core.Bool.{_&&_, _||_};
 ghost use mathlib.Core.List.{List};
 ghost use Prim.Native.Nat.{ℕ, _+_, _*_, _%_, _≤_, _<_};
 ghost use lib.Dec.{T, eqb, ltb};
+ghost use lib.ListN.{getD};
+ghost use lib.Ieee.{lt};
 ghost use lib.Ieee.Scale.{finite};
 ghost use Rattle.folds.specs.Below.{some};
 ghost use Rattle.folds.specs.Marked.{Marked};
 ghost use Rattle.view.specs.View.{maxPoints, viewAt, Finite};
-ghost use Rattle.close_pairs.specs.Close.{closeMark};
+ghost use Rattle.close_pairs.specs.Close.{squareOf, closeMark};
 ghost use Rattle.close_pairs.specs.Keys.{RisingKey, Keyed, OrderedByX};
-ghost use Rattle.close_pairs.specs.Sweep.{sweepHits, Sweepable};
+ghost use Rattle.close_pairs.specs.Sweep.{sweepHits, Reach, Sweepable};
 
 // A number that rises with x, which is finite.
 fn rising(x: f32) -> u64
@@ -67,12 +69,29 @@ fn order_of(x: &Floats, n: usize) -> Places
     out
 }
 
-// Marks a and b, if they are close.
-fn mark_pair(near: bool, a: usize, b: usize, mark: &mut Marks)
+// Whether a and b are both marked already.
+fn both_marked(mark: &Marks, a: usize, b: usize) -> bool
     requires { ⌜ (a < maxPoints) × (b < maxPoints) ⌝ }
-    ensures { λ r. ⌜ Marked (λ (m : ℕ). near && (eqb a m || eqb b m)) (now (mark .entry)) (now (mark .exit)) ⌝ }
+    ensures { λ r. ⌜ r ≡ eqb (getD (now (mark .entry)) a 0) 1 && eqb (getD (now (mark .entry)) b 0) 1 ⌝ }
 {
-    if near {
+    if mark[a] == 1 {
+        return mark[b] == 1;
+    }
+    false
+}
+
+// Marks a and b, which differ by dx and dy, if they are close. Where both are marked already, or too far apart in y, it multiplies nothing.
+fn mark_pair(dx: f32, dy: f32, side: f32, limit: f32, a: usize, b: usize, mark: &mut Marks)
+    requires { ⌜ Reach side limit × (a < maxPoints) × (b < maxPoints) ⌝ }
+    ensures { λ r. ⌜ Marked (λ (m : ℕ). lt (squareOf dx dy) limit && (eqb a m || eqb b m)) (now (mark .entry)) (now (mark .exit)) ⌝ }
+{
+    if both_marked(mark, a, b) {
+        return;
+    }
+    if side < float::abs(dy) {
+        return;
+    }
+    if dx * dx + dy * dy < limit {
         mark[a] = 1;
         mark[b] = 1;
         return;
@@ -84,12 +103,13 @@ fn sweep_from(
     order: &Places,
     x: &Floats,
     y: &Floats,
+    side: f32,
     limit: f32,
     n: usize,
     i: usize,
     mark: &mut Marks,
 )
-    requires { ⌜ Sweepable (now order) (now x) (now y) limit n × (i < n) ⌝ }
+    requires { ⌜ Sweepable (now order) (now x) (now y) limit n × Reach side limit × (i < n) ⌝ }
     ensures { λ r. ⌜ Marked (sweepHits (now (order .entry)) (now (x .entry)) (now (y .entry)) limit n i) (now (mark .entry)) (now (mark .exit)) ⌝ }
 {
     let a = view::wide(order[i]);
@@ -97,38 +117,38 @@ fn sweep_from(
     while j < n {
         let b = view::wide(order[j]);
         let dx = x[b] - x[a];
-        let square = dx * dx;
-        if square < limit {
-            let dy = y[b] - y[a];
-            mark_pair(square + dy * dy < limit, a, b, mark);
-            j += 1;
-        } else {
+        if side < dx {
             return;
         }
+        mark_pair(dx, y[b] - y[a], side, limit, a, b, mark);
+        j += 1;
     }
 }
 
 // Marks the points of each pair that is closer than the root of the limit.
-fn sweep(order: &Places, x: &Floats, y: &Floats, limit: f32, n: usize, mark: &mut Marks)
-    requires { ⌜ Sweepable (now order) (now x) (now y) limit n ⌝ }
+fn sweep(order: &Places, x: &Floats, y: &Floats, side: f32, limit: f32, n: usize, mark: &mut Marks)
+    requires { ⌜ Sweepable (now order) (now x) (now y) limit n × Reach side limit ⌝ }
     ensures { λ r. ⌜ Marked (λ (m : ℕ). some (λ (i : ℕ). sweepHits (now (order .entry)) (now (x .entry)) (now (y .entry)) limit n i m) n) (now (mark .entry)) (now (mark .exit)) ⌝ }
 {
     let mut i = 0;
     while i < n {
-        sweep_from(order, x, y, limit, n, i, mark);
+        sweep_from(order, x, y, side, limit, n, i, mark);
         i += 1;
     }
 }
 
-// Marks the points that lie closer than 0.2 cell sizes to another.
+// Marks the points that lie closer than 0.2 cell sizes to another. Where the square of that underflows to 0, none does.
 pub fn mark_close(x: &Floats, y: &Floats, cell: f32, n: usize, mark: &mut Marks)
     requires { ⌜ (n ≤ maxPoints) × Finite n (now x) × Finite n (now y) ⌝ }
     ensures { λ r. ⌜ ((ranks : List ℕ) → Marked (λ (m : ℕ). ltb m n && closeMark (viewAt n ranks (now (x .entry)) (now (y .entry))) cell m) (now (mark .entry)) (now (mark .exit))) ⌝ }
 {
     if 0.0 < cell {
         let side = DUPLICATE_FRACTION * cell;
-        let order = order_of(x, n);
-        sweep(&order, x, y, side * side, n, mark);
-        return;
+        let limit = side * side;
+        if 0.0 < limit {
+            let order = order_of(x, n);
+            sweep(&order, x, y, side, limit, n, mark);
+            return;
+        }
     }
 }

@@ -17,17 +17,16 @@ use Rattle.view.specs.View.{View, prevU, nextU, prevV, nextV}
 use Rattle.step.specs.Step.{axisStep, meanStep, keptStep, localStep, stepAt}
 use Rattle.step.specs.Deviation.{stepsIn}
 use Rattle.step.specs.declared.Step.{Step}
-use Rattle.step.specs.declared.Step.the-variants.{Of, Absent}
 
 kept-finite : (a : Step) → finite (keptStep a) ≡ true
 unfolding keptStep ofBits
-kept-finite (Of s) = go (lt zero s) (finite s) refl
+kept-finite a = go (a .there) (lt zero (a .value)) (finite (a .value)) refl
   where
-    go : (p f : Bool) → finite s ≡ f → finite (cond (p && f) s zero) ≡ true
-    go true true e = e
-    go true false e = refl
-    go false f e = refl
-kept-finite Absent = refl
+    go : (t p f : Bool) → finite (a .value) ≡ f → finite (cond (t && (p && f)) (a .value) zero) ≡ true
+    go true true true e = e
+    go true true false e = refl
+    go true false f e = refl
+    go false p f e = refl
 
 -- each step is finite
 pub step-finite : (w : View) (aware : Bool) (m : ℕ) → finite (stepAt w aware m) ≡ true

@@ -1,6 +1,6 @@
 -- The local step of an index and its scale: the formulas of `local_step_per_corner` in step.rs and of `scale_at` in mod.rs, with their
 -- operations in their order. Assumes nothing.
-use mathlib.Core.Bool.{Bool, cond, _&&_}
+use mathlib.Core.Bool.{Bool, true, false, cond, _&&_}
 use Prim.Native.Nat.{ℕ}
 use lib.Dec.{eqb}
 use lib.Ieee.{Float, ofBits, lt, add, sub, mul}
@@ -10,7 +10,13 @@ use Rattle.float.specs.Scalar.{normOf}
 use Rattle.folds.specs.Arith.{_⊕_, _⊖_, _⊗_}
 use Rattle.view.specs.View.{View, rankAt, present, nextU, prevU, nextV, prevV}
 use Rattle.step.specs.declared.Step.{Step}
-use Rattle.step.specs.declared.Step.the-variants.{Of, Absent}
+
+-- a step, or none, whose value is 0
+abbrev pub stepOf : Float → Step
+stepOf s = record { there = true; value = s }
+
+abbrev pub noStep : Step
+noStep = record { there = false; value = zero }
 
 -- the distance from rank p to rank q
 unfoldable pub spacing : (ℕ → Float) → (ℕ → Float) → ℕ → ℕ → Float
@@ -23,21 +29,18 @@ unfoldable pub axisStep : View → ℕ → ℕ → ℕ → Step
 unfolding spacing mul ofBits
 axisStep w before after m =
     cond (present w m before)
-    (cond (present w m after) (Of (spacing (w .x) (w .y) (rankAt w m before) (rankAt w m after) ⊗ half)) (Of (spacing (w .x) (w .y) (rankAt w m before) m)))
-    (cond (present w m after) (Of (spacing (w .x) (w .y) m (rankAt w m after))) Absent)
+    (cond (present w m after) (stepOf (spacing (w .x) (w .y) (rankAt w m before) (rankAt w m after) ⊗ half)) (stepOf (spacing (w .x) (w .y) (rankAt w m before) m)))
+    (cond (present w m after) (stepOf (spacing (w .x) (w .y) m (rankAt w m after))) noStep)
 
 -- the mean of the steps along both axes, or the only one
 unfoldable pub meanStep : Step → Step → Step
 unfolding add mul ofBits
-meanStep (Of a) (Of b) = Of ((a ⊕ b) ⊗ half)
-meanStep (Of a) Absent = Of a
-meanStep Absent b = b
+meanStep a b = cond (a .there) (cond (b .there) (stepOf ((a .value ⊕ b .value) ⊗ half)) a) b
 
 -- "the local step where it is finite and positive", else 0, which stands for no step
 unfoldable pub keptStep : Step → Float
 unfolding lt ofBits
-keptStep (Of s) = cond (lt zero s && finite s) s zero
-keptStep Absent = zero
+keptStep a = cond (a .there && (lt zero (a .value) && finite (a .value))) (a .value) zero
 
 unfoldable pub localStep : View → ℕ → Float
 unfolding axisStep meanStep keptStep

@@ -14,15 +14,24 @@ ghost use Rattle.folds.specs.Below.{tally};
 ghost use Rattle.folds.specs.Column.{column};
 ghost use Rattle.folds.specs.Marked.{bit};
 ghost use Rattle.view.specs.View.{maxPoints, viewAt, Ranked};
-ghost use Rattle.step.specs.Step.{spacing, axisStep, meanStep, keptStep, localStep, stepAt, scaleAt};
+ghost use Rattle.step.specs.Step.{stepOf, spacing, axisStep, meanStep, keptStep, localStep, stepAt, scaleAt};
 ghost use Rattle.step.specs.Deviation.{isStepOutside, deviates};
 use view::MAX_POINTS;
 use view::rank_at;
 
-// A step, or none.
-enum Step {
-    Of(f32),
-    Absent,
+// A step, or none, whose value is 0.
+struct Step {
+    there: bool,
+    value: f32,
+}
+
+fn step_of(s: f32) -> Step
+    ensures { λ r. ⌜ r ≡ stepOf s ⌝ }
+{
+    Step {
+        there: true,
+        value: s,
+    }
 }
 
 // The distance from rank p to rank q.
@@ -50,26 +59,29 @@ fn axis_step(
     let r = rank_at(ranks, m, after);
     if l < n {
         if r < n {
-            return Step::Of(spacing(x, y, l, r) * 0.5);
+            return step_of(spacing(x, y, l, r) * 0.5);
         }
-        return Step::Of(spacing(x, y, l, m));
+        return step_of(spacing(x, y, l, m));
     }
     if r < n {
-        return Step::Of(spacing(x, y, m, r));
+        return step_of(spacing(x, y, m, r));
     }
-    Step::Absent
+    Step {
+        there: false,
+        value: 0.0,
+    }
 }
 
 fn mean_step(a: Step, b: Step) -> Step
     ensures { λ r. ⌜ r ≡ meanStep a b ⌝ }
 {
-    match a {
-        Step::Of(s) => match b {
-            Step::Of(t) => Step::Of((s + t) * 0.5),
-            Step::Absent => Step::Of(s),
-        },
-        Step::Absent => b,
+    if a.there {
+        if b.there {
+            return step_of((a.value + b.value) * 0.5);
+        }
+        return a;
     }
+    b
 }
 
 // Whether a step counts.
@@ -85,10 +97,12 @@ fn is_positive(s: f32) -> bool
 fn kept_step(a: Step) -> f32
     ensures { λ r. ⌜ r ≡ keptStep a ⌝ }
 {
-    match a {
-        Step::Of(s) => if is_positive(s) { s } else { 0.0 },
-        Step::Absent => 0.0,
+    if a.there {
+        if is_positive(a.value) {
+            return a.value;
+        }
     }
+    0.0
 }
 
 fn local_step(ranks: &Ranks, x: &Floats, y: &Floats, n: usize, m: usize) -> f32

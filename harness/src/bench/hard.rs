@@ -72,6 +72,12 @@ pub fn hard_shapes(n: usize) -> Vec<(&'static str, Shape)> {
         ),
         ("one row", plain(Cells::Row)),
         ("one column", plain(Cells::Column)),
+        (
+            "one column, all near in x, none close",
+            with(Cells::Column, &|s| {
+                (s.place, s.spacing, s.cell_size) = (Place::Noisy(0.1), 7.5e-23, 2e-22)
+            }),
+        ),
         ("two rows", plain(Cells::Board(2))),
         ("isolated points", plain(Cells::Isolated)),
         ("every other cell", plain(Cells::Checker)),

@@ -10,36 +10,12 @@ use crate::library;
 use crate::random::Random;
 use crate::second::{self, Answer, Fault, MAX_POINTS};
 use files::{Form, Load, LONGEST_BUFFER, LONGEST_FILE};
-use std::hint::black_box;
 use std::ops::Range;
 use std::sync::atomic::{AtomicUsize, Ordering};
-use std::sync::OnceLock;
 use std::time::{Duration, Instant};
 
-/// A call that takes more processor time fails: 50 ms, and what this processor takes longer for the
-/// subnormal products of the dearest sheets, two for each pair of points that share an x.
-fn limit() -> Duration {
-    static LIMIT: OnceLock<Duration> = OnceLock::new();
-    *LIMIT.get_or_init(|| {
-        let pairs = (MAX_POINTS * MAX_POINTS / 2) as u32;
-        let extra = product(1e-20).saturating_sub(product(1e-10));
-        Duration::from_millis(50) + 2 * pairs * extra / PRODUCTS
-    })
-}
-
-const PRODUCTS: u32 = 1 << 16;
-
-/// The least processor time of PRODUCTS squares of x, of eight tries.
-fn product(x: f32) -> Duration {
-    let once = || {
-        let start = processor();
-        for _ in 0..PRODUCTS {
-            black_box(black_box(x) * black_box(x));
-        }
-        processor() - start
-    };
-    (0..8).map(|_| once()).min().unwrap_or_default()
-}
+/// A call that takes more processor time fails.
+const LIMIT: Duration = Duration::from_millis(50);
 
 /// Painted bytes about the buffer, as far as they are not guard pages.
 const MARGIN: usize = 64;
@@ -69,7 +45,6 @@ struct Runner {
     memory: Memory,
     /// The longest call so far, by form.
     longest: [Duration; Form::ALL.len()],
-    limit: Duration,
     /// What a buffer holds before a call, from any place on.
     paint: Vec<u8>,
 }
@@ -130,7 +105,6 @@ impl Runner {
             call,
             memory,
             longest: Default::default(),
-            limit: limit(),
             paint,
         }
     }
@@ -197,7 +171,7 @@ impl Runner {
                     }
                 }
                 *longest = time.max(*longest);
-                if time > self.limit {
+                if time > LIMIT {
                     fault = Some(format!("took {time:?}"));
                 }
                 (returned, time, fault)

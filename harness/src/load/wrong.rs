@@ -54,7 +54,7 @@ pub unsafe extern "C" fn call(
         11 => return BEFORE.swap(returned as usize, Ordering::Relaxed) as u64,
         12 => {
             let start = processor();
-            while processor() - start < super::limit() + Duration::from_millis(10) {}
+            while processor() - start < super::LIMIT + Duration::from_millis(10) {}
         }
         13 => return deep(keep, file, file_len, rows, rows_len),
         _ => {}

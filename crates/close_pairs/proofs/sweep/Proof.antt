@@ -10,10 +10,10 @@ use Rattle.close_pairs.proofs.sweep.Statement.{statement}
 use Rattle.close_pairs.proofs.sweep.Tie as tie
 
 abbrev Inv-loop : tie.InvT-loop
-Inv-loop order x y limit n mark₀ i₀ mark i = (i ≤ n) × Marked (λ (m : ℕ). some (λ (p : ℕ). sweepHits order x y limit n p m) i) mark₀ mark
+Inv-loop order x y side limit n mark₀ i₀ mark i = (i ≤ n) × Marked (λ (m : ℕ). some (λ (p : ℕ). sweepHits order x y limit n p m) i) mark₀ mark
 
 abbrev μ-loop : tie.MeasureT-loop
-μ-loop order x y limit n mark₀ i₀ mark i = n - i
+μ-loop order x y side limit n mark₀ i₀ mark i = n - i
 
 loop-holds : tie.Need-loop-holds Inv-loop μ-loop
 unfolding some

@@ -13,10 +13,10 @@ use Rattle.close_pairs.proofs.sweep_from.Statement.{statement}
 use Rattle.close_pairs.proofs.sweep_from.Tie as tie
 
 abbrev Inv-loop : tie.InvT-loop
-Inv-loop order x y limit n i mark₀ a j₀ mark j = (i < j) × (j ≤ n) × Marked (λ (m : ℕ). some (λ (p : ℕ). pairHits order x y limit i p m) j) mark₀ mark × (a ≡ getD order i 0)
+Inv-loop order x y side limit n i mark₀ a j₀ mark j = (i < j) × (j ≤ n) × Marked (λ (m : ℕ). some (λ (p : ℕ). pairHits order x y limit i p m) j) mark₀ mark × (a ≡ getD order i 0)
 
 abbrev μ-loop : tie.MeasureT-loop
-μ-loop order x y limit n i mark₀ a j₀ mark j = n - j
+μ-loop order x y side limit n i mark₀ a j₀ mark j = n - j
 
 -- both ranks are places of the arrays
 ins : (c : tie.After-wide2 Inv-loop μ-loop) → (c .wide2 .result < 2048) × (c .before .before .before .before .wide .result < 2048)
@@ -24,7 +24,7 @@ ins c =
     let l = c .before .before .before .loop in
     let i = c .before .before .before .before .before .before in
     let s = i .pre .0 in
-    (omega (arith, s .few, c .wide2 .ensures, s .ranks (l .j) (c .before .before .loop-test .taken)), omega (arith, s .few, l .inv .3, s .ranks (i .args .i) (i .pre .1)))
+    (omega (arith, s .few, c .wide2 .ensures, s .ranks (l .j) (c .before .before .loop-test .taken)), omega (arith, s .few, l .inv .3, s .ranks (i .args .i) (i .pre .2)))
 
 add-j : tie.Need-add-j Inv-loop μ-loop
 add-j c = omega (arith, c .before .before .pre .0 .few)
@@ -33,10 +33,10 @@ loop-holds : tie.Need-loop-holds Inv-loop μ-loop
 loop-holds c = let g = c .before .before .args in (omega arith, omega arith, marked-none _ _ (λ m. sweep-none (g .order .now) (g .x .now) (g .y .now) (g .limit) (g .n) (g .i) m), c .wide .ensures)
 
 mul-dx : tie.Need-mul-dx Inv-loop μ-loop
-mul-dx c = omega (arith, ins (c))
+mul-dx c = omega (arith, ins c)
 
 element-copy-out-dx : tie.Need-element-copy-out-dx Inv-loop μ-loop
-element-copy-out-dx c = omega (arith, ins (c))
+element-copy-out-dx c = omega (arith, ins c)
 
 mul-dx-2 : tie.Need-mul-dx-2 Inv-loop μ-loop
 mul-dx-2 c = omega (arith, ins (c .before))
@@ -44,20 +44,20 @@ mul-dx-2 c = omega (arith, ins (c .before))
 element-copy-out-dx-2 : tie.Need-element-copy-out-dx-2 Inv-loop μ-loop
 element-copy-out-dx-2 c = omega (arith, ins (c .before))
 
-mul-dy : tie.Need-mul-dy Inv-loop μ-loop
-mul-dy c = omega (arith, ins (c .before .before .before))
+mul-mark-pair : tie.Need-mul-mark-pair Inv-loop μ-loop
+mul-mark-pair c = omega (arith, ins (c .before .before .before))
 
-element-copy-out-dy : tie.Need-element-copy-out-dy Inv-loop μ-loop
-element-copy-out-dy c = omega (arith, ins (c .before .before .before))
+element-copy-out-mark-pair : tie.Need-element-copy-out-mark-pair Inv-loop μ-loop
+element-copy-out-mark-pair c = omega (arith, ins (c .before .before .before))
 
-mul-dy-2 : tie.Need-mul-dy-2 Inv-loop μ-loop
-mul-dy-2 c = omega (arith, ins (c .before .before .before .before))
+mul-mark-pair-2 : tie.Need-mul-mark-pair-2 Inv-loop μ-loop
+mul-mark-pair-2 c = omega (arith, ins (c .before .before .before .before))
 
-element-copy-out-dy-2 : tie.Need-element-copy-out-dy-2 Inv-loop μ-loop
-element-copy-out-dy-2 c = omega (arith, ins (c .before .before .before .before))
+element-copy-out-mark-pair-2 : tie.Need-element-copy-out-mark-pair-2 Inv-loop μ-loop
+element-copy-out-mark-pair-2 c = omega (arith, ins (c .before .before .before .before))
 
 mark-pair-requires : tie.Need-mark-pair-requires Inv-loop μ-loop
-mark-pair-requires c κs = let h = ins (c .before .before .before .before .before .before) in (h .1, h .0)
+mark-pair-requires c κs = let w = c .before .before .before .before .before .before in let h = ins w in (w .before .before .before .before .before .before .pre .1, h .1, h .0)
 
 loop-again : tie.Need-loop-again Inv-loop μ-loop
 unfolding close squareOf
@@ -78,7 +78,7 @@ returns c =
     let l = w .before .before .before .loop in
     let i = w .before .before .before .before .before .before in
     let g = i .args in
-    let far = rw (w .wide2 .ensures, l .inv .3) at (c .if1 .left) in
+    let far = rw (w .wide2 .ensures, l .inv .3) at (i .pre .1 _ (c .if1 .taken)) in
     marked-as _ _ (λ m t. sweep-stop (g .order .now) (g .x .now) (g .y .now) (g .limit) (g .n) (g .i) (i .pre .0) (l .j) m (l .inv .0) (w .before .before .loop-test .taken) far) (l .inv .2)
 
 returns-2 : tie.Need-returns-2 Inv-loop μ-loop
@@ -88,5 +88,6 @@ pub sweep-from-spec : {M : Type 1} → statement M
 sweep-from-spec =
     tie.close
     (tie.spec Inv-loop μ-loop (λ c. search needs) (λ c. search needs) (λ c κs. search needs) add-j loop-holds (λ c. search needs)
-    (λ c. search needs) (λ c κs. search needs) mul-dx element-copy-out-dx mul-dx-2 element-copy-out-dx-2 mul-dy element-copy-out-dy
-    mul-dy-2 element-copy-out-dy-2 mark-pair-requires (λ c. search needs) (λ c. search needs) loop-again returns returns-2)
+    (λ c. search needs) (λ c κs. search needs) mul-dx element-copy-out-dx mul-dx-2 element-copy-out-dx-2 returns mul-mark-pair
+    element-copy-out-mark-pair mul-mark-pair-2 element-copy-out-mark-pair-2 mark-pair-requires (λ c. search needs) (λ c. search needs)
+    loop-again returns-2)

@@ -5,17 +5,17 @@ use Rattle.step.proofs.kept_step.Tie as tie
 
 returns : tie.Need-returns
 unfolding keptStep
-returns c = rw (c .before .before .before .a .given .1, ← c .before .is-positive .ensures, c .if1 .taken)
+returns c = rw (c .before .before .if1 .taken, ← c .before .is-positive .ensures, c .if2 .taken)
 
 returns-2 : tie.Need-returns-2
 unfolding keptStep
-returns-2 c = rw (c .before .before .before .a .given .1, ← c .before .is-positive .ensures, c .if1 .left)
+returns-2 c = rw (c .before .before .if1 .taken, ← c .before .is-positive .ensures, c .if2 .left)
 
 returns-3 : tie.Need-returns-3
 unfolding keptStep
-returns-3 c = rw (c .enum-told .given .1)
+returns-3 c = rw (c .if1 .left)
 
 pub kept-step-spec : {M : Type 1} → statement M
 kept-step-spec =
     tie.close
-    (tie.spec (λ c. search needs) (λ c κs. search needs) (λ c. search needs) returns returns-2 returns-3)
+    (tie.spec (λ c κs. search needs) returns returns-2 returns-3)
