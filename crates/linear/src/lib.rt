@@ -43,9 +43,9 @@ fn pivot_row(m: &[[f32; 8]; 8], i: usize) -> usize
 }
 
 // Row k, where p is the pivot's row of column i: the multiplier takes the place of the zero.
-fn reduce_row(m: &mut [[f32; 8]; 8], p: [f32; 8], i: usize, inverse: f32, k: usize)
+fn reduce_row(m: &mut [[f32; 8]; 8], p: &[f32; 8], i: usize, inverse: f32, k: usize)
     requires { ⌜ (i < 8) × (k < 8) ⌝ }
-    ensures { λ r. ⌜ now (m .exit) ≡ reduceRow p i inverse k (now (m .entry)) ⌝ }
+    ensures { λ r. ⌜ now (m .exit) ≡ reduceRow (now (p .entry)) i inverse k (now (m .entry)) ⌝ }
 {
     let t = m[k][i] * inverse;
     m[k][i] = t;
@@ -57,9 +57,9 @@ fn reduce_row(m: &mut [[f32; 8]; 8], p: [f32; 8], i: usize, inverse: f32, k: usi
 }
 
 // The rows below row i.
-fn reduce_rows(m: &mut [[f32; 8]; 8], p: [f32; 8], i: usize, inverse: f32)
+fn reduce_rows(m: &mut [[f32; 8]; 8], p: &[f32; 8], i: usize, inverse: f32)
     requires { ⌜ i < 8 ⌝ }
-    ensures { λ r. ⌜ now (m .exit) ≡ reduceRows p i inverse (now (m .entry)) ⌝ }
+    ensures { λ r. ⌜ now (m .exit) ≡ reduceRows (now (p .entry)) i inverse (now (m .entry)) ⌝ }
 {
     let mut k = i + 1;
     while k < 8 {
@@ -84,7 +84,7 @@ fn eliminate(m: &mut [[f32; 8]; 8], y: &mut [f32; 8], i: usize)
     let t = y[best];
     y[best] = y[i];
     y[i] = t;
-    reduce_rows(m, p, i, 1.0 / pivot);
+    reduce_rows(m, &p, i, 1.0 / pivot);
 }
 
 fn zero_diagonal(m: [[f32; 8]; 8]) -> bool

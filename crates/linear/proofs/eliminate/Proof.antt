@@ -26,7 +26,7 @@ returns c = let pivot = c .before .before .pivot-row in passed-over _ (pivot .re
 
 returns-2 : tie.Need-returns-2
 returns-2 c =
-    let b = c .before .before .before .before .before .before in
+    let b = c .before .before .before .before .before .before .before in
     cleared _ _ _ _ (b .before .before .pivot-row .ensures .1) _ (b .if1 .left) (c .reduce-rows .ensures)
 
 pub eliminate-spec : {M : Type 1} → statement M

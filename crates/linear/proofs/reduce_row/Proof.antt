@@ -8,23 +8,19 @@ use Rattle.linear.proofs.reduce_row.Statement.{statement}
 use Rattle.linear.proofs.reduce_row.Tie as tie
 
 abbrev Inv-loop : tie.InvT-loop
-Inv-loop m₀ i inverse k p t j₀ m j = run (reduceEntry p k t) j 8 m ≡ run (reduceEntry p k t) j₀ 8 m₀
+Inv-loop m₀ p i inverse k t j₀ m j = run (reduceEntry p k t) j 8 m ≡ run (reduceEntry p k t) j₀ 8 m₀
 
 abbrev μ-loop : tie.MeasureT-loop
-μ-loop m₀ i inverse k p t j₀ m j = 8 - j
+μ-loop m₀ p i inverse k t j₀ m j = 8 - j
 
 loop-again : tie.Need-loop-again Inv-loop μ-loop
 unfolding reduceEntry
-loop-again c = sym (run-step _ _ _ _ (c .before .loop-test .taken)) ∙ c .before .before .loop .inv
+loop-again c = sym (run-step _ _ _ _ (c .before .before .loop-test .taken)) ∙ c .before .before .before .loop .inv
 
 returns : tie.Need-returns Inv-loop μ-loop
 unfolding reduceRow
 returns c = sym (run-done _ _ _ _ (c .loop-test .left)) ∙ c .before .loop .inv
 
 pub reduce-row-spec : {M : Type 1} → statement M
-reduce-row-spec =
-    tie.close
-    (tie.spec Inv-loop μ-loop (λ c. search needs) (λ c. search needs) (λ c. search needs) (λ c. search needs) (λ c. search needs)
-    (λ c. search needs) (λ c. search needs) (λ c. search needs) (λ c. search needs) (λ c. search needs) (λ c. search needs)
-    (λ c. search needs) (λ c. search needs) (λ c. search needs) (λ c. search needs) (λ c. search needs) (λ c. search needs)
-    (λ c. search needs) (λ c. search needs) (λ c. search needs) (λ c. search needs) (λ c. search needs) loop-again returns)
+reduce-row-spec = tie.close
+    (tie.spec Inv-loop μ-loop (λ c. search needs) (λ c. search needs) (λ c. search needs) (λ c. search needs) (λ c. search needs) (λ c. search needs) (λ c. search needs) (λ c. search needs) (λ c. search needs) (λ c. search needs) (λ c. search needs) (λ c. search needs) (λ c. search needs) (λ c. search needs) (λ c. search needs) (λ c. search needs) (λ c. search needs) (λ c. search needs) (λ c. search needs) (λ c. search needs) (λ c. search needs) (λ c. search needs) loop-again returns)
