@@ -8,7 +8,7 @@ use view::PREV_V;
 use view::Places;
 use view::Ranks;
 ghost use mathlib.Core.Path.{_≡_};
-ghost use mathlib.Core.Bool.{cond, _&&_};
+ghost use mathlib.Core.Bool.{cond, not, _&&_, _||_};
 ghost use mathlib.Core.List.{[]};
 ghost use Prim.Native.Nat.{ℕ, _+_, _≤_, _<_};
 ghost use lib.Dec.{eqb, ltb};
@@ -123,6 +123,16 @@ fn back_of(way: usize) -> usize
     if way == 0 { PREV_U } else { PREV_V }
 }
 
+// Whether rank k is no end of a line with these ends.
+fn is_inner(first: usize, last: usize, k: usize) -> bool
+    ensures { λ r. ⌜ r ≡ not (eqb first k || eqb last k) ⌝ }
+{
+    if first == k {
+        return false;
+    }
+    last != k
+}
+
 // Whether rank k is the first or the last of its line, with a kink there.
 fn line_end_at(
     ranks: &Ranks,
@@ -137,10 +147,14 @@ fn line_end_at(
     ensures { λ r. ⌜ r ≡ lineMark (viewAt n (now (ranks .entry)) (now (x .entry)) (now (y .entry))) way k ⌝ }
 {
     let first = line_of(ranks, way, k);
+    let last = view::wide(lasts[first]);
+    if is_inner(first, last, k) {
+        return false;
+    }
     if end_at(ranks, x, y, n, first, edges::side_of(way), k) {
         return true;
     }
-    end_at(ranks, x, y, n, view::wide(lasts[first]), back_of(way), k)
+    end_at(ranks, x, y, n, last, back_of(way), k)
 }
 
 // Marks both ends of each row (way 0) or column that have a kink there.

@@ -1,10 +1,13 @@
 use Prim.Native.Nat.{_<_}
-use mathlib.Core.Path.{_≡_, _∙_}
+use mathlib.Core.Path.{_≡_, refl, sym, _∙_}
+use mathlib.Core.Bool.{Bool, true, false, not, _&&_, _||_, true≢false}
 use native.Mathlib.Omega.{arith}
 use borrow.Author.Needs.{needs}
-use Rattle.view.specs.View.{viewAt}
-use Rattle.wrong_label_filters.specs.Frontier.{lastInLine}
-use Rattle.wrong_label_filters.specs.Lasts.{lineStart, lineMark}
+use lib.Dec.{eqb}
+use Rattle.view.specs.View.{View, viewAt}
+use Rattle.edges.specs.Edges.{side}
+use Rattle.wrong_label_filters.specs.Frontier.{lastInLine, kinkAt}
+use Rattle.wrong_label_filters.specs.Lasts.{lineStart, backSide, lineMark}
 use Rattle.wrong_label_filters.proofs.LineEnds.{line-below, last-is}
 use Rattle.wrong_label_filters.proofs.frontier.line_end_at.Statement.{statement}
 use Rattle.wrong_label_filters.proofs.frontier.line_end_at.Tie as tie
@@ -15,30 +18,51 @@ inside c =
     let a = i .args in
     omega (arith, c .line-of .ensures, i .pre .0 .few, line-below (a .n) (a .ranks .now) (a .way) (a .k) (i .pre .0) (i .pre .2))
 
-returns : tie.Need-returns
-unfolding lineMark
-returns c = rw (← c .before .before .before .line-of .ensures, ← c .before .before .side-of .ensures .0, ← c .before .end-at .ensures, c .if1 .taken)
-
-mul-wide : tie.Need-mul-wide
-mul-wide c = omega (arith, inside (c .before .before .before))
-
-element-copy-out-wide : tie.Need-element-copy-out-wide
-element-copy-out-wide c = omega (arith, inside (c .before .before .before))
-
-returns-2 : tie.Need-returns-2
-unfolding lineMark
-returns-2 c =
-    let f = c .before .before .before .before .before .before .before in
+-- the last rank of the line, as the table has it
+last-in : (c : tie.After-wide) → let i = c .before .before .before in let w = viewAt (i .args .n) (i .args .ranks .now) (i .args .x .now) (i .args .y .now) in
+    c .wide .result ≡ lastInLine w (lineStart w (i .args .way)) (i .args .k)
+last-in c =
+    let f = c .before .before in
     let i = f .before in
     let a = i .args in
     let w = viewAt (a .n) (a .ranks .now) (a .x .now) (a .y .now) in
-    let e : c .before .before .wide .result ≡ lastInLine w (lineStart w (a .way)) (a .k) =
-    c .before .before .wide .ensures ∙ last-is w (lineStart w (a .way)) (a .lasts .now) (a .k) (f .line-of .result) (i .pre .1) (f .line-of .ensures) (inside f) in
-    rw (← e, ← f .line-of .ensures, ← c .before .before .before .before .before .before .side-of .ensures .0, ← c .before .before .before .before .before .end-at .ensures, c .before .before .before .before .if1 .left, ← c .before .back-of .ensures .0)
+    c .wide .ensures ∙ last-is w (lineStart w (a .way)) (a .lasts .now) (a .k) (f .line-of .result) (i .pre .1) (f .line-of .ensures) (inside f)
+
+-- a rank that is no end is not marked
+inner : (a b x y : Bool) → true ≡ not (a || b) → false ≡ (a && x) || (b && y)
+inner true b x y e = absurd (true≢false e)
+inner false true x y e = absurd (true≢false e)
+inner false false x y e = refl
+
+mul-wide : tie.Need-mul-wide
+mul-wide c = omega (arith, inside c)
+
+element-copy-out-wide : tie.Need-element-copy-out-wide
+element-copy-out-wide c = omega (arith, inside c)
+
+returns : tie.Need-returns
+unfolding lineMark
+returns c =
+    let last = c .before .before in
+    let f = last .before .before in
+    let a = f .before .args in
+    let w : View = viewAt (a .n) (a .ranks .now) (a .x .now) (a .y .now) in
+    rw (← last-in last, ← f .line-of .ensures)
+    (inner (eqb (f .line-of .result) (a .k)) (eqb (last .wide .result) (a .k)) (kinkAt w (side (a .way)) (a .k)) (kinkAt w (backSide (a .way)) (a .k)) (sym (c .if1 .taken) ∙ c .before .is-inner .ensures))
+
+returns-2 : tie.Need-returns-2
+unfolding lineMark
+returns-2 c = rw (← c .before .before .before .before .before .before .before .line-of .ensures, ← c .before .before .side-of .ensures .0, ← c .before .end-at .ensures, c .if2 .taken)
+
+returns-3 : tie.Need-returns-3
+unfolding lineMark
+returns-3 c =
+    let e = c .before .before .before in
+    let last = e .before .before .before .before in
+    rw (← last-in last, ← last .before .before .line-of .ensures, ← e .before .side-of .ensures .0, ← e .end-at .ensures, c .before .before .if2 .left, ← c .before .back-of .ensures .0)
     (c .end-at2 .ensures)
 
 pub line-end-at-spec : {M : Type 1} → statement M
 line-end-at-spec =
     tie.close
-    (tie.spec (λ c κs. search needs) (λ c κs. search needs) (λ c κs. search needs) returns mul-wide element-copy-out-wide (λ c κs. search needs)
-    (λ c κs. search needs) (λ c κs. search needs) returns-2)
+    (tie.spec (λ c κs. search needs) mul-wide element-copy-out-wide (λ c κs. search needs) (λ c κs. search needs) returns (λ c κs. search needs) (λ c κs. search needs) returns-2 (λ c κs. search needs) (λ c κs. search needs) returns-3)
