@@ -19,7 +19,7 @@ use Rattle.float.specs.Scalar.{absOf}
 use Rattle.float.proofs.Order.{plain, plain-cases, plain-pair, plain-round, plain-le-inf, lt-after, lt-or-eq, under}
 use Rattle.close_pairs.specs.Close.{squareOf}
 use Rattle.close_pairs.specs.Keys.{Number}
-use Rattle.close_pairs.specs.Sweep.{Reach}
+use Rattle.close_pairs.specs.Sweep.{OverSide}
 use Rattle.close_pairs.proofs.Places.{place, apart, sub-is, exponent, digits}
 
 -- ---- the square does not see the sign
@@ -246,7 +246,7 @@ unfolding lt
 not-under-itself u p = plain-cases (λ (a : Float). lt a a ≡ true → ⊥) (λ h. false≢true h) (λ m e h. omega (arith, ltb-true (m * up e * down e) (m * up e * down e) h)) u p
 
 -- the side's own square is such a limit
-pub reaches : (side : Float) → T (plain side) → Reach side (side ⊗ side)
+pub reaches : (side : Float) → T (plain side) → OverSide side (side ⊗ side)
 reaches side p d h =
     let q = after-plain side d p h in
     not-true (lt (d ⊗ d) (side ⊗ side))
@@ -296,7 +296,7 @@ square-abs (fin true m e) = refl
 square-abs (fin false m e) = refl
 
 -- over the side in y: not close
-pub apart-in-y : (side limit dx dy : Float) → Reach side limit → lt side (absOf dy) ≡ true → lt (squareOf dx dy) limit ≡ false
+pub apart-in-y : (side limit dx dy : Float) → OverSide side limit → lt side (absOf dy) ≡ true → lt (squareOf dx dy) limit ≡ false
 unfolding squareOf
 apart-in-y side limit dx dy r h =
     not-true (lt (dx ⊗ dx ⊕ dy ⊗ dy) limit) (λ u. true≢false (sym (under-second dx dy limit u) ∙ rw (← square-abs dy) (r (absOf dy) h)))

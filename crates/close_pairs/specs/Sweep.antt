@@ -27,8 +27,8 @@ abbrev pub sweepHits : List ℕ → List Float → List Float → Float → ℕ 
 sweepHits order xs ys limit n i m = some (λ j. pairHits order xs ys limit i j m) n
 
 -- a difference over the side has a square that is not under the limit
-abbrev pub Reach : Float → Float → Type 0
-Reach side limit = (d : Float) → lt side d ≡ true → lt (d ⊗ d) limit ≡ false
+abbrev pub OverSide : Float → Float → Type 0
+OverSide side limit = (d : Float) → lt side d ≡ true → lt (d ⊗ d) limit ≡ false
 
 -- The order is one along which a sweep may stop: where the square in x alone reaches the limit, nothing later is close.
 pub record Sweepable (order : List ℕ) (xs ys : List Float) (limit : Float) (n : ℕ) : Type 0 where

@@ -17,7 +17,7 @@ ghost use Rattle.folds.specs.Marked.{Marked};
 ghost use Rattle.view.specs.View.{maxPoints, viewAt, Finite};
 ghost use Rattle.close_pairs.specs.Close.{squareOf, closeMark};
 ghost use Rattle.close_pairs.specs.Keys.{RisingKey, Keyed, OrderedByX};
-ghost use Rattle.close_pairs.specs.Sweep.{sweepHits, Reach, Sweepable};
+ghost use Rattle.close_pairs.specs.Sweep.{sweepHits, OverSide, Sweepable};
 
 // A number that rises with x, which is finite.
 fn rising(x: f32) -> u64
@@ -82,7 +82,7 @@ fn both_marked(mark: &Marks, a: usize, b: usize) -> bool
 
 // Marks a and b, which differ by dx and dy, if they are close. Where both are marked already, or too far apart in y, it multiplies nothing.
 fn mark_pair(dx: f32, dy: f32, side: f32, limit: f32, a: usize, b: usize, mark: &mut Marks)
-    requires { ⌜ Reach side limit × (a < maxPoints) × (b < maxPoints) ⌝ }
+    requires { ⌜ OverSide side limit × (a < maxPoints) × (b < maxPoints) ⌝ }
     ensures { λ r. ⌜ Marked (λ (m : ℕ). lt (squareOf dx dy) limit && (eqb a m || eqb b m)) (now (mark .entry)) (now (mark .exit)) ⌝ }
 {
     if both_marked(mark, a, b) {
@@ -109,7 +109,7 @@ fn sweep_from(
     i: usize,
     mark: &mut Marks,
 )
-    requires { ⌜ Sweepable (now order) (now x) (now y) limit n × Reach side limit × (i < n) ⌝ }
+    requires { ⌜ Sweepable (now order) (now x) (now y) limit n × OverSide side limit × (i < n) ⌝ }
     ensures { λ r. ⌜ Marked (sweepHits (now (order .entry)) (now (x .entry)) (now (y .entry)) limit n i) (now (mark .entry)) (now (mark .exit)) ⌝ }
 {
     let a = view::wide(order[i]);
@@ -127,7 +127,7 @@ fn sweep_from(
 
 // Marks the points of each pair that is closer than the root of the limit.
 fn sweep(order: &Places, x: &Floats, y: &Floats, side: f32, limit: f32, n: usize, mark: &mut Marks)
-    requires { ⌜ Sweepable (now order) (now x) (now y) limit n × Reach side limit ⌝ }
+    requires { ⌜ Sweepable (now order) (now x) (now y) limit n × OverSide side limit ⌝ }
     ensures { λ r. ⌜ Marked (λ (m : ℕ). some (λ (i : ℕ). sweepHits (now (order .entry)) (now (x .entry)) (now (y .entry)) limit n i m) n) (now (mark .entry)) (now (mark .exit)) ⌝ }
 {
     let mut i = 0;

@@ -3,8 +3,8 @@ use components::ComponentFilter;
 use edges::EDGES_SIZE;
 use edges::Edges;
 use judged::Findings;
-use judged::figures::Counts;
-use judged::figures::Measures;
+use judged::figures::FigureCounts;
+use judged::figures::FigureMeasures;
 use marks::filters;
 use sheet_file::Settings;
 use view::Floats;
@@ -72,8 +72,8 @@ pub fn measure(
     x: &Floats,
     y: &Floats,
     n: usize,
-    counts: &mut Counts,
-    measures: &mut Measures,
+    counts: &mut FigureCounts,
+    measures: &mut FigureMeasures,
 ) -> Findings
     requires { ⌜ Celled n (now ranks) (now keys) (now x) (now y) × Blank (now counts) (now measures) ⌝ }
     ensures { λ r. ⌜ judgedFrom r (now (counts .exit)) (now (measures .exit)) ≡ measuredOf s (viewAt n (now (ranks .entry)) (now (x .entry)) (now (y .entry))) (cellsAt (now (keys .entry))) ⌝ }
@@ -128,8 +128,8 @@ pub fn judge<'a>(
     x: &'a Floats,
     y: &'a Floats,
     n: usize,
-    counts: &mut Counts,
-    measures: &mut Measures,
+    counts: &mut FigureCounts,
+    measures: &mut FigureMeasures,
 ) -> Findings
     requires { ⌜ Celled n (now ranks) (now keys) (now x) (now y) × Blank (now counts) (now measures) ⌝ }
     ensures { λ r. ⌜ judgedFrom r (now (counts .exit)) (now (measures .exit)) ≡ judgedOf s (viewAt n (now (ranks .entry)) (now (x .entry)) (now (y .entry))) (cellsAt (now (keys .entry))) ⌝ }

@@ -14,7 +14,7 @@ use Rattle.folds.proofs.Lists.{is-list, list-at}
 use Rattle.folds.proofs.Column.{replicate-at, fill-more}
 use Rattle.view.specs.View.{maxPoints, View, rankAt}
 use Rattle.edges.specs.declared.Edge.{Edge}
-use Rattle.edges.specs.Edges.{edgeBy, edgeAt, side, partOf, entryAt, edgesOf, edgesSize, edgePlace, FilledTo}
+use Rattle.edges.specs.Edges.{edgeBy, edgeAt, side, partOf, edgeEntry, edgesOf, edgesSize, edgePlace, FilledTo}
 
 module _ (w : View) where
   -- ---- one edge, where j is the rank at the other end
@@ -31,8 +31,8 @@ module _ (w : View) where
 
   -- ---- the table
 
-  entry-is : (way part k : ℕ) → way < 2 → part < 3 → k < w .count → w .count ≤ maxPoints → entryAt w (edgePlace way part k) ≡ partOf part (edgeAt w (side way) k)
-  unfolding entryAt
+  entry-is : (way part k : ℕ) → way < 2 → part < 3 → k < w .count → w .count ≤ maxPoints → edgeEntry w (edgePlace way part k) ≡ partOf part (edgeAt w (side way) k)
+  unfolding edgeEntry
   entry-is way part k h m l few =
       let a : edgePlace way part k / 3 % maxPoints ≡ k = omega arith in
       let b : edgePlace way part k % 3 ≡ part = omega arith in
@@ -40,20 +40,20 @@ module _ (w : View) where
       rw (a, b, c, lt-ltb k (w .count) l)
 
   -- past the last rank it has what the empty table has
-  past : (i : ℕ) → w .count ≤ i / 3 % maxPoints → entryAt w i ≡ nan
-  unfolding entryAt
+  past : (i : ℕ) → w .count ≤ i / 3 % maxPoints → edgeEntry w i ≡ nan
+  unfolding edgeEntry
   past i h = rw (le-ltb (i / 3 % maxPoints) (w .count) h)
 
   pub edge-part : w .count ≤ maxPoints → (way part k : ℕ) → way < 2 → part < 3 → k < w .count → getD (edgesOf w) (edgePlace way part k) nan ≡ partOf part (edgeAt w (side way) k)
   unfolding edgesOf
-  edge-part few way part k h m l = list-at edgesSize (entryAt w) (edgePlace way part k) nan (omega arith) ∙ entry-is way part k h m l few
+  edge-part few way part k h m l = list-at edgesSize (edgeEntry w) (edgePlace way part k) nan (omega arith) ∙ entry-is way part k h m l few
 
   -- one edge more: its three parts
   module _ (way k : ℕ) (h : way < 2) (l : k < w .count) (few : w .count ≤ maxPoints) {e : Edge} (q : e ≡ edgeAt w (side way) k) where
     part-more : (part : ℕ) {i : ℕ} {t : List Float} → part < 3 → i ≡ edgePlace way part k → FilledTo w i t → FilledTo w (i + 1) (set t i (partOf part e))
     part-more part {i} m p f =
-        fill-more (replicate edgesSize nan) nan (entryAt w) (partOf part e) (omega (arith, length-replicate {A = Float} edgesSize nan))
-        (ap (partOf part) q ∙ sym (entry-is way part k h m l few) ∙ ap (entryAt w) (sym p)) f
+        fill-more (replicate edgesSize nan) nan (edgeEntry w) (partOf part e) (omega (arith, length-replicate {A = Float} edgesSize nan))
+        (ap (partOf part) q ∙ sym (entry-is way part k h m l few) ∙ ap (edgeEntry w) (sym p)) f
 
     pub edge-more : {at : ℕ} {t : List Float} → at ≡ edgePlace way 0 k → FilledTo w (edgePlace way 0 k) t
         → FilledTo w (edgePlace way 0 (k + 1)) (set (set (set t at (e .len)) (at + 1) (e .ux)) (at + 2) (e .uy))
@@ -72,10 +72,10 @@ module _ (w : View) where
     left = λ i l. f .left i (omega arith);
   }
     where
-      at : (i : ℕ) → i < edgePlace (way + 1) 0 0 → Dec (i < edgePlace way 0 (w .count)) → getD t i nan ≡ entryAt w i
+      at : (i : ℕ) → i < edgePlace (way + 1) 0 0 → Dec (i < edgePlace way 0 (w .count)) → getD t i nan ≡ edgeEntry w i
       at i l (yes y) = f .done i y
       at i l (no x) = f .left i (omega (arith, x)) ∙ replicate-at edgesSize nan i ∙ sym (past i (omega (arith, x)))
 
   pub table-done : (t : List Float) → FilledTo w (edgePlace 2 0 0) t → t ≡ edgesOf w
   unfolding edgesOf
-  table-done t f = is-list nan edgesSize (entryAt w) t (f .long ∙ length-replicate {A = Float} edgesSize nan) (λ i m. f .done i (omega arith))
+  table-done t f = is-list nan edgesSize (edgeEntry w) t (f .long ∙ length-replicate {A = Float} edgesSize nan) (λ i m. f .done i (omega arith))

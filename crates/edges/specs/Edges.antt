@@ -49,16 +49,16 @@ abbrev pub edgePlace : ℕ → ℕ → ℕ → ℕ
 edgePlace way part k = 3 * (maxPoints * way + k) + part
 
 -- at place i: nothing past the last rank
-unfoldable pub entryAt : View → ℕ → Float
+unfoldable pub edgeEntry : View → ℕ → Float
 unfolding edgeAt
-entryAt w i =
+edgeEntry w i =
     let k = i / 3 % maxPoints in
     cond (ltb k (w .count)) (partOf (i % 3) (edgeAt w (side (i / 3 / maxPoints)) k)) nan
 
 unfoldable pub edgesOf : View → List Float
-unfolding entryAt listOf
-edgesOf w = listOf edgesSize (entryAt w)
+unfolding edgeEntry listOf
+edgesOf w = listOf edgesSize (edgeEntry w)
 
 -- the table, filled up to place i
 abbrev pub FilledTo : View → ℕ → List Float → Type 0
-FilledTo w i l = Filling (replicate edgesSize nan) nan (entryAt w) i l
+FilledTo w i l = Filling (replicate edgesSize nan) nan (edgeEntry w) i l

@@ -101,17 +101,10 @@ pub fn length(edges: &Edges, way: usize, k: usize) -> f32
     edges[place(way, k)]
 }
 
-// The parts of its unit vector.
-pub fn unit_x(edges: &Edges, way: usize, k: usize) -> f32
-    requires { ⌜ (way < 2) × (k < maxPoints) ⌝ }
-    ensures { λ r. ⌜ r ≡ getD (now (edges .entry)) (edgePlace way 1 k) nan ⌝ }
+// A part of its unit vector: 1 along x, 2 along y.
+pub fn unit(edges: &Edges, way: usize, part: usize, k: usize) -> f32
+    requires { ⌜ (way < 2) × (part < 3) × (k < maxPoints) ⌝ }
+    ensures { λ r. ⌜ r ≡ getD (now (edges .entry)) (edgePlace way part k) nan ⌝ }
 {
-    edges[place(way, k) + 1]
-}
-
-pub fn unit_y(edges: &Edges, way: usize, k: usize) -> f32
-    requires { ⌜ (way < 2) × (k < maxPoints) ⌝ }
-    ensures { λ r. ⌜ r ≡ getD (now (edges .entry)) (edgePlace way 2 k) nan ⌝ }
-{
-    edges[place(way, k) + 2]
+    edges[place(way, k) + part]
 }

@@ -22,7 +22,7 @@ use Rattle.edge_shape.specs.declared.Measure.the-variants.{Absent, Held}
 use Rattle.edge_shape.specs.declared.Reason.{Reason}
 use Rattle.edge_shape.specs.declared.Reason.the-variants.{NoReason, LowCardinalDegree, BadContinuation, NoValidAdjacentCell}
 use Rattle.edge_shape.specs.declared.Figures.{Figures}
-use Rattle.judged.specs.Columns.{countsSize, measuresSize, measureOf, reasonWith, reasonFrom, figuresFrom, figuresIn, isHeld, cosineIn, ratioIn, Sized, Blank, Put}
+use Rattle.judged.specs.Columns.{countsSize, measuresSize, measureOf, reasonWith, reasonFrom, figuresFrom, figuresIn, isHeld, cosineIn, ratioIn, Sized, Blank, FiguresPut}
 
 -- what was put is read again
 reason-again : (r : Reason) → reasonWith (reasonNumber r) ≡ r
@@ -101,7 +101,7 @@ module _ (f : Figures) (k : ℕ) (counts : List ℕ) (measures : List Float) (h 
       (measure-out m 2 (omega arith) ne) (measure-out m 3 (omega arith) ne)
       ∙ sym (by-reads counts measures m refl refl refl refl refl refl refl refl refl refl)
 
-  put : Put f k counts measures counts′ measures′
+  put : FiguresPut f k counts measures counts′ measures′
   put = record {
     sized = record { counts-long = length-sets counts (6 * k) (countsOf f) ∙ z .counts-long; measures-long = length-sets measures (4 * k) (measuresOf f) ∙ z .measures-long };
     here = here;
@@ -111,7 +111,7 @@ module _ (f : Figures) (k : ℕ) (counts : List ℕ) (measures : List Float) (h 
   -- as the code stores them
   pub stored : {reason going shaped : ℕ} {p q r t : Float} → reason ≡ reasonNumber (f .reason) → going ≡ bit (isHeld (f .continuation)) → shaped ≡ bit (isHeld (f .cells))
       → p ≡ cosineIn (f .continuation) → q ≡ ratioIn (f .continuation) → r ≡ cosineIn (f .cells) → t ≡ ratioIn (f .cells)
-      → Put f k counts measures
+      → FiguresPut f k counts measures
       (set (set (set (set (set (set counts (6 * k) (f .degree)) (6 * k + 1) (f .adjacent)) (6 * k + 2) (f .valid)) (6 * k + 3) reason) (6 * k + 4) going) (6 * k + 5) shaped)
       (set (set (set (set measures (4 * k) p) (4 * k + 1) q) (4 * k + 2) r) (4 * k + 3) t)
   stored a b c d e g i =
@@ -135,7 +135,7 @@ blank-filled g {counts} {measures} b = record {
     z : (i : ℕ) → getD counts i 0 ≡ 0
     z i = rw (b .zeros) (replicate-at countsSize 0 i)
 
-pub filled-more : (g : ℕ → Figures) (k : ℕ) {f : Figures} {counts counts′ : List ℕ} {measures measures′ : List Float} → f ≡ g k → Put f k counts measures counts′ measures′
+pub filled-more : (g : ℕ → Figures) (k : ℕ) {f : Figures} {counts counts′ : List ℕ} {measures measures′ : List Float} → f ≡ g k → FiguresPut f k counts measures counts′ measures′
     → Filled g k counts measures → Filled g (k + 1) counts′ measures′
 filled-more g k {f} {counts} {counts′} {measures} {measures′} e p r = record {
   sized = p .sized;

@@ -77,7 +77,7 @@ pub record Blank (counts : List ℕ) (measures : List Float) : Type 0 where
   pub long : length measures ≡ measuresSize
 
 -- the figures f are those of rank k now, and all others are as they were
-pub record Put (f : Figures) (k : ℕ) (counts : List ℕ) (measures : List Float) (counts′ : List ℕ) (measures′ : List Float) : Type 0 where
+pub record FiguresPut (f : Figures) (k : ℕ) (counts : List ℕ) (measures : List Float) (counts′ : List ℕ) (measures′ : List Float) : Type 0 where
   pub sized : Sized counts′ measures′
   pub here : figuresFrom counts′ measures′ k ≡ f
   pub elsewhere : (m : ℕ) → (m ≡ k → ⊥) → figuresFrom counts′ measures′ m ≡ figuresFrom counts measures m

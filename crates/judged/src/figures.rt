@@ -13,17 +13,17 @@ ghost use Rattle.folds.specs.Marked.{bit};
 ghost use Rattle.view.specs.View.{viewAt, maxPoints};
 ghost use Rattle.edge_shape.specs.Figures.{indexFigures};
 ghost use Rattle.edge_shape.specs.Given.{WithEdges};
-ghost use Rattle.judged.specs.Columns.{Blank, Sized, Put, isHeld, cosineIn, ratioIn, measureOf, reasonWith, reasonFrom, figuresFrom, figuresIn};
+ghost use Rattle.judged.specs.Columns.{Blank, Sized, FiguresPut, isHeld, cosineIn, ratioIn, measureOf, reasonWith, reasonFrom, figuresFrom, figuresIn};
 
 // Six small numbers for each point: degree, adjacent cells, valid cells, reason, whether there is a measure of continuations, and of cells.
-pub const COUNTS_SIZE: usize = 6 * MAX_POINTS;
+pub const FIGURE_COUNTS_SIZE: usize = 6 * MAX_POINTS;
 
 // Four floats for each point: cosine and ratio of the continuations, cosine and ratio of the cells.
-pub const MEASURES_SIZE: usize = 4 * MAX_POINTS;
+pub const FIGURE_MEASURES_SIZE: usize = 4 * MAX_POINTS;
 
-pub type Counts = [u8; COUNTS_SIZE];
+pub type FigureCounts = [u8; FIGURE_COUNTS_SIZE];
 
-pub type Measures = [f32; MEASURES_SIZE];
+pub type FigureMeasures = [f32; FIGURE_MEASURES_SIZE];
 
 // ---- to the tables
 
@@ -56,9 +56,9 @@ fn ratio(m: Measure) -> f32
 }
 
 // Puts the figures of rank k into the tables.
-fn put_figures(f: Figures, k: usize, counts: &mut Counts, measures: &mut Measures)
+fn put_figures(f: Figures, k: usize, counts: &mut FigureCounts, measures: &mut FigureMeasures)
     requires { ⌜ (k < maxPoints) × Sized (now counts) (now measures) ⌝ }
-    ensures { λ r. ⌜ Put f k (now (counts .entry)) (now (measures .entry)) (now (counts .exit)) (now (measures .exit)) ⌝ }
+    ensures { λ r. ⌜ FiguresPut f k (now (counts .entry)) (now (measures .entry)) (now (counts .exit)) (now (measures .exit)) ⌝ }
 {
     let reason = f.reason;
     let continuation = f.continuation;
@@ -83,8 +83,8 @@ pub fn evaluate_edge_shape(
     y: &Floats,
     edges: &Edges,
     n: usize,
-    counts: &mut Counts,
-    measures: &mut Measures,
+    counts: &mut FigureCounts,
+    measures: &mut FigureMeasures,
 )
     requires { ⌜ WithEdges n (now ranks) (now x) (now y) (now edges) × Blank (now counts) (now measures) ⌝ }
     ensures { λ r. ⌜ figuresIn (now (counts .exit)) (now (measures .exit)) ≡ indexFigures g (viewAt n (now (ranks .entry)) (now (x .entry)) (now (y .entry))) ⌝ }
@@ -113,20 +113,16 @@ fn measure_of(held: u8, cosine: f32, ratio: f32) -> Measure
 fn reason_with(number: u8) -> Reason
     ensures { λ r. ⌜ r ≡ reasonWith number ⌝ }
 {
-    if number == 1 {
-        return Reason::LowCardinalDegree;
+    match number {
+        1 => Reason::LowCardinalDegree,
+        2 => Reason::BadContinuation,
+        3 => Reason::NoValidAdjacentCell,
+        _ => Reason::NoReason,
     }
-    if number == 2 {
-        return Reason::BadContinuation;
-    }
-    if number == 3 {
-        return Reason::NoValidAdjacentCell;
-    }
-    Reason::NoReason
 }
 
 // The reason that the table holds for rank k.
-pub fn reason_from(counts: &Counts, k: usize) -> Reason
+pub fn reason_from(counts: &FigureCounts, k: usize) -> Reason
     requires { ⌜ k < maxPoints ⌝ }
     ensures { λ r. ⌜ r ≡ reasonFrom (now (counts .entry)) k ⌝ }
 {
@@ -134,7 +130,7 @@ pub fn reason_from(counts: &Counts, k: usize) -> Reason
 }
 
 // The figures that the tables hold for rank k.
-pub fn figures_from(counts: &Counts, measures: &Measures, k: usize) -> Figures
+pub fn figures_from(counts: &FigureCounts, measures: &FigureMeasures, k: usize) -> Figures
     requires { ⌜ k < maxPoints ⌝ }
     ensures { λ r. ⌜ r ≡ figuresFrom (now (counts .entry)) (now (measures .entry)) k ⌝ }
 {

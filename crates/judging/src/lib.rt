@@ -1,7 +1,7 @@
 // From the points of a sheet in cell order to the judged sheet. What it is stands in specs/Judging.antt.
 use judged::Findings;
-use judged::figures::Counts;
-use judged::figures::Measures;
+use judged::figures::FigureCounts;
+use judged::figures::FigureMeasures;
 use points::Table;
 use sheet_file::Settings;
 use view::RANKS_SIZE;
@@ -15,8 +15,8 @@ pub fn judge(
     s: Settings,
     n: usize,
     table: Table,
-    counts: &mut Counts,
-    measures: &mut Measures,
+    counts: &mut FigureCounts,
+    measures: &mut FigureMeasures,
 ) -> Findings
     requires { ⌜ Arrays n table × Blank (now counts) (now measures) ⌝ }
     ensures { λ r. ⌜ judgedFrom r (now (counts .exit)) (now (measures .exit)) ≡ judgedBy s n table ⌝ }

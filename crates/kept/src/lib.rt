@@ -1,6 +1,6 @@
 // The call on a sheet file: its rows and counts, or the number of a refusal.
-use judged::figures::COUNTS_SIZE;
-use judged::figures::MEASURES_SIZE;
+use judged::figures::FIGURE_COUNTS_SIZE;
+use judged::figures::FIGURE_MEASURES_SIZE;
 use ruling::Sheet;
 ghost use mathlib.Core.Path.{_≡_};
 ghost use lib.ListN.{length};
@@ -29,8 +29,8 @@ fn keep_sheet(file: &[u8], sheet: Sheet, rows: &mut [u8]) -> Answer
     let table = sheet.table;
     let number = table.number;
     if number == 0 {
-        let mut counts = [0u8; COUNTS_SIZE];
-        let mut measures = [0.0f32; MEASURES_SIZE];
+        let mut counts = [0u8; FIGURE_COUNTS_SIZE];
+        let mut measures = [0.0f32; FIGURE_MEASURES_SIZE];
         let j = judging::judge(settings, n, table, &mut counts, &mut measures);
         rows::write_rows(j, &counts, &measures, n, rows);
         return Answer::Accepted(Counts {

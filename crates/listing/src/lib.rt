@@ -2,7 +2,7 @@
 mod line;
 
 use judged::Findings;
-use judged::figures::Counts;
+use judged::figures::FigureCounts;
 use marks::COUNTS;
 use marks::filters::FILTERS;
 use text::Written;
@@ -48,7 +48,7 @@ fn put_lines(
     keys: &Words,
     idx: &Words,
     j: Findings,
-    counts: &Counts,
+    counts: &FigureCounts,
     out: &mut [u8],
     at: usize,
 ) -> usize
@@ -105,7 +105,7 @@ pub fn write_listing(
     keys: &Words,
     idx: &Words,
     j: Findings,
-    counts: &Counts,
+    counts: &FigureCounts,
     out: &mut [u8],
 ) -> Written
     requires { ⌜ n ≤ maxPoints ⌝ }

@@ -2,8 +2,8 @@
 use edge_shape::Figures;
 use edge_shape::Measure;
 use judged::Findings;
-use judged::figures::Counts;
-use judged::figures::Measures;
+use judged::figures::FigureCounts;
+use judged::figures::FigureMeasures;
 ghost use mathlib.Core.Path.{_≡_};
 ghost use Prim.Native.Nat.{_+_, _*_, _≤_};
 ghost use lib.ListN.{length};
@@ -111,7 +111,13 @@ fn put_row(marks: u8, has: u8, value: f32, f: Figures, boundary: u8, rows: &mut 
 }
 
 // Writes the rows of ranks 0 to n - 1 of a judged sheet.
-pub fn write_rows(j: Findings, counts: &Counts, measures: &Measures, n: usize, rows: &mut [u8])
+pub fn write_rows(
+    j: Findings,
+    counts: &FigureCounts,
+    measures: &FigureMeasures,
+    n: usize,
+    rows: &mut [u8],
+)
     requires { ⌜ (n ≤ maxPoints) × (rowSize * n ≤ length (now rows)) ⌝ }
     ensures { λ r. ⌜ now (rows .exit) ≡ rowsOver n (shownAt (judgedFrom j (now (counts .entry)) (now (measures .entry)))) (now (rows .entry)) ⌝ }
 {

@@ -1,6 +1,6 @@
 // From the bytes of a sheet file to the text that the program `sheet` prints. What it is stands in specs/Text.antt.
-use judged::figures::COUNTS_SIZE;
-use judged::figures::MEASURES_SIZE;
+use judged::figures::FIGURE_COUNTS_SIZE;
+use judged::figures::FIGURE_MEASURES_SIZE;
 use text::Written;
 use view::MAX_POINTS;
 ghost use mathlib.Core.Path.{_≡_};
@@ -24,8 +24,8 @@ pub fn list_sheet(file: &[u8], out: &mut [u8]) -> Written
     if number == 0 {
         let keys = table.keys;
         let idx = table.idx;
-        let mut counts = [0u8; COUNTS_SIZE];
-        let mut measures = [0.0f32; MEASURES_SIZE];
+        let mut counts = [0u8; FIGURE_COUNTS_SIZE];
+        let mut measures = [0.0f32; FIGURE_MEASURES_SIZE];
         let j = judging::judge(settings, n, table, &mut counts, &mut measures);
         return listing::write_listing(n, &keys, &idx, j, &counts, out);
     }

@@ -44,9 +44,9 @@ abbrev pub shown : List ℕ
 shown = bytes "points 5 components 2\n0 0 10 ---- - -\n0 1 12 ---- - -\n1 0 11 ---- - -\n1 1 13 ---- - -\n5 5 14 ---C - -\nkept 4 validate 0 orientation 0 wrong 0 component 1\n"
 
 -- what is printed of the file
-pub listed : textOf file ≡ shown
+pub printed : textOf file ≡ shown
 unfolding textOf file-computes rules-compute
-listed = refl
+printed = refl
 
 -- the rows that the call leaves in a buffer of 28 bytes a point, which held 255 throughout: the last has the component mark
 pub rows-left : rowsAfter file (replicate 140 255) ≡ replicate 112 0 ++ 8 ∷ replicate 27 0

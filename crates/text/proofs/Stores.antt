@@ -16,7 +16,7 @@ use Rattle.text.specs.Stored.{nextPlace, placeAfter, laid, Stored}
 use Rattle.text.proofs.Numbers.{below-or-not}
 use Rattle.text.specs.declared.Written.{Written}
 use Rattle.text.specs.declared.Written.the-variants.{Whole}
-use Rattle.text.specs.Answer.{answerOf, Shows}
+use Rattle.text.specs.Answer.{writtenOf, Shows}
 
 length-laid : (l : List ℕ) (at : ℕ) (t : List ℕ) → length (laid l at t) ≡ length l
 length-laid l at [] = refl
@@ -97,14 +97,14 @@ place-beyond : (size at : ℕ) (t : List ℕ) → at ≤ size → size < at + le
 place-beyond size at [] h l = absurd (omega arith)
 place-beyond size at (c ∷ t) h l = below-or-not (λ (p : ℕ). placeAfter size p t ≡ size + 1) at size (λ b. place-beyond size (at + 1) t (omega arith) (omega arith)) (λ b. place-past size t)
 
-same-answer : (size : ℕ) (t : List ℕ) → answerOf (placeAfter size 0 t) size ≡ answerOf (length t) size
+same-answer : (size : ℕ) (t : List ℕ) → writtenOf (placeAfter size 0 t) size ≡ writtenOf (length t) size
 same-answer size t = elim (decLe (length t) size) [
   | yes h ↦ rw (place-within size 0 t (omega arith)) (let z : 0 + length t ≡ length t = omega arith in rw z)
   | no h ↦ rw (place-beyond size 0 t (omega arith) (omega arith), lt-leb (size + 1) size (omega arith), lt-leb (length t) size (omega arith))
 ]
 
 -- a text from the buffer's start on
-pub shows : {l t m : List ℕ} {e : ℕ} {r : Written} → Stored l 0 t m e → r ≡ answerOf e (length m) → Shows t l m r
+pub shows : {l t m : List ℕ} {e : ℕ} {r : Written} → Stored l 0 t m e → r ≡ writtenOf e (length m) → Shows t l m r
 shows {l} {t} {m} {e} {r} p q =
     record {
       buffer = p .buffer ∙ laid-whole l t;

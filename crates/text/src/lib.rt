@@ -3,7 +3,7 @@
 ghost use mathlib.Core.Path.{_≡_};
 ghost use mathlib.Core.List.{[], _∷_};
 ghost use Prim.Native.Nat.{_<_};
-ghost use Rattle.text.specs.Answer.{answerOf};
+ghost use Rattle.text.specs.Answer.{writtenOf};
 ghost use Rattle.text.specs.Text.{decimal, hexDigit, hex};
 ghost use Rattle.text.specs.Stored.{Stored};
 
@@ -17,7 +17,7 @@ pub enum Written {
 
 // What to answer where the place after the whole text is `next` and the buffer has `size` bytes.
 pub fn answer(next: usize, size: usize) -> Written
-    ensures { λ r. ⌜ r ≡ answerOf next size ⌝ }
+    ensures { λ r. ⌜ r ≡ writtenOf next size ⌝ }
 {
     if next <= size {
         return Written::Whole(next);

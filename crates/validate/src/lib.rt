@@ -2,8 +2,8 @@
 use edge_shape::Reason;
 use edges::Edges;
 use judged::Findings;
-use judged::figures::Counts;
-use judged::figures::Measures;
+use judged::figures::FigureCounts;
+use judged::figures::FigureMeasures;
 use sheet_file::EdgeGate;
 use sheet_file::Settings;
 use view::Floats;
@@ -61,8 +61,8 @@ pub fn edge_figures(
     y: &Floats,
     edges: &Edges,
     n: usize,
-    counts: &mut Counts,
-    measures: &mut Measures,
+    counts: &mut FigureCounts,
+    measures: &mut FigureMeasures,
 )
     requires { ⌜ WithEdges n (now ranks) (now x) (now y) (now edges) × Blank (now counts) (now measures) ⌝ }
     ensures { λ r. ⌜ figuresIn (now (counts .exit)) (now (measures .exit)) ≡ gateFigures gate (viewAt n (now (ranks .entry)) (now (x .entry)) (now (y .entry))) ⌝ }
@@ -104,7 +104,7 @@ fn mark_with(marked: u8, reason: Reason) -> u8
 }
 
 // Rule 5, beside the others.
-fn with_reasons(mark: &Marks, counts: &Counts, n: usize) -> Marks
+fn with_reasons(mark: &Marks, counts: &FigureCounts, n: usize) -> Marks
     requires { ⌜ n ≤ maxPoints ⌝ }
     ensures { λ r. ⌜ r ≡ column maxPoints 0 n (λ (k : ℕ). bit (isSet (now (mark .entry)) k || isReason (reasonFrom (now (counts .entry)) k))) ⌝ }
 {
@@ -126,7 +126,7 @@ pub fn validate(
     x: &Floats,
     y: &Floats,
     n: usize,
-    counts: &Counts,
+    counts: &FigureCounts,
 ) -> Findings
     requires { ⌜ Prepared s n (now ranks) (now keys) (now x) (now y) (now counts) ⌝ }
     ensures { λ r. ⌜ r ≡ validatedOf s (viewAt n (now (ranks .entry)) (now (x .entry)) (now (y .entry))) (cellsAt (now (keys .entry))) ⌝ }

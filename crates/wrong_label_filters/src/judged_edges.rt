@@ -81,8 +81,8 @@ fn with_edge_at(
         return with_edge(
             v,
             OVERLONG_RATIO * len < own,
-            edges::unit_x(edges, way, e),
-            edges::unit_y(edges, way, e),
+            edges::unit(edges, way, 1, e),
+            edges::unit(edges, way, 2, e),
         );
     }
     v
@@ -191,8 +191,8 @@ fn fails_at(
             return Verdict {
                 fails: fails_in(
                     v,
-                    edges::unit_x(edges, way, k),
-                    edges::unit_y(edges, way, k),
+                    edges::unit(edges, way, 1, k),
+                    edges::unit(edges, way, 2, k),
                 ),
                 limit: limit,
             };

@@ -5,6 +5,7 @@ use lib.ListN.{getD}
 use Rattle.folds.specs.Below.{some}
 use Rattle.folds.specs.Marked.{Marked}
 use Rattle.folds.proofs.Marked.{marked-none, marked-as, marked-more}
+use Rattle.view.specs.View.{maxPoints}
 use Rattle.close_pairs.specs.Close.{close, squareOf}
 use Rattle.close_pairs.specs.Sweep.{pairHits}
 use Rattle.close_pairs.proofs.Pairs.{sweep-none, sweep-stop, pair-is}
@@ -19,7 +20,7 @@ abbrev μ-loop : tie.MeasureT-loop
 μ-loop order x y side limit n i mark₀ a j₀ mark j = n - j
 
 -- both ranks are places of the arrays
-ins : (c : tie.After-wide2 Inv-loop μ-loop) → (c .wide2 .result < 2048) × (c .before .before .before .before .wide .result < 2048)
+ins : (c : tie.After-wide2 Inv-loop μ-loop) → (c .wide2 .result < maxPoints) × (c .before .before .before .before .wide .result < maxPoints)
 ins c =
     let l = c .before .before .before .loop in
     let i = c .before .before .before .before .before .before in
@@ -31,30 +32,6 @@ add-j c = omega (arith, c .before .before .pre .0 .few)
 
 loop-holds : tie.Need-loop-holds Inv-loop μ-loop
 loop-holds c = let g = c .before .before .args in (omega arith, omega arith, marked-none _ _ (λ m. sweep-none (g .order .now) (g .x .now) (g .y .now) (g .limit) (g .n) (g .i) m), c .wide .ensures)
-
-mul-dx : tie.Need-mul-dx Inv-loop μ-loop
-mul-dx c = omega (arith, ins c)
-
-element-copy-out-dx : tie.Need-element-copy-out-dx Inv-loop μ-loop
-element-copy-out-dx c = omega (arith, ins c)
-
-mul-dx-2 : tie.Need-mul-dx-2 Inv-loop μ-loop
-mul-dx-2 c = omega (arith, ins (c .before))
-
-element-copy-out-dx-2 : tie.Need-element-copy-out-dx-2 Inv-loop μ-loop
-element-copy-out-dx-2 c = omega (arith, ins (c .before))
-
-mul-mark-pair : tie.Need-mul-mark-pair Inv-loop μ-loop
-mul-mark-pair c = omega (arith, ins (c .before .before .before))
-
-element-copy-out-mark-pair : tie.Need-element-copy-out-mark-pair Inv-loop μ-loop
-element-copy-out-mark-pair c = omega (arith, ins (c .before .before .before))
-
-mul-mark-pair-2 : tie.Need-mul-mark-pair-2 Inv-loop μ-loop
-mul-mark-pair-2 c = omega (arith, ins (c .before .before .before .before))
-
-element-copy-out-mark-pair-2 : tie.Need-element-copy-out-mark-pair-2 Inv-loop μ-loop
-element-copy-out-mark-pair-2 c = omega (arith, ins (c .before .before .before .before))
 
 mark-pair-requires : tie.Need-mark-pair-requires Inv-loop μ-loop
 mark-pair-requires c κs = let w = c .before .before .before .before .before .before in let h = ins w in (w .before .before .before .before .before .before .pre .1, h .1, h .0)
@@ -88,6 +65,8 @@ pub sweep-from-spec : {M : Type 1} → statement M
 sweep-from-spec =
     tie.close
     (tie.spec Inv-loop μ-loop (λ c. search needs) (λ c. search needs) (λ c κs. search needs) add-j loop-holds (λ c. search needs)
-    (λ c. search needs) (λ c κs. search needs) mul-dx element-copy-out-dx mul-dx-2 element-copy-out-dx-2 returns mul-mark-pair
-    element-copy-out-mark-pair mul-mark-pair-2 element-copy-out-mark-pair-2 mark-pair-requires (λ c. search needs) (λ c. search needs)
+    (λ c. search needs) (λ c κs. search needs) (λ c. omega (arith, ins c)) (λ c. omega (arith, ins c))
+    (λ c. omega (arith, ins (c .before))) (λ c. omega (arith, ins (c .before))) returns (λ c. omega (arith, ins (c .before .before .before)))
+    (λ c. omega (arith, ins (c .before .before .before))) (λ c. omega (arith, ins (c .before .before .before .before))) (λ c. omega (arith, ins (c .before .before .before .before)))
+    mark-pair-requires (λ c. search needs) (λ c. search needs)
     loop-again returns-2)

@@ -3,7 +3,7 @@ use mathlib.Core.Path.{_≡_}
 use mathlib.Core.List.{[]}
 use native.Mathlib.Omega.{arith}
 use borrow.Author.Needs.{needs}
-use Rattle.view.specs.View.{viewAt}
+use Rattle.view.specs.View.{viewAt, maxPoints}
 use Rattle.wrong_label_filters.specs.Lasts.{lineStart, Lasts}
 use Rattle.wrong_label_filters.proofs.LineEnds.{line-below, lasts-none, lasts-more}
 use Rattle.wrong_label_filters.proofs.frontier.lasts_of.Statement.{statement}
@@ -15,7 +15,7 @@ Inv-loop ranks n way lasts₀ k₀ lasts k = (k ≤ n) × Lasts (lineStart (view
 abbrev μ-loop : tie.MeasureT-loop
 μ-loop ranks n way lasts₀ k₀ lasts k = n - k
 
-inside : (c : tie.After-line-of Inv-loop μ-loop) → c .line-of .result < 2048
+inside : (c : tie.After-line-of Inv-loop μ-loop) → c .line-of .result < maxPoints
 inside c =
     let i = c .before .before .before .before in
     let a = i .args in

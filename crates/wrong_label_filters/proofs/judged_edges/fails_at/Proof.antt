@@ -37,7 +37,7 @@ by-window c =
 returns : tie.Need-returns
 returns c =
     let w = c .before .before .before .before .before in
-    (rw (by-window w, le-leb _ _ (c .before .before .before .if2 .taken), ← c .before .before .unit-x .ensures, ← c .before .unit-y .ensures) (c .fails-in .ensures), w .before .before .before .pre .limits)
+    (rw (by-window w, le-leb _ _ (c .before .before .before .if2 .taken), ← c .before .before .unit .ensures, ← c .before .unit2 .ensures) (c .fails-in .ensures), w .before .before .before .pre .limits)
 
 returns-2 : tie.Need-returns-2
 returns-2 c =

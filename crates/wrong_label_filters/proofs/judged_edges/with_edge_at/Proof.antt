@@ -17,7 +17,7 @@ unfolding inWindow
 returns-3 c =
     let l = c .before .before .before .before in
     let r = l .before .before in
-    rw (ne-eqb _ _ (r .before .if1 .left), ← r .rank-at .ensures, lt-ltb _ _ (l .before .if2 .left), ← l .length .ensures, c .before .before .before .if3 .taken, ← c .before .before .unit-x .ensures, ← c .before .unit-y .ensures)
+    rw (ne-eqb _ _ (r .before .if1 .left), ← r .rank-at .ensures, lt-ltb _ _ (l .before .if2 .left), ← l .length .ensures, c .before .before .before .if3 .taken, ← c .before .before .unit .ensures, ← c .before .unit2 .ensures)
     (c .with-edge .ensures)
 
 returns-4 : tie.Need-returns-4
