@@ -8,7 +8,7 @@ use lib.IntN.{ℤ, pos, negsuc, _+ℤ_, _-ℤ_, +ℤ-idr, +ℤ-assoc, +ℤ-comm,
 use lib.ListN.{getD}
 use borrow.Author.Tests.{eqb-true, eq-eqb}
 use Rattle.folds.proofs.Below.{some-at, some-yes, and-left, and-right, and-both, both-ways, or-left, or-right, or-cases}
-use Rattle.view.specs.View.{own, squareSides}
+use Rattle.view.specs.View.{squareSides}
 use Rattle.cells.specs.Cell.{Cell, moved, agree, differByOne, shareEdge, coincide, offsetBy, joinedBy}
 
 -- ---- whole numbers
@@ -56,10 +56,6 @@ offset-moved a b d c e =
     let f : offsetBy d (moved a b c) ≡ moved a b (offsetBy d c) = same-cell (swapped (c .u) a _) (swapped (c .v) b _) in
     ap (coincide (moved a b e)) f ∙ rw (agree-moved (e .u) (offsetBy d c .u) a, agree-moved (e .v) (offsetBy d c .v) b)
 
--- offset 12 leads to the cell itself, and offset 24 - d back from offset d
-pub offset-own : (c : Cell) → offsetBy own c ≡ c
-offset-own c = same-cell (+ℤ-idr (c .u)) (+ℤ-idr (c .v))
-
 back : (z : ℤ) (e : ℕ) → e < 5 → (z +ℤ (pos e -ℤ pos 2)) +ℤ (pos (4 - e) -ℤ pos 2) ≡ z
 back z e h = +ℤ-assoc z (pos e -ℤ pos 2) (pos (4 - e) -ℤ pos 2) ∙ ap (λ (w : ℤ). z +ℤ w) (opposite e h) ∙ +ℤ-idr z
   where
@@ -71,6 +67,7 @@ back z e h = +ℤ-assoc z (pos e -ℤ pos 2) (pos (4 - e) -ℤ pos 2) ∙ ap (λ
     opposite (suc (suc (suc (suc zero)))) h = refl
     opposite (suc (suc (suc (suc (suc e))))) h = absurd (omega arith)
 
+-- offset 24 - d leads back from offset d
 pub offset-back : (d : ℕ) (c : Cell) → d < 25 → offsetBy (24 - d) (offsetBy d c) ≡ c
 offset-back d c h =
     let a : (24 - d) / 5 ≡ 4 - d / 5 = omega arith in

@@ -11,7 +11,7 @@ use native.Mathlib.Omega.{arith}
 use lib.Dec.{eqb}
 use lib.Ieee.{Float}
 use borrow.Author.Tests.{eq-eqb, ne-eqb}
-use Rattle.folds.specs.Arith.{_⊕_, zeroF}
+use Rattle.folds.specs.Arith.{_⊕_}
 use Rattle.folds.specs.Below.{fold, turn, some, every, tally, sumOf, firstIn, first, last}
 
 -- ---- tests
@@ -207,10 +207,6 @@ module _ (p : ℕ → Bool) where
       go : (b : Bool) → tally p n ≤ n → cond b (tally p n + 1) (tally p n) ≤ suc n
       go true h = omega arith
       go false h = omega arith
-
-  pub sum-none : (f : ℕ → Float) → sumOf p f 0 ≡ zeroF
-  unfolding sumOf
-  sum-none f = refl
 
   pub sum-more : (f : ℕ → Float) (i : ℕ) → sumOf p f (i + 1) ≡ cond (p i) (sumOf p f i ⊕ f i) (sumOf p f i)
   unfolding sumOf

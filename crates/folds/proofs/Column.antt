@@ -66,18 +66,6 @@ module _ {A : Type 0} where
         at k (inl q) = rw (q, getD-set-same l i v d (omega (arith, r .long))) e
         at k (inr m) = let ne : (k ≡ i → ⊥) = λ q. omega arith in getD-set-other l i k v d ne ∙ r .done k m
 
-    -- nothing is stored, where what stands there is right
-    pub fill-skip : {i : ℕ} {l : List A} → getD l₀ i d ≡ f i → Filling l₀ d f i l → Filling l₀ d f (i + 1) l
-    fill-skip {i} {l} e r = record {
-      long = r .long;
-      done = λ k m. at k (eq-or-lt-of-le (omega arith));
-      left = λ k m. r .left k (omega arith);
-    }
-      where
-        at : (k : ℕ) → (k ≡ i) ⊎ (k < i) → getD l k d ≡ f k
-        at k (inl q) = rw q (r .left i (omega arith) ∙ e)
-        at k (inr m) = r .done k m
-
     -- a lent buffer: the rest stays
     pub filled-over : {l : List A} (n : ℕ) → n ≤ length l₀ → Filling l₀ d f n l → l ≡ overlaid n f l₀
     unfolding overlaid

@@ -9,7 +9,7 @@ use native.Mathlib.Numerals.{add-one}
 use native.Mathlib.Omega.{arith}
 use lib.ListN.{length, getD, take, set, length-append, length-set}
 use mathlib.Core.Logic.{_⊎_, inl, inr}
-use lib.Seq.{sets, length-take-le, ext-getD, take-suc, take-suc-set, getD-set-same, getD-set-other}
+use lib.Seq.{sets, ext-getD, take-suc, take-suc-set, getD-set-same, getD-set-other}
 use borrow.Author.Count.{below-more}
 use Rattle.folds.specs.Below.{fold, tally}
 use Rattle.folds.specs.Lists.{upFrom, listOf, listed, All, over, Gathered}
@@ -169,9 +169,6 @@ gathered-put p n l c h g e = record {
   held = rw (listed-more p (λ (k : ℕ). k) n, e, add-one c, take-suc-set l c n (omega (arith, g .few)), g .held);
   each = λ i m. below-more (λ (i : ℕ). getD (set l c n) i 0 < n + 1) c (λ k kc. let ne : k ≡ c → ⊥ = λ q. omega arith in rw getD-set-other (omega (arith, g .each k kc))) (rw (getD-set-same l c n 0 (omega (arith, g .few))) (omega arith)) i m;
 }
-
-pub gathered-count : (p : ℕ → Bool) (n : ℕ) (l : List ℕ) (c : ℕ) → c ≤ length l → Gathered p n l c → c ≡ tally p n
-gathered-count p n l c h g = sym (length-take-le c l h) ∙ ap length (g .held) ∙ listed-length p (λ (k : ℕ). k) n
 
 -- ---- what is read after a run of stores
 

@@ -16,10 +16,6 @@ use Rattle.folds.specs.Column.{column}
 use Rattle.folds.proofs.Column.{filled, replicate-at}
 use Rattle.folds.specs.Marked.{bit, Marked}
 
-pub bit-le : (b : Bool) → bit b ≤ 1
-bit-le true = omega arith
-bit-le false = omega arith
-
 pub bit-is : (b : Bool) → eqb (bit b) 1 ≡ b
 bit-is true = refl
 bit-is false = refl

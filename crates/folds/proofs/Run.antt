@@ -1,7 +1,7 @@
 -- One turn more of a loop, its end, what each step keeps, and loops whose steps agree. Assumes nothing.
 use Prim.Native.Nat.{ℕ, zero, suc, _+_, _-_, _<_, _≤_}
 use native.Mathlib.Omega.{arith}
-use mathlib.Core.Path.{_≡_, refl}
+use mathlib.Core.Path.{_≡_}
 use Rattle.folds.specs.Run.{upTo, run, down}
 
 module _ {A : Type 0} where
@@ -42,13 +42,3 @@ module _ {A : Type 0} where
   run-keeps P step i e a l p h =
       let z : i + (e - i) ≡ e = omega arith in
       rw z at (upTo-keeps P step (e - i) i a p (λ k m o b q. h k m (omega arith) b q))
-
-  -- two loops whose steps agree
-  upTo-ext : (s t : ℕ → A → A) (n i : ℕ) (a : A) → ((k : ℕ) → i ≤ k → k < i + n → (b : A) → s k b ≡ t k b) → upTo s n i a ≡ upTo t n i a
-  unfolding upTo
-  upTo-ext s t zero i a h = refl
-  upTo-ext s t (suc n) i a h = rw (h i (omega arith) (omega arith) a) (upTo-ext s t n (i + 1) (t i a) (λ k l m b. h k (omega arith) (omega arith) b))
-
-  pub run-ext : (s t : ℕ → A → A) (i e : ℕ) (a : A) → ((k : ℕ) → i ≤ k → k < e → (b : A) → s k b ≡ t k b) → run s i e a ≡ run t i e a
-  unfolding run
-  run-ext s t i e a h = upTo-ext s t (e - i) i a (λ k l m b. h k l (omega arith) b)

@@ -8,7 +8,7 @@ use native.Mathlib.Omega.{arith}
 use borrow.Author.Tests.{eq-eqb, ne-eqb, lt-ltb, le-ltb, ltb-true, ltb-false}
 use lib.Dec.{eqb, ltb}
 use lib.ListN.{length, getD, set, length-set}
-use lib.Seq.{getD-set-same, getD-set-other, set-getD}
+use lib.Seq.{getD-set-same, getD-set-other}
 use Rattle.folds.specs.Below.{fold, turn, tally, some}
 use Rattle.folds.proofs.Below.{fold-none, fold-more, and-false, tally-le}
 use Rattle.folds.specs.Marked.{bit}
@@ -23,9 +23,6 @@ module _ {A : Type 0} where
     pub scattered-skip : (i : ℕ) (a : List A) → q i ≡ false → Scattered d key q g a₀ i a → Scattered d key q g a₀ (i + 1) a
     scattered-skip i a e t = record { size = t .size; at = λ m l. rw (fold-more (turn (counts key q m) g) (getD a₀ m d) i, e, and-false (eqb (key i) m)) (t .at m l) }
 
-    pub scattered-out : (i : ℕ) (a : List A) → length a₀ ≤ key i → Scattered d key q g a₀ i a → Scattered d key q g a₀ (i + 1) a
-    scattered-out i a h t = record { size = t .size; at = λ m l. rw (fold-more (turn (counts key q m) g) (getD a₀ m d) i, ne-eqb (key i) m (λ e. omega (arith, e, h, l))) (t .at m l) }
-
     pub scattered-put : (i v : ℕ) (a : List A) → v < length a₀ → v ≡ key i → q i ≡ true → Scattered d key q g a₀ i a → Scattered d key q g a₀ (i + 1) (set a v (g i (getD a v d)))
     scattered-put i v a h f e t = record {
       size = length-set a v (g i (getD a v d)) ∙ t .size;
@@ -34,10 +31,6 @@ module _ {A : Type 0} where
         | no s ↦ rw (fold-more (turn (counts key q m) g) (getD a₀ m d) i, e, ne-eqb (key i) m (λ r. s (sym (f ∙ r))), getD-set-other a v m (g i (getD a v d)) d s) (t .at m l)
       ];
     }
-
-    -- k leaves the element at its key as it is
-    pub scattered-same : (i v : ℕ) (a : List A) → v < length a₀ → v ≡ key i → q i ≡ true → g i (getD a v d) ≡ getD a v d → Scattered d key q g a₀ i a → Scattered d key q g a₀ (i + 1) a
-    scattered-same i v a h f e s t = rw (s, set-getD a v d) at (scattered-put i v a h f e t)
 
 -- ---- counting and marking
 

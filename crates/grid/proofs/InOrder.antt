@@ -8,10 +8,10 @@ use lib.ListN.{length, getD}
 use borrow.Author.Tests.{lt-ltb, le-ltb, ltb-true}
 use Rattle.folds.proofs.Below.{first-holds, first-hit, not-true}
 use Rattle.folds.proofs.Column.{column-at, length-column}
-use Rattle.view.specs.View.{maxPoints, own, rankAt}
+use Rattle.view.specs.View.{maxPoints, rankAt}
 use Rattle.cells.specs.Points.{Point, nowhere, keyOf, keysOf}
 use Rattle.cells.specs.Cell.{Cell, cellOf, InRange, before, coincide, offsetBy, cellsOf}
-use Rattle.cells.proofs.Edges.{coincide-same, coincide-true, offset-own, offset-back}
+use Rattle.cells.proofs.Edges.{coincide-same, coincide-true, offset-back}
 use Rattle.cells.proofs.Keys.{key-cell, key-order, cell-at}
 use Rattle.grid.specs.Tables.{entryIn, neighbourOf, Keys}
 use Rattle.grid.specs.Views.{viewOf}
@@ -81,9 +81,6 @@ module _ (ps : List Point) (o : CellOrder ps) where
 
       cells-at : (i : ℕ) → i < length ps → cellsOf ps i ≡ offsetBy d (cellsOf ps k) → cell i ≡ offsetBy d (cell k)
       cells-at i m e = sym (cell-at ps i m) ∙ e ∙ ap (offsetBy d) (cell-at ps k h)
-
-  pub own-is : (k : ℕ) → k < length ps → rankAt (viewOf ps) k own ≡ k
-  own-is k h = near-found k own k h (omega arith) h (sym (offset-own (cell k)))
 
   -- j stands at offset d from k just where k stands at offset 24 - d from j
   pub mirrored : (k j d : ℕ) → k < length ps → j < length ps → d < 25 → rankAt (viewOf ps) k d ≡ j → rankAt (viewOf ps) j (24 - d) ≡ k

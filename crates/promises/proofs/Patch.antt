@@ -2,14 +2,14 @@
 use mathlib.Core.Path.{_≡_, refl, sym, ap, _∙_, fun-ext}
 use mathlib.Core.Bool.{Bool, true, false, cond, not, _&&_, false≢true, true≢false}
 use mathlib.Core.List.{List}
-use Prim.Native.Nat.{ℕ, _≤_, _<_}
+use Prim.Native.Nat.{ℕ, _<_}
 use lib.Dec.{eqb, ltb}
 use lib.ListN.{length, getD}
 use borrow.Author.Tests.{lt-ltb, ltb-true}
 use Rattle.folds.specs.Below.{some, tally}
 use Rattle.folds.proofs.Below.{some-at, some-fails, and-under, and-left, and-right, and-both, and-swap, not-true, not-false}
 use Rattle.folds.proofs.Marked.{bit-is}
-use Rattle.view.specs.View.{View, maxPoints}
+use Rattle.view.specs.View.{View}
 use Rattle.cells.specs.Points.{Point, nowhere}
 use Rattle.cells.specs.Cell.{cellOf, joinedBy}
 use Rattle.grid.specs.Views.{viewOf}
@@ -67,10 +67,6 @@ module _ (s : Settings) (ps : List Point) (o : CellOrder ps) where
 
   abbrev link : ℕ → ℕ → Bool
   link = linked (view .count) (view .near) sides drops
-
-  few-points : view .count ≤ maxPoints
-  unfolding viewOf
-  few-points = o .few
 
   offsets : Offsets sides
   offsets = square-offsets sides refl
