@@ -1,19 +1,19 @@
 -- Finite f32 numbers as whole numbers: an f32 is a whole number of 2 ^ -149, and its place is that number, counted from far below 0. The order
 -- of numbers is that of their places, and their difference is the rounded distance of the places. Assumes nothing.
 use mathlib.Core.Path.{_≡_, refl, sym, ap, _∙_, subst}
-use mathlib.Core.Bool.{Bool, true, false, cond, _&&_}
-use Prim.Native.Nat.{ℕ, zero, suc, _+_, _-_, _*_, _/_, _%_, _^_, _≤_, _<_}
-use native.Mathlib.Nat.{mul-one, one-mul, zero-mul, le-of-mul-le-mul-right, mul-assoc, mul-comm, mul-right-comm, mul-pos, mul-sub, add-mul, mul-le-mul-right, mul-lt-mul-of-pos-right, lt-of-mul-lt-mul-right, mul-div-cancel, zero-div}
+use mathlib.Core.Bool.{Bool, true, false, cond}
+use Prim.Native.Nat.{ℕ, zero, suc, _+_, _-_, _*_, _/_, _^_, _≤_, _<_}
+use native.Mathlib.Nat.{zero-mul, le-of-mul-le-mul-right, mul-assoc, mul-comm, mul-right-comm, mul-pos, mul-sub, add-mul, mul-le-mul-right, mul-lt-mul-of-pos-right, lt-of-mul-lt-mul-right, mul-div-cancel, zero-div}
 use native.Mathlib.Omega.{arith}
 use native.Mathlib.Decide.{decLe}
-use lib.Dec.{T, ltb, leb, eqb, ltb→lt}
-use lib.IntN.{ℤ, pos, negsuc}
-use lib.Pow.{pow-pos, pow-add, pow-lt}
-use borrow.Author.Tests.{lt-ltb, le-ltb, leb-true, ltb-true, ltb-false}
+use lib.Dec.{T, ltb}
+use lib.IntN.{ℤ}
+use lib.Pow.{pow-pos}
+use borrow.Author.Tests.{lt-ltb, le-ltb, ltb-true, ltb-false}
 use lib.Ieee.{Float, nan, inf, fin, binary32, up, down, fits, lt, neg, add, sub, sum, round}
-use lib.Ieee.Bits.{is-true}
-use lib.Ieee.Fits.{down-pos, and-l, and-r}
+use lib.Ieee.Fits.{down-pos}
 use lib.Ieee.Scale.{round-same}
+use Rattle.float.proofs.Digits.{digits, in-units}
 use Rattle.close_pairs.specs.Keys.{Number}
 
 -- how many 2 ^ -149 a finite f32 is away from 0
@@ -38,41 +38,10 @@ apart p q = (p - q) + (q - p)
 
 -- ---- a whole number of 2 ^ -149
 
--- 2 ^ e is that many 2 ^ -149
-pub exponent : (e : ℤ) → down e ≤ 2 ^ 149 → (j : ℕ) × (up e * 2 ^ 149 ≡ 2 ^ j * down e)
-exponent (pos k) h = (k + 149, sym (pow-add 2 k 149) ∙ sym (mul-one (2 ^ (k + 149))))
-exponent (negsuc k) h = elim (decLe (suc k) 149) [
-  | yes l ↦ (149 - suc k, (let e : 149 - suc k + suc k ≡ 149 = omega arith in one-mul (2 ^ 149) ∙ ap (λ (j : ℕ). 2 ^ j) (sym e) ∙ pow-add 2 (149 - suc k) (suc k)))
-  | no f ↦ absurd (over (2 ^ suc k) (2 ^ 149) h (pow-lt {i = 149} {j = suc k} (omega (arith, f))))
-]
-  where
-    over : (a b : ℕ) → a ≤ b → b < a → ⊥
-    over a b p q = omega arith
-
 whole : (m : ℕ) (e : ℤ) → down e ≤ 2 ^ 149 → m * up e * 2 ^ 149 / down e * down e ≡ m * up e * 2 ^ 149
 whole m e h =
-    let x = exponent e h in
-    let split : m * up e * 2 ^ 149 ≡ m * 2 ^ (x .0) * down e = mul-assoc m (up e) (2 ^ 149) ∙ ap (λ (a : ℕ). m * a) (x .1) ∙ sym (mul-assoc m (2 ^ (x .0)) (down e)) in
-    ap (λ (a : ℕ). a / down e * down e) split ∙ ap (λ (a : ℕ). a * down e) (mul-div-cancel (m * 2 ^ (x .0)) (down-pos e)) ∙ sym split
-
--- what an f32 other than 0 has
-pub record Digits (m : ℕ) (e : ℤ) : Type 0 where
-  pub few : m < 2 ^ 24
-  pub fine : down e ≤ 2 ^ 149
-  pub small : m * up e < 2 ^ 128 * down e
-
-pub digits : (s : Bool) (m : ℕ) (e : ℤ) → T (fits binary32 (fin s (suc m) e)) → Digits (suc m) e
-unfolding fits
-digits s m e f =
-    let O = eqb (suc m % 2) 1 in
-    let F = ltb (suc m) (2 ^ 24) in
-    let D = leb (down e) (2 ^ 149) in
-    let S = ltb (suc m * up e) (2 ^ 128 * down e) in
-    record {
-      few = ltb→lt (suc m) (2 ^ 24) (and-r O F (and-l (O && F) D (and-l (O && F && D) S f)));
-      fine = leb-true (down e) (2 ^ 149) (is-true D (and-r (O && F) D (and-l (O && F && D) S f)));
-      small = ltb→lt (suc m * up e) (2 ^ 128 * down e) (and-r (O && F && D) S f);
-    }
+    let x = in-units m e h in
+    ap (λ (a : ℕ). a / down e * down e) (x .1) ∙ ap (λ (a : ℕ). a * down e) (mul-div-cancel (m * 2 ^ (x .0)) (down-pos e)) ∙ sym (x .1)
 
 module _ (s : Bool) (e : ℤ) where
   pub exact : (m : ℕ) → T (fits binary32 (fin s m e)) → steps (fin s m e) * down e ≡ m * up e * 2 ^ 149

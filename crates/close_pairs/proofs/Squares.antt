@@ -16,11 +16,12 @@ use lib.Ieee.Order.{round-mono, le-of-values}
 use Rattle.folds.specs.Arith.{_⊕_, _⊖_, _⊗_, zeroF}
 use Rattle.folds.proofs.Below.{not-true}
 use Rattle.float.specs.Scalar.{absOf}
-use Rattle.float.proofs.Order.{plain, plain-cases, plain-pair, plain-round, plain-le-inf, lt-after, lt-or-eq, under}
+use Rattle.float.proofs.Digits.{digits, exponent}
+use Rattle.float.proofs.Order.{plain, plain-cases, plain-pair, plain-round, plain-le-inf, plain-number, square-plain, sum-plain, lt-after, lt-or-eq, nothing-over, under}
 use Rattle.close_pairs.specs.Close.{squareOf}
 use Rattle.close_pairs.specs.Keys.{Number}
 use Rattle.close_pairs.specs.Sweep.{OverSide}
-use Rattle.close_pairs.proofs.Places.{place, apart, sub-is, exponent, digits}
+use Rattle.close_pairs.proofs.Places.{place, apart, sub-is}
 
 -- ---- the square does not see the sign
 
@@ -98,13 +99,8 @@ square-turned (fin s m e) (fin t n d) p q =
 
 -- ---- and it grows with the distance
 
-square-plain : (x : Float) → T (plain x) → T (plain (x ⊗ x))
-unfolding mul
-square-plain nan p = absurd p
-square-plain (inf true) p = absurd p
-square-plain (inf false) p = tt
-square-plain (fin true m e) p = absurd p
-square-plain (fin false m e) p = plain-round binary32 (m * up e * (m * up e)) (down e * down e)
+times-plain : (x : Float) → T (plain x) → T (plain (x ⊗ x))
+times-plain x p = square-plain x (plain-number x p)
 
 cross : (m n : ℕ) (e d : ℤ) → T (le (fin false m e) (fin false n d)) → m * up e * down d ≤ n * up d * down e
 unfolding le lt eq
@@ -129,7 +125,7 @@ square-mono (inf false) (fin true n d) p q h = absurd q
 square-mono (fin false m e) (fin true n d) p q h = absurd q
 square-mono (inf false) (inf false) p q h = unfold le in tt
 square-mono (inf false) (fin false n d) p q h = absurd (unfold le in h)
-square-mono (fin false m e) (inf false) p q h = plain-le-inf (fin false m e ⊗ fin false m e) (square-plain (fin false m e) p)
+square-mono (fin false m e) (inf false) p q h = plain-le-inf (fin false m e ⊗ fin false m e) (times-plain (fin false m e) p)
 square-mono (fin false m e) (fin false n d) p q h =
     round-mono binary32 (m * up e * (m * up e)) (down e * down e) (n * up d * (n * up d)) (down d * down d) (mul-pos (down-pos e) (down-pos e)) (mul-pos (down-pos d) (down-pos d)) (squares m n e d (cross m n e d h))
 
@@ -165,12 +161,6 @@ own-round (suc m) c e h f a q =
     let g = digits false m e f in
     let x = exponent e (g .fine) in
     round-exact binary32 false a c (suc m) (x .0) h (g .few) (limited (suc m) (up e) (down e) (2 ^ (x .0)) (2 ^ 149) (2 ^ 128) (pow-pos 149) (x .1) (g .small)) (scaled a c (suc m) (up e) (down e) (2 ^ (x .0)) (2 ^ 149) (down-pos e) q (x .1))
-
-nothing-over : (z : Float) → lt (inf false) z ≡ true → ⊥
-unfolding lt
-nothing-over nan h = false≢true h
-nothing-over (inf t) h = false≢true h
-nothing-over (fin t k g) h = false≢true h
 
 -- what is under z with y added is under z
 under-sum : (x y z : Float) → T (plain x) → T (plain y) → T (fits binary32 x) → lt (x ⊕ y) z ≡ true → lt x z ≡ true
@@ -213,7 +203,7 @@ square-fine (fin s m e) (inf t) p q = absurd q
 square-fine (fin s m e) (fin t n d) p q =
     let a = m * up e * down d in
     let b = n * up d * down e in
-    rw (square-sum s t a b (down e * down d)) (square-plain (round binary32 false (gap s a t b) (down e * down d)) (plain-round binary32 (gap s a t b) (down e * down d)))
+    rw (square-sum s t a b (down e * down d)) (times-plain (round binary32 false (gap s a t b) (down e * down d)) (plain-round binary32 (gap s a t b) (down e * down d)))
 
 -- Once the square of the difference alone is not under the limit, no later point's distance is: places a, b and c rise.
 pub far : (a b c d e z : Float) → Number a → Number b → Number c → T (finite d) → T (finite e) → place a ≤ place b → place b ≤ place c
@@ -226,8 +216,8 @@ far a b c d e z na nb nc nd ne ab bc h =
     close u =
         rw (square-sub b a nb na)
         (lt-after (near (apart (place b) (place a)) ⊗ near (apart (place b) (place a))) (near (apart (place c) (place a)) ⊗ near (apart (place c) (place a))) z
-        (square-plain (near (apart (place b) (place a))) (near-plain (apart (place b) (place a))))
-        (square-plain (near (apart (place c) (place a))) (near-plain (apart (place c) (place a))))
+        (times-plain (near (apart (place b) (place a))) (near-plain (apart (place b) (place a))))
+        (times-plain (near (apart (place c) (place a))) (near-plain (apart (place c) (place a))))
         (square-mono (near (apart (place b) (place a))) (near (apart (place c) (place a))) (near-plain (apart (place b) (place a))) (near-plain (apart (place c) (place a))) (near-mono (apart (place b) (place a)) (apart (place c) (place a)) (omega arith)))
         (rw (square-sub c a nc na) at u))
 
@@ -250,8 +240,8 @@ pub reaches : (side : Float) → T (plain side) → OverSide side (side ⊗ side
 reaches side p d h =
     let q = after-plain side d p h in
     not-true (lt (d ⊗ d) (side ⊗ side))
-    (λ u. not-under-itself (side ⊗ side) (square-plain side p)
-    (lt-after (side ⊗ side) (d ⊗ d) (side ⊗ side) (square-plain side p) (square-plain d q) (square-mono side d p q (under d side h)) u))
+    (λ u. not-under-itself (side ⊗ side) (times-plain side p)
+    (lt-after (side ⊗ side) (d ⊗ d) (side ⊗ side) (times-plain side p) (times-plain d q) (square-mono side d p q (under d side h)) u))
 
 plus-turned : (x y : Float) → T (plain x) → T (plain y) → x ⊕ y ≡ y ⊕ x
 unfolding add sum
@@ -308,12 +298,6 @@ unfolding ofBits
 zero-least u p =
     plain-cases (λ (a : Float). T (le zeroF a)) (unfold le in tt)
     (λ m e. le-of-values zeroF (fin false m e) 0 1 (m * up e) (down e) (omega arith) (down-pos e) (refl, refl) (refl, refl) (rw (zero-mul (down e)) (omega arith))) u p
-
-sum-plain : (u v : Float) → T (plain u) → T (plain v) → T (plain (u ⊕ v))
-unfolding add sum
-sum-plain u v p q =
-    plain-pair (λ (a b : Float). T (plain (a ⊕ b))) tt (λ n d. tt) (λ m e. tt)
-    (λ m e n d. plain-round binary32 (m * up e * down d + n * up d * down e) (down e * down d)) u v p q
 
 pub none-close : (dx dy limit : Float) → lt zeroF limit ≡ false → lt (squareOf dx dy) limit ≡ false
 unfolding squareOf ofBits

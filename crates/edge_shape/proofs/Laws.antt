@@ -51,19 +51,19 @@ degree-seen n ranks xs ys k e = e
 
 -- each definition by one step, so that the names in it stay shut
 module _ (w : View) where
-  continuation-step : (before after k : ℕ) → continuationAt w before after k
+  pub continuation-step : (before after k : ℕ) → continuationAt w before after k
       ≡ cond (present w k before && (present w k after && present w (rankAt w k before) after)) (compared (sideAt w after (rankAt w k before)) (sideAt w after k)) Absent
   unfolding continuationAt
   continuation-step before after k = refl
 
-  cell-step : (t : ℕ) → shapeAt w t
+  pub cell-step : (t : ℕ) → shapeAt w t
       ≡ cond (ltb t (w .count) && (present w t nextU && (present w t nextV && (present w (rankAt w t nextV) nextU && present w (rankAt w t nextU) nextV))))
       (Complete (compared (sideAt w nextU t) (sideAt w nextU (rankAt w t nextV))) (compared (sideAt w nextV t) (sideAt w nextV (rankAt w t nextU))))
       Incomplete
   unfolding shapeAt
   cell-step t = refl
 
-  figures-step : (g : EdgeShapeParams) (k : ℕ) → figuresAt g w k
+  pub figures-step : (g : EdgeShapeParams) (k : ℕ) → figuresAt g w k
       ≡ figuresBy g (degreeAt w k) (noted (continuationAt w prevU nextU k) (continuationAt w prevV nextV k))
       (shapeAt w (rankAt w k own)) (shapeAt w (rankAt w k prevU)) (shapeAt w (rankAt w k diagonal)) (shapeAt w (rankAt w k prevV))
   unfolding figuresAt continuationsAt

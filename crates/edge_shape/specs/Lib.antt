@@ -1,2 +1,3 @@
+pub mod Continuations
 pub mod Figures
 pub mod Given

@@ -9,7 +9,7 @@ use native.Mathlib.Omega.{arith}
 use lib.Dec.{T, ltb, eqb, ltb→lt, lt→ltb, eqb→eq}
 use borrow.Author.Tests.{lt-ltb, le-ltb, ltb-true, ltb-false, ne-eqb}
 use lib.IntN.{ℤ}
-use lib.Ieee.{Float, nan, inf, fin, Format, binary32, up, down, low, prec, emax, lt, le, eq, mul, round, units, odd, ofBits}
+use lib.Ieee.{Float, nan, inf, fin, Format, binary32, up, down, low, prec, emax, isNan, lt, le, eq, add, sum, mul, round, units, odd, ofBits}
 use lib.Ieee.Exact.{HasValue, odd-sign}
 use lib.Ieee.Fits.{round-is, down-pos, and-l}
 use lib.Ieee.Positive.{num, den, positive, above, mul-mono, cross→le, through, first-pos}
@@ -49,7 +49,7 @@ above-plain (fin false m e) p = tt
 
 -- ---- rounding
 
-plain-value : (x : Float) (a c : ℕ) → HasValue x false a c → T (plain x)
+pub plain-value : (x : Float) (a c : ℕ) → HasValue x false a c → T (plain x)
 plain-value nan a c h = absurd h
 plain-value (inf s) a c h = absurd h
 plain-value (fin true m e) a c h = absurd (true≢false (h .0))
@@ -65,6 +65,26 @@ plain-units f q k = go (ltb (q * 2 ^ k) (2 ^ (low f + suc (emax f))))
 
 pub plain-round : (f : Format) (a b : ℕ) → T (plain (round f false a b))
 plain-round f a b = subst (λ (z : Float). T (plain z)) (sym (round-is f false a b)) (plain-units f _ _)
+
+-- ---- sums and squares
+
+pub plain-number : (x : Float) → T (plain x) → isNan x ≡ false
+unfolding isNan
+plain-number x p = plain-cases (λ (a : Float). isNan a ≡ false) refl (λ m e. refl) x p
+
+pub sum-plain : (u v : Float) → T (plain u) → T (plain v) → T (plain (add binary32 u v))
+unfolding add sum
+sum-plain u v p q =
+    plain-pair (λ (a b : Float). T (plain (add binary32 a b))) tt (λ n d. tt) (λ m e. tt)
+    (λ m e n d. plain-round binary32 (m * up e * down d + n * up d * down e) (down e * down d)) u v p q
+
+pub square-plain : (x : Float) → isNan x ≡ false → T (plain (mul binary32 x x))
+unfolding mul isNan
+square-plain nan p = absurd (true≢false p)
+square-plain (inf true) p = tt
+square-plain (inf false) p = tt
+square-plain (fin true m e) p = plain-round binary32 (m * up e * (m * up e)) (down e * down e)
+square-plain (fin false m e) p = plain-round binary32 (m * up e * (m * up e)) (down e * down e)
 
 -- ---- the order
 

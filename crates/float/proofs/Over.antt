@@ -3,7 +3,7 @@ use mathlib.Core.Path.{_≡_, refl, sym, ap, _∙_, subst}
 use mathlib.Core.Bool.{Bool, true, false, _&&_, _||_}
 use Prim.Native.Nat.{ℕ, zero, suc, _+_, _-_, _*_, _^_, _≤_, _<_}
 use mathlib.Core.Logic.{inl, inr}
-use native.Mathlib.Nat.{eq-or-lt-of-le, eq-zero-or-pos, lt-of-not-le, mul-assoc, mul-comm, mul-left-comm, zero-mul, mul-pos, le-of-mul-le-mul-right, lt-of-mul-lt-mul-right}
+use native.Mathlib.Nat.{eq-or-lt-of-le, eq-zero-or-pos, lt-of-not-le, mul-assoc, mul-comm, zero-mul, mul-pos, le-of-mul-le-mul-right, lt-of-mul-lt-mul-right}
 use native.Mathlib.Decide.{decLe}
 use native.Mathlib.Omega.{arith}
 use borrow.Author.Tests.{lt-ltb, le-ltb, eq-eqb, ne-eqb}
@@ -13,16 +13,12 @@ use lib.IntN.{ℤ, pos, negsuc}
 use lib.Ieee.{Float, nan, inf, fin, binary32, up, down, lt, eq, le, fits, ofBits}
 use lib.Ieee.Fits.{down-pos}
 use Rattle.float.specs.Scalar.{over30Degrees, fourSquaresBelowThree}
-use Rattle.float.proofs.Pattern.{held}
-use Rattle.float.proofs.Squares.{square-le}
+use Rattle.float.proofs.Digits.{digits}
+use Rattle.float.proofs.Squares.{square-le, square-of}
 
 pub limit : ofBits binary32 0x3f5d_b3d7 ≡ fin false 14529495 (negsuc 23)
 unfolding ofBits
 limit = refl
-
--- (a * b) * (a * b)
-square-of : (a b : ℕ) → a * b * (a * b) ≡ a * a * (b * b)
-square-of a b = simp (mul-assoc, mul-left-comm)
 
 -- at most the limit: below
 under : (n d : ℕ) → 0 < d → n * 16777216 ≤ 14529495 * d → 4 * (n * n) < 3 * (d * d)
@@ -103,7 +99,7 @@ at-limit (fin false m e) h =
   where
     small : (m : ℕ) → T (fits binary32 (fin false m e)) → m < 16777216
     small zero h = omega arith
-    small (suc m) h = held false m e h .0
+    small (suc m) h = digits false m e h .few
 
 pub over-30-degrees : (c : Float) → T (fits binary32 c) → le c (ofBits binary32 0x3f5d_b3d7) ≡ over30Degrees c
 over-30-degrees c h = ap (le c) limit ∙ at-limit c h

@@ -1,16 +1,15 @@
 -- From the bit pattern of an f32 to the number that it stands for, and from there to the root. Assumes nothing.
 use mathlib.Core.Path.{_≡_, refl, sym, ap, _∙_, subst}
-use mathlib.Core.Bool.{Bool, true, false, cond, _&&_}
+use mathlib.Core.Bool.{Bool, true, false, cond}
 use Prim.Native.Nat.{ℕ, zero, suc, _+_, _-_, _*_, _/_, _%_, _^_, _≤_, _<_}
 use native.Mathlib.Nat.{le-antisymm, lt-of-lt-of-le, lt-of-not-le, not-le-of-lt, mod-eq-of-lt, mul-pos, zero-mul, mul-assoc, mul-div-cancel, mul-le-mul-right, mul-lt-mul-of-pos-right, pow-succ', two-pow-succ}
 use native.Mathlib.Omega.{arith}
-use lib.Dec.{T, leb, ltb, eqb, ltb→lt, leb→le, eqb→eq, not-T}
+use lib.Dec.{T, leb, eqb, leb→le, eqb→eq, not-T}
 use lib.Pow.{pow-pos, pow-mono, pow-add, shl-lt}
-use lib.IntN.{ℤ}
 use lib.Count.{leadingZeros, leading-top}
-use lib.Ieee.{Float, nan, inf, fin, binary32, up, down, odd, size, ofFields, ofBits, fits}
+use lib.Ieee.{Float, nan, inf, fin, binary32, up, down, odd, size, ofFields, ofBits}
 use lib.Ieee.Bits.{is-false, cond-no}
-use lib.Ieee.Fits.{down-pos, and-l, and-r}
+use lib.Ieee.Fits.{down-pos}
 use lib.Ieee.Digits.{size-lt, size-le}
 use lib.Ieee.Exact.{HasValue, odd-sign}
 use Rattle.float.specs.Root.{digits4, scaled, nearRoot, rootUnits, rootOf}
@@ -82,7 +81,7 @@ root-of-value (fin false (suc m) e) a A h = ap (λ (x : ℕ). rootUnits (2 * (x 
 size-is : (n j : ℕ) → 2 ^ j ≤ n → n < 2 ^ suc j → size n ≡ suc j
 size-is n j l h = le-antisymm (size-le n (suc j) h) (lt-of-not-le (λ (g : size n ≤ j). not-le-of-lt (lt-of-lt-of-le (size-lt n) (pow-mono g)) l))
 
-four-pow : (d : ℕ) → 4 ^ d ≡ 2 ^ (d + d)
+pub four-pow : (d : ℕ) → 4 ^ d ≡ 2 ^ (d + d)
 four-pow zero = refl
 four-pow (suc d) = pow-succ' 4 d ∙ ap (λ (x : ℕ). 4 * x) (four-pow d) ∙ sym (pow-add 2 2 (d + d)) ∙ ap (λ (x : ℕ). 2 ^ x) next
   where
@@ -166,17 +165,6 @@ leading b B h = go (leadingZeros 32 b) (leading-top 32 b B (omega arith))
           low = subst (λ (x : ℕ). x ≤ b * 2 ^ (z - 8)) (sym (pow-add 2 j (z - 8)) ∙ ap (λ (x : ℕ). 2 ^ x) q) (mul-le-mul-right (2 ^ (z - 8)) (t .2));
           high = subst (λ (x : ℕ). b * 2 ^ (z - 8) < 2 ^ x) q' (shl-lt (suc j) (z - 8) (t .3));
         }
-
--- what the format asks of a significand and its exponent
-pub held : (s : Bool) (m : ℕ) (e : ℤ) → T (fits binary32 (fin s (suc m) e)) → (suc m < 2 ^ 24) × (down e ≤ 2 ^ 149)
-unfolding fits
-held s m e t =
-    let A = eqb (suc m % 2) 1 in
-    let B = ltb (suc m) (2 ^ 24) in
-    let C = leb (down e) (2 ^ 149) in
-    let D = ltb (suc m * up e) (2 ^ 128 * down e) in
-    let h = and-l (A && B && C) D t in
-    (ltb→lt (suc m) (2 ^ 24) (and-r A B (and-l (A && B) C h)), leb→le (down e) (2 ^ 149) (and-r (A && B) C h))
 
 -- a subnormal's digits b, moved up by t places
 pub moved-up : (b t : ℕ) → t ≤ 26 → 2 * (b * 2 ^ 0) * 2 ^ 25 ≡ b * 2 ^ t * 2 ^ (26 - t)

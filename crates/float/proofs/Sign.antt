@@ -1,12 +1,13 @@
--- A pattern without its sign. Assumes nothing.
+-- A pattern, and a rounded number, without its sign. Assumes nothing.
 use mathlib.Core.Path.{_≡_, refl, sym, ap, _∙_}
 use mathlib.Core.Bool.{Bool, true, false, cond}
-use Prim.Native.Nat.{ℕ, zero, suc, _+_, _/_, _%_}
+use Prim.Native.Nat.{ℕ, zero, suc, _+_, _*_, _/_, _%_, _^_}
 use native.Mathlib.Omega.{arith}
 use borrow.Author.Tests.{lt-leb}
-use lib.Dec.{leb, eqb}
-use lib.Ieee.{nan, inf, binary32, odd, ofFields, ofBits, nanBits}
+use lib.Dec.{leb, ltb, eqb}
+use lib.Ieee.{Format, nan, inf, binary32, prec, emax, low, odd, units, round, ofFields, ofBits, nanBits}
 use lib.Ieee.Bits.{nanBits-above}
+use lib.Ieee.Fits.{round-is}
 use Rattle.float.specs.Scalar.{absOf}
 use Rattle.float.specs.Constants.{hiddenBit, signBit, firstNanBits}
 use Rattle.float.proofs.Pattern.{ofBits-is}
@@ -47,3 +48,16 @@ abs-no-nan b = nanBits-above binary32 (b % signBit) ∙ ap (λ (x : ℕ). leb fi
   where
     same : b % signBit % signBit ≡ b % signBit
     same = omega arith
+
+-- ---- nor does what a fraction is rounded to
+
+abs-units : (f : Format) (s : Bool) (q k : ℕ) → absOf (units f s q k) ≡ units f false q k
+unfolding units absOf
+abs-units f s q k = go (ltb (q * 2 ^ k) (2 ^ (low f + suc (emax f))))
+  where
+    go : (b : Bool) → absOf (cond b (odd (suc (prec f)) s q k (low f)) (inf s)) ≡ cond b (odd (suc (prec f)) false q k (low f)) (inf false)
+    go true = abs-odd (suc (prec f)) s q k (low f)
+    go false = refl
+
+pub abs-round : (f : Format) (s : Bool) (a b : ℕ) → absOf (round f s a b) ≡ round f false a b
+abs-round f s a b = ap absOf (round-is f s a b) ∙ abs-units f s _ _ ∙ sym (round-is f false a b)

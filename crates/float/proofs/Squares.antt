@@ -1,7 +1,7 @@
 -- Squares and products of whole numbers, and a step of Newton's iteration. Assumes nothing.
 use mathlib.Core.Path.{_≡_, ap, _∙_, subst}
 use Prim.Native.Nat.{ℕ, zero, suc, _+_, _*_, _/_, _^_, _≤_, _<_}
-use native.Mathlib.Nat.{le-trans, le-of-lt, lt-of-le-of-lt, lt-of-not-le, lt-suc-self, zero-lt-suc, le-dest, mul-comm, mul-assoc, mul-add, add-mul, mul-one, one-mul, mul-le-mul-left, mul-le-mul-right, div-lt-iff-lt-mul}
+use native.Mathlib.Nat.{le-trans, le-of-lt, lt-of-le-of-lt, lt-of-not-le, lt-suc-self, zero-lt-suc, le-dest, mul-comm, mul-assoc, mul-add, add-mul, mul-one, one-mul, mul-left-comm, mul-le-mul-left, mul-le-mul-right, mul-lt-mul-of-pos-right, div-lt-iff-lt-mul}
 use native.Mathlib.Decide.{decLe}
 use native.Mathlib.Omega.{arith}
 use lib.Pow.{shl-lt}
@@ -21,6 +21,13 @@ odd-square q = omega (arith, next-square (2 * q), double-square q)
 
 pub square-le : {a b : ℕ} → a ≤ b → a * a ≤ b * b
 square-le {a} {b} h = le-trans (mul-le-mul-left a h) (mul-le-mul-right b h)
+
+pub square-lt : {a b : ℕ} → a < b → a * a < b * b
+square-lt {a} {b} h = lt-of-le-of-lt (mul-le-mul-left a (le-of-lt h)) (mul-lt-mul-of-pos-right h (omega arith))
+
+-- the square of a product
+pub square-of : (a b : ℕ) → a * b * (a * b) ≡ a * a * (b * b)
+square-of a b = simp (mul-assoc, mul-left-comm)
 
 -- twice a product is at most the two squares
 twice-le-of-le : (a b : ℕ) → a ≤ b → 2 * (a * b) ≤ a * a + b * b
