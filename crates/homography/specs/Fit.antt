@@ -32,15 +32,18 @@ planePointAt p k = getD p k noPlanePoint
 abbrev pub meanOfFour : Float → Float → Float → Float → Float
 meanOfFour a b c d = (zeroF ⊕ a ⊕ b ⊕ c ⊕ d) ⊘ four
 
+-- the centre of the four points p, which T takes to 0
 abbrev meanX : List PlanePoint → Float
 meanX p = meanOfFour (planePointAt p 0 .x) (planePointAt p 1 .x) (planePointAt p 2 .x) (planePointAt p 3 .x)
 
 abbrev meanY : List PlanePoint → Float
 meanY p = meanOfFour (planePointAt p 0 .y) (planePointAt p 1 .y) (planePointAt p 2 .y) (planePointAt p 3 .y)
 
+-- how far p is from (x, y)
 abbrev distanceFrom : PlanePoint → Float → Float → Float
 distanceFrom p x y = normOf (p .x ⊖ x) (p .y ⊖ y)
 
+-- the mean distance of the four points p from their centre (x, y), which T takes to √2
 unfoldable pub meanDistance : List PlanePoint → Float → Float → Float
 meanDistance p x y =
     meanOfFour
@@ -49,11 +52,11 @@ meanDistance p x y =
     (distanceFrom (planePointAt p 2) x y)
     (distanceFrom (planePointAt p 3) x y)
 
--- from the mean distance
+-- the scale of T, from the mean distance
 unfoldable pub normalizingScale : Float → Float
 normalizingScale d = cond (lt negligible d) (rootTwo ⊘ d) one
 
--- a similarity: scaled by s, with the centre (x, y) at 0
+-- the similarity T with the scale s and the centre (x, y)
 abbrev scalingBy : Float → Float → Float → List (List Float)
 scalingBy s x y = matrix s zeroF (neg s ⊗ x) zeroF s (neg s ⊗ y) zeroF zeroF one
 
@@ -64,23 +67,25 @@ normalizationOf p =
     let y = meanY p in
     scalingBy (normalizingScale (meanDistance p x y)) x y
 
--- the point p by the similarity t
+-- T x, where t is T and p is x
 abbrev pub movedBy : List (List Float) → PlanePoint → PlanePoint
 movedBy t p = record { x = rowTimes t 0 (p .x) (p .y); y = rowTimes t 1 (p .x) (p .y) }
 
--- T x for each x of p
+-- T x for each x of the four points p
 unfoldable pub normalizedBy : List (List Float) → List PlanePoint → List PlanePoint
 normalizedBy t p = movedBy t (planePointAt p 0) ∷ movedBy t (planePointAt p 1) ∷ movedBy t (planePointAt p 2) ∷ movedBy t (planePointAt p 3) ∷ []
 
 -- ---- "The source's eight equations", two for each point (x, y) and the point (u, v) that it goes to: those of T′ x′ = H̃ T x
 
--- the entries of H̃ are unknown 0 to 7, row by row, with a last entry of 1
+-- the first of the two, where p is T x and q is T′ x′: the entries of H̃ are unknown 0 to 7, row by row, with a last entry of 1
 abbrev pub equationU : PlanePoint → PlanePoint → List Float
 equationU p q = p .x ∷ p .y ∷ one ∷ zeroF ∷ zeroF ∷ zeroF ∷ (neg (q .x) ⊗ p .x) ∷ (neg (q .x) ⊗ p .y) ∷ []
 
+-- the second
 abbrev pub equationV : PlanePoint → PlanePoint → List Float
 equationV p q = zeroF ∷ zeroF ∷ zeroF ∷ p .x ∷ p .y ∷ one ∷ (neg (q .y) ⊗ p .x) ∷ (neg (q .y) ⊗ p .y) ∷ []
 
+-- the eight for H̃, where p has the four T x and q the four T′ x′
 unfoldable pub equationsOf : List PlanePoint → List PlanePoint → List (List Float)
 equationsOf p q =
     equationU (planePointAt p 0) (planePointAt q 0) ∷ equationV (planePointAt p 0) (planePointAt q 0)
@@ -88,6 +93,7 @@ equationsOf p q =
     ∷ equationU (planePointAt p 2) (planePointAt q 2) ∷ equationV (planePointAt p 2) (planePointAt q 2)
     ∷ equationU (planePointAt p 3) (planePointAt q 3) ∷ equationV (planePointAt p 3) (planePointAt q 3) ∷ []
 
+-- their right side
 abbrev pub rightSide : List PlanePoint → List Float
 rightSide q =
     planePointAt q 0 .x ∷ planePointAt q 0 .y ∷ planePointAt q 1 .x ∷ planePointAt q 1 .y ∷ planePointAt q 2 .x ∷ planePointAt q 2 .y ∷ planePointAt q 3 .x ∷ planePointAt q 3 .y ∷ []
@@ -98,8 +104,8 @@ matrixOf x = matrix (entryAt x 0) (entryAt x 1) (entryAt x 2) (entryAt x 3) (ent
 
 -- ---- the map
 
--- each entry over the last
-abbrev overLast : List (List Float) → Float → Homography
+-- H scaled to a last entry of 1, where m is H and s its last entry: each entry over s
+abbrev pub overLast : List (List Float) → Float → Homography
 overLast m s =
     record {
       h00 = entry m 0 0 ⊘ s;
@@ -113,20 +119,23 @@ overLast m s =
       h22 = entry m 2 2 ⊘ s;
     }
 
--- H with a last entry of 1: ".. or |last entry| < 1e-12 means no fit."
+-- the scaled H, where m is H: ".. or |last entry| < 1e-12 means no fit."
 unfoldable pub normalizedMap : List (List Float) → HomographyFit
 normalizedMap m = cond (lt (absOf (entry m 2 2)) negligible) NoFit (Found (overLast m (entry m 2 2)))
 
--- H = T′⁻¹ H̃ T, where m is H̃, s is T and d is T′: "a zero determinant of the second scaling (inverted by cofactors) .. means no fit"
-unfoldable pub denormalizedMap : List (List Float) → List (List Float) → List (List Float) → HomographyFit
-denormalizedMap m s d =
-    let det = determinantOf d in
-    cond (eq det zeroF) NoFit (normalizedMap (productOf (productOf (inverseOf d det) m) s))
+-- H = T′⁻¹ H̃ T, where m is H̃, s is T and d is T′
+abbrev pub denormalizedBy : List (List Float) → List (List Float) → List (List Float) → List (List Float)
+denormalizedBy m s d = productOf (productOf (inverseOf d (determinantOf d)) m) s
 
+-- the scaled H from H̃: "a zero determinant of the second scaling (inverted by cofactors) .. means no fit"
+unfoldable pub denormalizedMap : List (List Float) → List (List Float) → List (List Float) → HomographyFit
+denormalizedMap m s d = cond (eq (determinantOf d) zeroF) NoFit (normalizedMap (denormalizedBy m s d))
+
+-- the scaled H from the solution for the entries of H̃: "A zero diagonal .. means no fit."
 unfoldable pub mapBy : Solution → List (List Float) → List (List Float) → HomographyFit
 mapBy r s d = cond (r .found) (denormalizedMap (matrixOf (r .x)) s d) NoFit
 
--- H, which takes the four points p to the four points q
+-- the scaled H, which takes the four points p to the four points q
 unfoldable pub homographyFrom4pt : List PlanePoint → List PlanePoint → HomographyFit
 homographyFrom4pt p q =
     let s = normalizationOf p in
@@ -134,7 +143,7 @@ homographyFrom4pt p q =
     let moved = normalizedBy d q in
     mapBy (solutionOf (equationsOf (normalizedBy s p) moved) (rightSide moved)) s d
 
--- where the map h takes p
+-- H x, where h is H and p is x
 unfoldable pub appliedTo : Homography → PlanePoint → PlanePoint
 appliedTo h p =
     let w = h .h20 ⊗ p .x ⊕ h .h21 ⊗ p .y ⊕ h .h22 ⊗ one in

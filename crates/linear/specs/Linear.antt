@@ -105,11 +105,15 @@ substituted s =
     (record { found = false; x = replicate 8 zeroF })
     (record { found = true; x = backwardBy (s .rows) (forwardBy (s .rows) (s .right)) })
 
+-- the equations m x = b after elimination
+unfoldable pub eliminated : List (List Float) → List Float → System
+eliminated m b = run eliminateColumn 0 8 (record { rows = m; right = b })
+
 -- the x with m x = b
 unfoldable pub solutionOf : List (List Float) → List Float → Solution
-solutionOf m b = substituted (run eliminateColumn 0 8 (record { rows = m; right = b }))
+solutionOf m b = substituted (eliminated m b)
 
 -- This name on an `unfolding` line opens every definition that a solution computes by.
 unfoldable pub solution-computes : Bool
-unfolding add sum sub mul div neg lt eq ofBits odd round units size span climb trailingZeros absOf some run upTo down betterRow pivotRow reduceEntry reduceRow reduceRows eliminateBy eliminateColumn lessEntry forwardColumn forwardBy backwardColumn backwardBy zeroDiagonal substituted solutionOf
+unfolding add sum sub mul div neg lt eq ofBits odd round units size span climb trailingZeros absOf some run upTo down betterRow pivotRow reduceEntry reduceRow reduceRows eliminateBy eliminateColumn lessEntry forwardColumn forwardBy backwardColumn backwardBy zeroDiagonal substituted eliminated solutionOf
 solution-computes = true

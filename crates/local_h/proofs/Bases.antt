@@ -22,9 +22,8 @@ use Rattle.local_h.specs.Places.{FirstPlace}
 use Rattle.local_h.specs.Residual.{residualFrom, residualAt}
 use Rattle.local_h.proofs.Ordered.{sortKey, offsets-rise}
 
--- Four places of the order, rising, with points of other indices that are not all on one lattice line. Of the places before the third only
--- the first and the second have such points, and of those between the third and the fourth none would have served.
-pub record Four (w : View) (k : ℕ) (b : Base) : Type 0 where
+-- four places of the order, rising, with points of other indices that are not all on one lattice line
+pub record FourOthers (w : View) (k : ℕ) (b : Base) : Type 0 where
   pub first-second : b .a < b .b
   pub second-third : b .b < b .c
   pub third-fourth : b .c < b .d
@@ -34,6 +33,11 @@ pub record Four (w : View) (k : ℕ) (b : Base) : Type 0 where
   pub three : isOther w k (b .c) ≡ true
   pub four : isOther w k (b .d) ≡ true
   pub off-line : onLine (offsetAt (b .a)) (offsetAt (b .b)) (offsetAt (b .c)) && onLine (offsetAt (b .a)) (offsetAt (b .b)) (offsetAt (b .d)) ≡ false
+
+-- Of the places before the third only the first and the second have points of other indices, and of those between the third and the fourth
+-- none would have served.
+pub record Four (w : View) (k : ℕ) (b : Base) : Type 0 where
+  pub others : FourOthers w k b
   pub no-other : (p : ℕ) → p < b .c → (p ≡ b .a → ⊥) → (p ≡ b .b → ⊥) → isOther w k p ≡ false
   pub no-fourth : (p : ℕ) → b .c < p → p < b .d → isFourth w k (b .a) (b .b) (b .c) p ≡ false
 
@@ -42,15 +46,17 @@ module _ (w : View) (k : ℕ) where
   pub base-four : baseOf w k .d < 24 → Four w k (baseOf w k)
   unfolding baseOf isServing
   base-four h = record {
-    first-second = omega (arith, bc, cd, ab);
-    second-third = omega (arith, bc);
-    third-fourth = omega (arith, cd);
-    within = h;
-    one = first-holds (isOther w k) 0 24 (omega (arith, ab, bc, cd));
-    two = first-holds (isOther w k) (a + 1) 24 (omega (arith, bc, cd));
-    three = first-holds (isOther w k) (b + 1) 24 (omega (arith, cd));
-    four = and-right (not (straight d)) (isOther w k d) (serves d (first-holds (isFourth w k a b c) (c + 1) 24 h));
-    off-line = not-true (straight d) (and-left (not (straight d)) (isOther w k d) (serves d (first-holds (isFourth w k a b c) (c + 1) 24 h)));
+    others = record {
+      first-second = omega (arith, bc, cd, ab);
+      second-third = omega (arith, bc);
+      third-fourth = omega (arith, cd);
+      within = h;
+      one = first-holds (isOther w k) 0 24 (omega (arith, ab, bc, cd));
+      two = first-holds (isOther w k) (a + 1) 24 (omega (arith, bc, cd));
+      three = first-holds (isOther w k) (b + 1) 24 (omega (arith, cd));
+      four = and-right (not (straight d)) (isOther w k d) (serves d (first-holds (isFourth w k a b c) (c + 1) 24 h));
+      off-line = not-true (straight d) (and-left (not (straight d)) (isOther w k d) (serves d (first-holds (isFourth w k a b c) (c + 1) 24 h)));
+    };
     no-other = λ p l na nb. between p l na nb (decLt p a) (decLt p b);
     no-fourth = λ p l m. first-before (isFourth w k a b c) (c + 1) 24 p (omega arith) m;
   }
@@ -87,11 +93,11 @@ module _ (w : View) (k : ℕ) where
       between p l na nb (no f) (yes m) = first-before (isOther w k) (a + 1) 24 p (omega (arith, f, na)) m
       between p l na nb (no f) (no g) = first-before (isOther w k) (b + 1) 24 p (omega (arith, g, nb)) l
 
-  pub four-of : (b : Base) → b ≡ baseOf w k → b .d < 24 → Four w k b
-  four-of b e h = rw e (base-four (rw e at h))
+  pub four-of : (b : Base) → b ≡ baseOf w k → b .d < 24 → FourOthers w k b
+  four-of b e h = rw e (base-four (rw e at h) .others)
 
   -- the four cells are distinct: their offsets rise in the order
-  pub base-distinct : (b : Base) → Four w k b
+  pub base-distinct : (b : Base) → FourOthers w k b
       → (sortKey (offsetAt (b .a)) < sortKey (offsetAt (b .b))) × (sortKey (offsetAt (b .b)) < sortKey (offsetAt (b .c))) × (sortKey (offsetAt (b .c)) < sortKey (offsetAt (b .d)))
   base-distinct b f = (
     offsets-rise (b .a) (b .b) (f .first-second) (omega (arith, f .second-third, f .third-fourth, f .within)),

@@ -2,4 +2,6 @@ pub mod Ordered
 pub mod Coordinate
 pub mod Searching
 pub mod Bases
+pub mod Fewer
+pub mod NoFit
 pub mod Worked

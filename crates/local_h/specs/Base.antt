@@ -39,3 +39,7 @@ module _ (w : View) where
       let b = first (isOther k) (a + 1) 24 in
       let c = first (isOther k) (b + 1) 24 in
       record { a = a; b = b; c = c; d = first (isFourth k a b c) (c + 1) 24 }
+
+  -- the base of rank k has its fourth, and so four members; where it has not, there are no four such points (proofs/Fewer.antt)
+  abbrev pub hasFour : ℕ → Bool
+  hasFour k = ltb (baseOf k .d) 24

@@ -3,12 +3,12 @@ use native.Mathlib.Omega.{arith}
 use mathlib.Core.List.{[]}
 use Rattle.cells.specs.Cell.{cellsAt}
 use Rattle.view.specs.View.{viewAt}
-use Rattle.local_h.proofs.Bases.{Four, four-of, other-rank, fitted, unfitted}
+use Rattle.local_h.proofs.Bases.{FourOthers, four-of, other-rank, fitted, unfitted}
 use borrow.Author.Needs.{needs}
 use Rattle.local_h.proofs.local_h_residual.Statement.{statement}
 use Rattle.local_h.proofs.local_h_residual.Tie as tie
 
-four : (c : tie.Then1) → let a = c .before .before .before .args in Four (viewAt (a .n) (a .ranks .now) [] []) (a .k) (c .before .before .pick-local-h-base .result)
+four : (c : tie.Then1) → let a = c .before .before .before .args in FourOthers (viewAt (a .n) (a .ranks .now) [] []) (a .k) (c .before .before .pick-local-h-base .result)
 four c = four-of _ _ _ (c .before .before .pick-local-h-base .ensures [] []) (c .if1 .taken)
 
 member-requires : tie.Need-member-requires

@@ -1,0 +1,2 @@
+pub mod NoFit
+pub mod Worked
