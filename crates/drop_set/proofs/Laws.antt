@@ -1,7 +1,7 @@
 -- What the arrays of the two steps are together. Assumes nothing.
 use mathlib.Core.Path.{_≡_, refl, sym, ap, _∙_}
 use mathlib.Core.Bool.{Bool, true, false, cond, _&&_}
-use mathlib.Core.List.{List, []}
+use mathlib.Core.List.{List, [], _∷_}
 use Prim.Native.Nat.{ℕ, _≤_, _<_}
 use lib.Dec.{eqb}
 use lib.ListN.{getD, replicate}
@@ -17,9 +17,9 @@ use Rattle.cells.specs.Cell.{Cell}
 use Rattle.sheet_file.specs.declared.Settings.{Settings}
 use Rattle.marks.specs.Filters.{validate, orientation, wrong, component}
 use Rattle.marks.specs.Marks.{isSet}
-use Rattle.marks.specs.Byte.{markedBy, markedByAll}
+use Rattle.marks.specs.Byte.{Marking, markedBy, markedByAll}
 use Rattle.marks.proofs.Guards.{set-is}
-use Rattle.marks.proofs.Byte.{by-same}
+use Rattle.marks.proofs.Byte.{by-same, Agree, all-same}
 use Rattle.edge_shape.specs.Figures.{noFigures}
 use Rattle.edge_shape.specs.declared.Figures.{Figures}
 use Rattle.validate.specs.Validate.{gateFigures, figuresOf, validateMark, validateMarks}
@@ -34,7 +34,7 @@ use Rattle.judged.specs.Columns.{reasonFrom, figuresIn}
 use Rattle.judged.proofs.Columns.{reason-read}
 use Rattle.judged.specs.Judged.{Judged, judgedFrom}
 use Rattle.drop_set.specs.declared.DropSet.{DropSet}
-use Rattle.drop_set.specs.Filters.{sidesOf, wrongMark, componentMarked, componentsIn, patchedOf, pointMarks, measuredOf, judgedOf}
+use Rattle.drop_set.specs.Filters.{sidesOf, byPoints, wrongMark, pointFilters, componentMarked, componentsIn, patchedOf, pointMarks, measuredOf, judgedOf}
 use Rattle.drop_set.specs.Given.{Joined}
 
 -- ---- the first step
@@ -53,16 +53,18 @@ module _ (s : Settings) (w : View) where
       filled (w .count) h (record { long = refl; done = λ k l. replicate-at maxPoints 0 k; left = λ k l. refl })
       ∙ sym (ap (λ (b : Bool). column maxPoints 0 (w .count) (λ (k : ℕ). bit (b && wrongLabelMark w (s .«cell_size») k))) off)
 
-  -- the bytes of the three marks
-  pub points-are : (cell : ℕ → Cell) {v o r m : List ℕ} → v ≡ validateMarks s w cell → o ≡ orientationOf w → r ≡ wrongMarks
-      → m ≡ markedBy (w .count) wrong (isSet r) (markedBy (w .count) orientation (isSet o) (markedBy (w .count) validate (isSet v) [])) → m ≡ pointMarks s w cell
-  unfolding pointMarks markedByAll validateMarks orientationOf
+  -- the filters by the arrays that hold their marks
+  abbrev byArrays : List ℕ → List ℕ → List ℕ → List Marking
+  byArrays v o r = byPoints validate (isSet v) ∷ byPoints orientation (isSet o) ∷ byPoints wrong (isSet r) ∷ []
+
+  -- the bytes of their marks
+  pub points-are : (cell : ℕ → Cell) {v o r m : List ℕ} → v ≡ validateMarks s w cell → o ≡ orientationOf w → r ≡ wrongMarks → m ≡ markedByAll (w .count) (byArrays v o r) [] → m ≡ pointMarks s w cell
+  unfolding pointMarks validateMarks orientationOf Agree
   points-are cell {v} {o} {r} ev eo er em =
       let n = w .count in
       em
-      ∙ ap (λ (m : List ℕ). markedBy n wrong (isSet r) (markedBy n orientation (isSet o) m)) (by-same n validate (isSet v) (validateMark s w cell) [] (set-is maxPoints n (validateMark s w cell) v ev))
-      ∙ ap (markedBy n wrong (isSet r)) (by-same n orientation (isSet o) (orientationMark w) (markedBy n validate (validateMark s w cell) []) (set-is maxPoints n (orientationMark w) o eo))
-      ∙ by-same n wrong (isSet r) (wrongMark s w) (markedBy n orientation (orientationMark w) (markedBy n validate (validateMark s w cell) [])) (set-is maxPoints n (wrongMark s w) r er)
+      ∙ all-same n (byArrays v o r) (pointFilters s w cell) []
+      ((refl, λ m. set-is maxPoints n (validateMark s w cell) v ev), ((refl, λ m. set-is maxPoints n (orientationMark w) o eo), ((refl, λ m. set-is maxPoints n (wrongMark s w) r er), tt)))
 
   -- the table has the edge reasons
   pub reasons-read : (counts : List ℕ) (measures : List Float) → figuresIn counts measures ≡ gateFigures (s .«edge_shape») w → w .count ≤ maxPoints

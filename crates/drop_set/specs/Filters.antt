@@ -22,17 +22,21 @@ sidesOf s = squareSides
 
 -- ---- the filters that go by the points themselves
 
+-- a filter that does not look at the marks before it
+abbrev pub byPoints : ℕ → (ℕ → Bool) → Marking
+byPoints f t = record { filter = f; marks = λ (m : List ℕ). t }
+
 module _ (s : Settings) (w : View) where
   -- the wrong-label mark of rank k's index, with the wrong-label switch
   abbrev pub wrongMark : ℕ → Bool
   wrongMark k = s .«apply_wrong_label_drops» && wrongLabelMark w (s .«cell_size») k
 
+  -- those that see the view alone
+  abbrev pub viewFilters : List Marking
+  viewFilters = byPoints orientation (orientationMark w) ∷ byPoints wrong wrongMark ∷ []
+
   abbrev pub pointFilters : (ℕ → Cell) → List Marking
-  pointFilters cell =
-      record { filter = validate; marks = λ (m : List ℕ). validateMark s w cell }
-      ∷ record { filter = orientation; marks = λ (m : List ℕ). orientationMark w }
-      ∷ record { filter = wrong; marks = λ (m : List ℕ). wrongMark }
-      ∷ []
+  pointFilters cell = byPoints validate (validateMark s w cell) ∷ viewFilters
 
   -- ---- and those that go by what these leave
 

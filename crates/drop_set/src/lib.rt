@@ -22,12 +22,12 @@ ghost use Rattle.view.specs.View.{viewAt, maxPoints, Ranked};
 ghost use Rattle.cells.specs.Cell.{cellsAt};
 ghost use Rattle.marks.specs.Filters.{validate as Validate, orientation as Orientation, wrong as Wrong};
 ghost use Rattle.marks.specs.Marks.{isSet};
-ghost use Rattle.marks.specs.Byte.{markedBy};
+ghost use Rattle.marks.specs.Byte.{markedByAll};
 ghost use Rattle.wrong_label_filters.specs.EdgesReady.{EdgesReady};
 ghost use Rattle.judged.specs.Columns.{Blank};
 ghost use Rattle.judged.specs.Judged.{judgedFrom};
 ghost use Rattle.drop_set.specs.Given.{Celled, Joined};
-ghost use Rattle.drop_set.specs.Filters.{wrongMark, patchedOf, measuredOf, judgedOf};
+ghost use Rattle.drop_set.specs.Filters.{byPoints, wrongMark, patchedOf, measuredOf, judgedOf};
 
 // The bytes of marks and how many patches the survivors have.
 pub struct DropSet {
@@ -56,7 +56,7 @@ fn wrong_marks(s: Settings, ranks: &Ranks, x: &Floats, y: &Floats, edges: &Edges
 // The bytes of the three marks of each point.
 fn point_marks(validate: &Marks, orientation: &Marks, wrong: &Marks, n: usize) -> Marks
     requires { ⌜ n ≤ maxPoints ⌝ }
-    ensures { λ r. ⌜ r ≡ markedBy n Wrong (isSet (now (wrong .entry))) (markedBy n Orientation (isSet (now (orientation .entry))) (markedBy n Validate (isSet (now (validate .entry))) [])) ⌝ }
+    ensures { λ r. ⌜ r ≡ markedByAll n (byPoints Validate (isSet (now (validate .entry))) ∷ byPoints Orientation (isSet (now (orientation .entry))) ∷ byPoints Wrong (isSet (now (wrong .entry))) ∷ []) [] ⌝ }
 {
     let none = [0u8; MAX_POINTS];
     let first = marks::marked_by(&none, validate, filters::VALIDATE, n);

@@ -24,7 +24,7 @@ use Rattle.edge_shape.specs.Figures.{reasonNumber}
 use Rattle.marks.specs.Filters.{filterCount, filterAt}
 use Rattle.marks.specs.Byte.{hasMark, firstMark}
 use Rattle.marks.specs.Tally.{countUnder, countsOf}
-use Rattle.listing.specs.Listing.{cellText, markText, marksText, reasonText, residualText, shownText, lineText, lineOf, linesOf, headText, countText, tallyText, listingOf, listingSize}
+use Rattle.listing.specs.Listing.{cellText, markText, marksText, reasonText, residualText, shownText, lineText, lineOf, linesOf, headText, countText, tallyText, listingOf, lineSize, listingSize}
 use Rattle.text.proofs.Numbers.{decimal-length, hex-length}
 use Rattle.listing.proofs.Cells.{whole-below, whole-from}
 use Rattle.text.proofs.Stores.{each-length}
@@ -56,7 +56,7 @@ cell-number d b h l = elim (decLt b bias) [
   | no m ↦ rw (whole-from b (omega arith)) (number d (b - bias) (omega arith))
 ]
 
-marks-size : (marks : ℕ) → AtMost 4 (marksText marks)
+marks-size : (marks : ℕ) → AtMost filterCount (marksText marks)
 unfolding marksText every
 marks-size marks =
     all (markText marks) 1 filterCount
@@ -67,7 +67,7 @@ unfolding residualText
 residual-size none = record { within = omega arith }
 residual-size (some x) = record { within = omega (arith, hex-length 8 (toBits binary32 x)) }
 
-shown-size : (marks reason : ℕ) (r : Option Float) → AtMost 15 (shownText marks reason r)
+shown-size : (marks reason : ℕ) (r : Option Float) → AtMost (11 + filterCount) (shownText marks reason r)
 unfolding shownText
 shown-size marks reason r =
     join (join (join (join (marks-size marks) (known (bytes " "))) (either (leb 1 reason && leb reason 3) (known (digit reason)) (known (bytes "-")))) (known (bytes " "))) (residual-size r)
@@ -76,7 +76,7 @@ cell-size : (key : ℕ) → key < 2 ^ 32 → AtMost 12 (cellText (cellOfKey key)
 unfolding cellText
 cell-size key h = join (join (cell-number 5 (key / stride) (omega arith) (omega arith)) (known (bytes " "))) (cell-number 4 (key % stride) (omega arith) (omega arith))
 
-line-size : (key index : ℕ) (s : Shown) → key < 2 ^ 32 → index < 2 ^ 32 → AtMost 40 (lineOf (cellOfKey key) index s)
+line-size : (key index : ℕ) (s : Shown) → key < 2 ^ 32 → index < 2 ^ 32 → AtMost lineSize (lineOf (cellOfKey key) index s)
 unfolding lineText
 line-size key index s h g =
     join (join (join (join (join (cell-size key h) (known (bytes " "))) (number 9 index (omega arith))) (known (bytes " "))) (shown-size (s .marks) (reasonNumber (s .figures .reason)) (s .residual))) (known (bytes "\n"))
@@ -98,7 +98,7 @@ unfolding every
 word-size k l =
     record { within = leb-true (length (bytes " " ++ bytes (filterAt k .word) ++ bytes " ")) 13 (every-at (λ k. leb (length (bytes " " ++ bytes (filterAt k .word) ++ bytes " ")) 13) filterCount refl k l) }
 
-tally-size : (n : ℕ) (marks : List ℕ) → n ≤ maxPoints → AtMost 78 (tallyText (countsOf n marks))
+tally-size : (n : ℕ) (marks : List ℕ) → n ≤ maxPoints → AtMost (10 + 17 * filterCount) (tallyText (countsOf n marks))
 unfolding tallyText
 tally-size n marks h =
     join (join (join (known (bytes "kept ")) (count-size n marks filterCount h (omega arith)))
@@ -110,6 +110,6 @@ tally-size n marks h =
 pub listing-fits : (n : ℕ) (keys idx : List ℕ) (j : Judged) → n ≤ maxPoints → j .components < 2 ^ 64 → ((k : ℕ) → getD keys k 0 < 2 ^ 32) → ((k : ℕ) → getD idx k 0 < 2 ^ 32) → length (listingOf n (cellsAt keys) idx j) ≤ listingSize
 unfolding listingOf
 listing-fits n keys idx j h g f e =
-    let lines = all (λ k. lineOf (cellsAt keys k) (getD idx k 0) (shownAt j k)) 40 n (λ k l. line-size (getD keys k 0) (getD idx k 0) (shownAt j k) (f k) (e k)) in
+    let lines = all (λ k. lineOf (cellsAt keys k) (getD idx k 0) (shownAt j k)) lineSize n (λ k l. line-size (getD keys k 0) (getD idx k 0) (shownAt j k) (f k) (e k)) in
     let whole = join (join (head-size n (j .components) h g) lines) (tally-size n (j .marks) h) in
     omega (arith, whole .within)

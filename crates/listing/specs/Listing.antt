@@ -85,6 +85,9 @@ unfoldable pub refusalOf : ℕ → List ℕ
 unfolding decimal
 refusalOf number = bytes "refused " ++ decimal number ++ bytes "\n"
 
--- no listing is longer (proved in proofs/Size.antt): at most 40 bytes a point, and 128 in the first line and the tally
+-- no line of a point is longer, and no listing: the first line has at most 44 bytes (proved in proofs/Size.antt)
+abbrev pub lineSize : ℕ
+lineSize = 36 + filterCount
+
 abbrev pub listingSize : ℕ
-listingSize = 40 * maxPoints + 128
+listingSize = 44 + lineSize * maxPoints + (10 + 17 * filterCount)

@@ -22,8 +22,8 @@ ghost use lib.Ieee.{Float};
 ghost use Rattle.judged.specs.Judged.{judgedFrom};
 ghost use Rattle.listing.specs.Listing.{headText, linesOf, tallyText, listingOf, refusalOf, listingSize, countText};
 
-// A buffer of this size has room for every listing.
-pub const LISTING_SIZE: usize = 40 * MAX_POINTS + 128;
+// A buffer of this size has room for every listing: the first line, a line for each point, the tally.
+pub const LISTING_SIZE: usize = 44 + (36 + FILTERS) * MAX_POINTS + (10 + 17 * FILTERS);
 
 // The number that the specifications use is the code's.
 pub fn listing_size() -> usize

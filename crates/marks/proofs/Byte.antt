@@ -234,6 +234,24 @@ pub by-same : (n f : ℕ) (t u : ℕ → Bool) (marks : List ℕ) → ((k : ℕ)
 unfolding markedBy
 by-same n f t u marks h = column-ext maxPoints 0 n _ _ (λ k l. ap (λ (b : Bool). turned b f (getD marks k 0)) (h k l))
 
+-- filters with the same places whose tests agree on n points
+unfoldable pub Agree : ℕ → List Marking → List Marking → Type 0
+Agree n [] [] = Unit {0}
+Agree n [] (h ∷ b) = ⊥
+Agree n (g ∷ a) [] = ⊥
+Agree n (g ∷ a) (h ∷ b) = ((g .filter ≡ h .filter) × ((m : List ℕ) (k : ℕ) → k < n → g .marks m k ≡ h .marks m k)) × Agree n a b
+
+-- leave the same bytes
+pub all-same : (n : ℕ) (a b : List Marking) (marks : List ℕ) → Agree n a b → markedByAll n a marks ≡ markedByAll n b marks
+unfolding markedByAll Agree
+all-same n [] [] marks e = refl
+all-same n [] (h ∷ b) marks e = absurd e
+all-same n (g ∷ a) [] marks e = absurd e
+all-same n (g ∷ a) (h ∷ b) marks e =
+    ap (λ (f : ℕ). markedByAll n a (markedBy n f (g .marks marks) marks)) (e .0 .0)
+    ∙ ap (markedByAll n a) (by-same n (h .filter) (g .marks marks) (h .marks marks) marks (e .0 .1 marks))
+    ∙ all-same n a b (markedBy n (h .filter) (h .marks marks) marks) (e .1)
+
 -- an array of zeros is as good as none
 pub from-zeros : (n f : ℕ) (t : ℕ → Bool) → markedBy n f t (replicate maxPoints 0) ≡ markedBy n f t []
 unfolding markedBy
