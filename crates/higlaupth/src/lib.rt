@@ -17,7 +17,7 @@ pub extern "C" fn higlaupth_keep(file: &[u8], rows: &mut [u8]) -> u64
         Answer::Accepted(counts) => {
             let points = counts.points;
             let components = counts.components;
-            0x1_0000_0000 + ((points % 65536) as u64) * 65536 + (components % 65536) as u64
+            0x1_0000_0000 + 0x1_0000 * (points as u64) + components as u64
         }
     }
 }

@@ -8,21 +8,20 @@ use native.Mathlib.Omega.{arith}
 use lib.Dec.{eqb, ltb}
 use lib.ListN.{length, getD}
 use borrow.Author.Tests.{ltb-true}
-use Rattle.folds.specs.Below.{some}
 use Rattle.folds.proofs.Below.{and-under}
 use Rattle.view.specs.View.{View}
 use Rattle.cells.specs.Points.{Point}
 use Rattle.cells.specs.Cell.{Cell, cellsOf}
 use Rattle.grid.specs.Views.{viewOf}
 use Rattle.sheet_file.specs.declared.Settings.{Settings}
-use Rattle.marks.specs.Filters.{filterCount, validate, orientation, wrong, component}
+use Rattle.marks.specs.Filters.{validate, orientation, wrong, component}
 use Rattle.marks.specs.Byte.{hasMark, Marking, markedByAll}
 use Rattle.marks.proofs.Byte.{not-not, in-two, one-more, marked-by, others-than, next-zero, all-small, by-same}
 use Rattle.validate.specs.Validate.{validateMark}
 use Rattle.orientation.specs.Orientation.{orientationMark}
-use Rattle.drop_set.specs.Filters.{wrongMark, pointFilters, patchFilters, componentMarked, patchedOf, pointMarks, measuredOf, judgedOf}
+use Rattle.drop_set.specs.Filters.{wrongMark, byPoints, viewFilters, pointFilters, patchFilters, componentMarked, patchedOf, pointMarks, measuredOf, judgedOf}
 use Rattle.judging.specs.Judging.{judgedFor}
-use Rattle.promises.specs.Words.{survivor, keptRank}
+use Rattle.promises.specs.Words.{otherMark, survivor, keptRank}
 
 module _ (s : Settings) (w : View) (cell : ℕ → Cell) where
   abbrev all : List Marking
@@ -37,27 +36,27 @@ module _ (s : Settings) (w : View) (cell : ℕ → Cell) where
     read f = ap (λ (l : List ℕ). hasMark f (getD l k 0)) marks-are
 
     pub validate-bit : hasMark validate (getD (judgedOf s w cell .marks) k 0) ≡ validateMark s w cell k
-    validate-bit = read validate ∙ marked-by (w .count) k h [] _ (record { filter = validate; marks = λ (m : List ℕ). validateMark s w cell }) refl refl refl refl
+    validate-bit = read validate ∙ marked-by (w .count) k h [] _ (byPoints validate (validateMark s w cell)) refl refl refl refl
 
     pub orientation-bit : hasMark orientation (getD (judgedOf s w cell .marks) k 0) ≡ orientationMark w k
     orientation-bit =
         read orientation
-        ∙ marked-by (w .count) k h (record { filter = validate; marks = λ (m : List ℕ). validateMark s w cell } ∷ []) _ (record { filter = orientation; marks = λ (m : List ℕ). orientationMark w }) refl refl refl refl
+        ∙ marked-by (w .count) k h (byPoints validate (validateMark s w cell) ∷ []) _ (byPoints orientation (orientationMark w)) refl refl refl refl
 
     pub wrong-bit : hasMark wrong (getD (judgedOf s w cell .marks) k 0) ≡ wrongMark s w k
     wrong-bit =
         read wrong
-        ∙ marked-by (w .count) k h (record { filter = validate; marks = λ (m : List ℕ). validateMark s w cell } ∷ record { filter = orientation; marks = λ (m : List ℕ). orientationMark w } ∷ []) _ (record { filter = wrong; marks = λ (m : List ℕ). wrongMark s w }) refl refl refl refl
+        ∙ marked-by (w .count) k h (byPoints validate (validateMark s w cell) ∷ byPoints orientation (orientationMark w) ∷ []) _ (byPoints wrong (wrongMark s w)) refl refl refl refl
 
     pub component-bit : hasMark component (getD (judgedOf s w cell .marks) k 0) ≡ componentMarked s w (pointMarks s w cell) k
     unfolding pointMarks
     component-bit = read component ∙ marked-by (w .count) k h (pointFilters s w cell) [] (record { filter = component; marks = componentMarked s w }) refl refl refl refl
 
     -- a mark other than the component mark
-    pub others-are : some (λ (f : ℕ). not (eqb f component) && hasMark f (getD (judgedOf s w cell .marks) k 0)) filterCount ≡ not (eqb (getD (pointMarks s w cell) k 0) 0)
+    pub others-are : otherMark (getD (judgedOf s w cell .marks) k 0) ≡ not (eqb (getD (pointMarks s w cell) k 0) 0)
     unfolding pointMarks
     others-are =
-        ap (λ (l : List ℕ). some (λ (f : ℕ). not (eqb f component) && hasMark f (getD l k 0)) filterCount) marks-are
+        ap (λ (l : List ℕ). otherMark (getD l k 0)) marks-are
         ∙ others-than (w .count) k h (pointFilters s w cell) (record { filter = component; marks = componentMarked s w }) refl (omega arith) refl
 
     -- no mark: none before the component filter, and not its own
@@ -71,7 +70,7 @@ module _ (s : Settings) (w : View) (cell : ℕ → Cell) where
 module _ (s : Settings) (w : View) (cell cell′ : ℕ → Cell) (same : (k : ℕ) → k < w .count → validateMark s w cell k ≡ validateMark s w cell′ k) where
   points-same : pointMarks s w cell ≡ pointMarks s w cell′
   unfolding pointMarks markedByAll
-  points-same = ap (markedByAll (w .count) (record { filter = orientation; marks = λ (m : List ℕ). orientationMark w } ∷ record { filter = wrong; marks = λ (m : List ℕ). wrongMark s w } ∷ [])) (by-same (w .count) validate (validateMark s w cell) (validateMark s w cell′) [] same)
+  points-same = ap (markedByAll (w .count) (viewFilters s w)) (by-same (w .count) validate (validateMark s w cell) (validateMark s w cell′) [] same)
 
   pub marks-same : judgedOf s w cell .marks ≡ judgedOf s w cell′ .marks
   unfolding judgedOf measuredOf

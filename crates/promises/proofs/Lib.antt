@@ -4,3 +4,4 @@ pub mod RowMarks
 pub mod Moving
 pub mod Unswitched
 pub mod Theorems
+pub mod Cosines

@@ -22,18 +22,22 @@ use Rattle.ruling.proofs.Standing.{accepted-file, accepted-order}
 use Rattle.ruling.proofs.Order.{same-ruling}
 use Rattle.ruling.specs.Switches.{switched}
 use Rattle.ruling.proofs.Switches.{switches}
+use Rattle.ruling.specs.Offset.{movedFile}
 use Rattle.ruling.proofs.Offset.{offset}
+use Rattle.ruling.proofs.MovedFile.{moved-bytes, moved-offset, moved-in-range}
+use Rattle.components.proofs.Whole.{smallest}
 use Rattle.marks.specs.Filters.{validate, orientation, wrong}
 use Rattle.marks.specs.Byte.{hasMark}
 use Rattle.judging.specs.Judging.{judgedFor}
 use Rattle.kept.specs.Answer.{answerBy, rowsBy, answerOf, rowsAfter}
 use Rattle.kept.specs.declared.Answer.the-variants.{Accepted}
+use Rattle.sheet_listing.specs.Text.{rowsSize, textBy, textOf}
 use Rattle.promises.specs.Words.{tallyBy, tallyOf}
 use Rattle.promises.proofs.Patch.{none-kept, all-marked, reached-below, largest-kept, roots, patchOf, all-counted, count-on, count-off}
 use Rattle.promises.proofs.Unswitched.{validate-stays}
 use Rattle.promises.proofs.RowMarks.{row-marks, kept-rows}
 use Rattle.promises.proofs.Moving.{validate-in, orientation-in, orientation-stays, wrong-stays, marks-stay, kept-stays, through, rows-stay}
-use Rattle.promises.specs.Promises.{RanksAreCells, KeptByRows, KeptPatchPromise, ComponentCountPromise, NoCountPromise, AnotherOrderPromise, OffsetPromise, OffsetRowsPromise, SwitchesPromise, SwitchedRowsPromise}
+use Rattle.promises.specs.Promises.{RanksAreCells, KeptByRows, KeptPatchPromise, ComponentCountPromise, NoCountPromise, AnotherOrderPromise, OffsetPromise, OffsetRowsPromise, MovedFilePromise, MovedFileRowsPromise, SwitchesPromise, SwitchedRowsPromise}
 
 pub ranks-are-cells : RanksAreCells
 ranks-are-cells file room s ps b e i j ij jn = accepted-order file room s ps b e .rising i j ij jn
@@ -52,6 +56,7 @@ kept-patch file room s ps b e one on =
         | inl q ↦ inl q
         | inr q ↦ inr (λ x y f g. ranks-are-cells file room s ps b e y x (q x y f g) (reached-below s ps (p .inner x (f .member))))
       ];
+      has-smallest = λ W p. smallest (length ps) p (λ k h. reached-below s ps (p .inner k h));
     }
 
 answer-is : (file : List ℕ) (room : ℕ) (s : Settings) (ps : List Point) → rulingOf file room ≡ accepted s ps → answerOf file room ≡ Accepted (record { points = length ps; components = judgedFor s ps .components })
@@ -72,11 +77,12 @@ pub no-count : NoCountPromise
 no-count file room s ps e off = answer-is file room s ps e ∙ ap (λ (c : ℕ). Accepted (record { points = length ps; components = c })) (count-off s ps off)
 
 pub another-order : AnotherOrderPromise
-unfolding answerOf rowsAfter tallyOf
+unfolding answerOf rowsAfter tallyOf textOf
 another-order file other f b e r = record {
   answer = λ room. ap answerBy (sym (same-ruling file other f b e r room));
   rows = λ buffer. ap (rowsBy buffer) (sym (same-ruling file other f b e r (length buffer)));
   tally = λ room. ap tallyBy (sym (same-ruling file other f b e r room));
+  text = ap textBy (sym (same-ruling file other f b e r rowsSize));
 }
 
 pub moved-sheet : OffsetPromise
@@ -104,6 +110,16 @@ moved-rows file other buffer a b bf bo o in-range s ps e =
       wrong = through s ps (m .points) (m .size) v file other buffer e (m .ruling) wrong (r .wrong);
       kept = rows-stay s ps (m .points) (m .size) v file other buffer e (m .ruling);
     }
+
+pub moved-file : MovedFilePromise
+moved-file file a b bytes room s ps e in-range =
+    let o = moved-offset file a b room s ps e in-range in
+    moved-sheet file (movedFile file a b) a b bytes (moved-bytes file a b bytes) o room (moved-in-range file a b room s ps e in-range) s ps e
+
+pub moved-file-rows : MovedFileRowsPromise
+moved-file-rows file buffer a b bytes s ps e in-range =
+    let o = moved-offset file a b (length buffer) s ps e in-range in
+    moved-rows file (movedFile file a b) buffer a b bytes (moved-bytes file a b bytes) o (moved-in-range file a b (length buffer) s ps e in-range) s ps e
 
 pub switched-sheet : SwitchesPromise
 switched-sheet file other b w full room s ps e =

@@ -20,11 +20,12 @@ use Rattle.components.specs.WholePatches.{WholePatch, Smallest, KeptPatch, Patc
 use Rattle.ruling.specs.Ruling.{accepted, rulingOf, applies}
 use Rattle.ruling.specs.Order.{Relisted}
 use Rattle.ruling.specs.Switches.{Switched}
-use Rattle.ruling.specs.Offset.{Offset, MovedAlong}
+use Rattle.ruling.specs.Offset.{Offset, MovedAlong, movedFile, StaysInRange}
 use Rattle.marks.specs.Filters.{validate, orientation, wrong}
 use Rattle.marks.specs.Byte.{hasMark}
 use Rattle.kept.specs.Answer.{answerOf, rowsAfter}
 use Rattle.kept.specs.declared.Answer.the-variants.{Accepted}
+use Rattle.sheet_listing.specs.Text.{textOf}
 use Rattle.promises.specs.Words.{DistinctIndices, marksIn, hasOther, survivor, joined, keptRank, marksByte, tallyOf}
 
 -- ---- ranks, and the rows
@@ -48,6 +49,8 @@ pub record LargestPatch (s : Settings) (ps : List Point) : Type 0 where
   pub largest : KeptPatch (survivor s ps) (joined s ps) (length ps) (keptRank s ps)
   pub later : (W : ℕ → Bool) → WholePatch (survivor s ps) (joined s ps) W → tally W (length ps) ≡ tally (keptRank s ps) (length ps)
       → ((k : ℕ) → W k ≡ keptRank s ps k) ⊎ ((x y : ℕ) → Smallest W x → Smallest (keptRank s ps) y → before (cellOf (getD ps y nowhere)) (cellOf (getD ps x nowhere)) ≡ true)
+  -- each whole patch has a smallest cell
+  pub has-smallest : (W : ℕ → Bool) → WholePatch (survivor s ps) (joined s ps) W → (x : ℕ) × Smallest W x
 
 abbrev pub KeptPatchPromise : Type 0
 KeptPatchPromise = (file : List ℕ) (room : ℕ) (s : Settings) (ps : List Point) → Bytes file → rulingOf file room ≡ accepted s ps → DistinctIndices ps → s .«apply_largest_component» ≡ true → LargestPatch s ps
@@ -69,12 +72,13 @@ NoCountPromise = (file : List ℕ) (room : ℕ) (s : Settings) (ps : List Point)
 -- ---- (b) another order
 
 -- "Another order is any rearrangement of the points in tag 3, all else and the result buffer's length unchanged": for every well-framed file
--- the same number, or the same counts, and the same rows byte for byte
+-- the same number, or the same counts, the same rows byte for byte, and the same text
 pub record SameResult (file other : List ℕ) : Type 0 where
   pub answer : (room : ℕ) → answerOf other room ≡ answerOf file room
   pub rows : (buffer : List ℕ) → rowsAfter other buffer ≡ rowsAfter file buffer
   -- "The counts are those of the listing's first line and of its tally."
   pub tally : (room : ℕ) → tallyOf other room ≡ tallyOf file room
+  pub text : textOf other ≡ textOf file
 
 abbrev pub AnotherOrderPromise : Type 0
 AnotherOrderPromise = (file other : List ℕ) (f : Layout) → Bytes file → framingOf file ≡ Framed f → Relisted file other f → SameResult file other
@@ -104,6 +108,16 @@ pub record MovedRows (file other buffer : List ℕ) (n : ℕ) : Type 0 where
 abbrev pub OffsetRowsPromise : Type 0
 OffsetRowsPromise = (file other buffer : List ℕ) (a b : ℤ) → Bytes file → Bytes other → Offset file other (layoutOf file) a b
     → applies other (length buffer) 6 ≡ false → (s : Settings) (ps : List Point) → rulingOf file (length buffer) ≡ accepted s ps → MovedRows file other buffer (length ps)
+
+-- "An offset is one whole number added to every u and one to every v": the same of the moved file itself, of every accepted file and every
+-- offset in range
+abbrev pub MovedFilePromise : Type 0
+MovedFilePromise = (file : List ℕ) (a b : ℤ) → Bytes file → (room : ℕ) (s : Settings) (ps : List Point) → rulingOf file room ≡ accepted s ps → StaysInRange a b ps
+    → MovedMarks (movedFile file a b) room a b s ps
+
+abbrev pub MovedFileRowsPromise : Type 0
+MovedFileRowsPromise = (file buffer : List ℕ) (a b : ℤ) → Bytes file → (s : Settings) (ps : List Point) → rulingOf file (length buffer) ≡ accepted s ps
+    → StaysInRange a b ps → MovedRows file (movedFile file a b) buffer (length ps)
 
 -- ---- (d) the switches
 

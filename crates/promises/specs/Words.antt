@@ -22,6 +22,10 @@ use Rattle.kept.specs.Answer.{rowsAfter}
 abbrev pub DistinctIndices : List Point → Type 0
 DistinctIndices ps = (i j : ℕ) → i < length ps → j < length ps → getD ps i nowhere .index ≡ getD ps j nowhere .index → i ≡ j
 
+-- a byte of marks has one other than the component mark
+abbrev pub otherMark : ℕ → Bool
+otherMark m = some (λ (f : ℕ). not (eqb f component) && hasMark f m) filterCount
+
 module _ (s : Settings) (ps : List Point) where
   -- the byte of marks of rank k
   abbrev pub marksIn : ℕ → ℕ
@@ -29,7 +33,7 @@ module _ (s : Settings) (ps : List Point) where
 
   -- "A survivor is a point whose index gets no mark under these rules other than the component mark."
   abbrev pub hasOther : ℕ → Bool
-  hasOther k = some (λ (f : ℕ). not (eqb f component) && hasMark f (marksIn k)) filterCount
+  hasOther k = otherMark (marksIn k)
 
   abbrev pub survivor : ℕ → Bool
   survivor k = ltb k (length ps) && not (hasOther k)

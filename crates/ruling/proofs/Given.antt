@@ -2,10 +2,10 @@
 use mathlib.Core.Path.{_≡_, refl, sym, _∙_}
 use mathlib.Core.Bool.{Bool, true, false, not}
 use mathlib.Core.List.{List}
-use Prim.Native.Nat.{ℕ, _<_}
+use Prim.Native.Nat.{ℕ, _≤_}
 use native.Mathlib.Omega.{arith}
-use lib.Dec.{ltb}
-use borrow.Author.Tests.{ltb-true}
+use lib.Dec.{leb}
+use borrow.Author.Tests.{leb-true}
 use Rattle.folds.specs.Among.{anyIn}
 use Rattle.refusals.specs.First.{ruled, appliesIn}
 use Rattle.refusals.proofs.Laws.{holds, numbersOf, earlierThan, DistinctNumbers, FirstHolding, none-applies-in, none-holds, each-listed, first-given, only-first, none-passes, only-none, ruled-in-two}
@@ -72,10 +72,10 @@ module _ (file : List ℕ) (room : ℕ) where
   unfolding applies
   none-given f = in-one-list ∙ none-passes refused passed (refusalsOf file room) (none-holds (refusalsOf file room) distinct f)
 
-  -- what a ruling says of the conditions; a number is a byte, and not 0
+  -- what a refusal says of the conditions; a number is 1 to 9
   pub record NumberGiven (k : ℕ) : Type 0 where
-    pub low : 0 < k
-    pub high : k < 256
+    pub low : 1 ≤ k
+    pub high : k ≤ 9
     pub holding : applies file room k ≡ true
     pub earlier : (j : ℕ) → appliesIn (earlierThan (refusalsOf file room) k) j ≡ false
 
@@ -87,8 +87,8 @@ module _ (file : List ℕ) (room : ℕ) where
   is-given k e =
       let f = only-first refused passed one other (refusalsOf file room) distinct k (sym in-one-list ∙ e) in
       record {
-        low = ltb-true 0 k (numbered (ltb 0) k refl f);
-        high = ltb-true k 256 (numbered (λ (n : ℕ). ltb n 256) k refl f);
+        low = leb-true 1 k (numbered (leb 1) k refl f);
+        high = leb-true k 9 (numbered (λ (n : ℕ). leb n 9) k refl f);
         holding = f .holding;
         earlier = none-applies-in (earlierThan (refusalsOf file room) k) (f .earlier);
       }

@@ -6,4 +6,5 @@ pub mod Header
 pub mod Standing
 pub mod Order
 pub mod Offset
+pub mod MovedFile
 pub mod Switches

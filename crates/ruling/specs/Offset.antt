@@ -1,16 +1,23 @@
 -- "An offset is one whole number added to every u and one to every v, of either sign; index, position, listing order, settings and buffer
 -- length stay": of a list of points, and of a file. Assumes nothing.
 use mathlib.Core.Path.{_≡_}
+use mathlib.Core.Bool.{cond}
 use mathlib.Core.List.{List}
-use Prim.Native.Nat.{ℕ, _+_, _*_, _≤_, _<_}
+use Prim.Native.Nat.{ℕ, _+_, _-_, _*_, _/_, _%_, _^_, _≤_, _<_}
+use lib.Dec.{ltb}
 use lib.IntN.{ℤ}
 use lib.ListN.{length, getD}
+use mir.Syntax.{w32}
+use mir.Val.{ofZ}
+use Rattle.folds.specs.Lists.{listOf}
 use Rattle.cells.specs.Points.{Point, nowhere}
-use Rattle.cells.specs.Cell.{cellOf, moved}
+use Rattle.cells.specs.Cell.{CellInRange, cellOf, moved}
 use Rattle.grid.specs.Moved.{Moved}
+use Rattle.sheet_file.specs.Bytes.{byteAt}
+use Rattle.sheet_file.specs.Frame.{layoutOf}
 use Rattle.sheet_file.specs.declared.Layout.{Layout}
 use Rattle.sheet_file.specs.declared.Settings.{Settings}
-use Rattle.points.specs.Records.{ithPoint}
+use Rattle.points.specs.Records.{pointIn, ithPoint}
 use Rattle.ruling.specs.Ruling.{Ruling, accepted}
 use Rattle.ruling.specs.Header.{Headed}
 
@@ -38,3 +45,32 @@ pub record MovedAlong (x : Ruling) (a b : ℤ) (s : Settings) (ps : List Point) 
   pub ruling : x ≡ accepted s points
   pub size : length points ≡ length ps
   pub along : (k : ℕ) → k < length ps → Moved a b (getD ps k nowhere) (getD points k nowhere)
+
+-- ---- the moved file
+
+-- byte j of the 32-bit pattern of z in two's complement, the lowest first: "files are little-endian"
+abbrev pub byteOf : ℤ → ℕ → ℕ
+byteOf z j = ofZ w32 z / 256 ^ j % 256
+
+module _ (file : List ℕ) (a b : ℤ) where
+  -- "each point is u i32, v i32, index u32, x f32, y f32": byte j of the point at a position, with a added to u and b to v
+  abbrev pub movedByte : ℕ → ℕ → ℕ
+  movedByte at j =
+      let c = moved a b (cellOf (pointIn file at)) in
+      cond (ltb j 4) (byteOf (c .u) j) (cond (ltb j 8) (byteOf (c .v) (j - 4)) (byteAt file (at + j)))
+
+  -- byte k of the moved file: before the points it stays, and from their start on it is byte (k - start) % 20 of point (k - start) / 20
+  abbrev pub byteMoved : ℕ → ℕ
+  byteMoved k =
+      let start = layoutOf file .points in
+      cond (ltb k start) (byteAt file k) (movedByte (start + 20 * ((k - start) / 20)) ((k - start) % 20))
+
+  -- "An offset is one whole number added to every u and one to every v, of either sign; index, position, listing order, settings and
+  -- buffer length stay": the file moved by (a, b)
+  unfoldable pub movedFile : List ℕ
+  unfolding listOf
+  movedFile = listOf (length file) byteMoved
+
+-- "In range means that the condition of number 6 fails": the moved cell of each point lies in −8,000 to 8,000
+abbrev pub StaysInRange : ℤ → ℤ → List Point → Type 0
+StaysInRange a b ps = (k : ℕ) → k < length ps → CellInRange (moved a b (cellOf (getD ps k nowhere)))

@@ -63,7 +63,7 @@ pub text-fits : (file : List ℕ) → Bytes file → length (textOf file) ≤ li
 text-fits file b = rw (text-is file) (go (rulingOf file rowsSize) refl)
   where
     go : (x : Ruling) → rulingOf file rowsSize ≡ x → length (textBy x) ≤ listingSize
-    go (refused k) e = refusal-fits k (is-given file rowsSize k e .high)
+    go (refused k) e = refusal-fits k (omega (arith, is-given file rowsSize k e .high))
     go (accepted s ps) e = listed-fits file b s ps e
 
 -- so list_sheet, lent such a buffer, writes the text whole

@@ -1,0 +1,106 @@
+-- Demand 3 (b), another order, of the sheet of five points; and of a file with another setting. Assumes nothing.
+use mathlib.Core.Path.{_≡_, refl, sym, ap, _∙_}
+use mathlib.Core.List.{List, [], _∷_, _++_, List·Permᴰ, List·Permᴰ·cons, List·Permᴰ·swap, List·Permᴰ·trans, Permᴰ·refl}
+use Prim.Native.Nat.{ℕ}
+use native.Mathlib.Omega.{arith}
+use lib.Dec.{eqb}
+use lib.ListN.{getD, replicate}
+use borrow.Author.Tests.{eqb-true}
+use Rattle.folds.specs.Below.{every}
+use Rattle.folds.proofs.Below.{every-at}
+use Rattle.cells.specs.Points.{Point}
+use Rattle.sheet_file.specs.Bytes.{Bytes}
+use Rattle.sheet_file.specs.Frame.{framingOf, layoutOf}
+use Rattle.sheet_file.specs.declared.Framing.the-variants.{Framed}
+use Rattle.sheet_file.specs.declared.Layout.{Layout}
+use Rattle.ruling.specs.Order.{recordsIn, Relisted}
+use Rattle.kept.specs.Answer.{answerOf, rowsAfter}
+use Rattle.kept.specs.declared.Answer.the-variants.{Accepted}
+use Rattle.sheet_listing.specs.Text.{textOf}
+use Rattle.promises.specs.Promises.{SameResult}
+use Rattle.promises.proofs.Theorems.{another-order}
+use Rattle.stars.specs.Stars.{rules-compute, settings}
+use Rattle.stars.specs.Listed.{file, file-computes, answered, shown, printed, rows-left}
+use Rattle.instances.specs.Files.{point, shortFile, ten, eleven, twelve, thirteen, fourteen, bare, componentsIn, marksOf}
+use Rattle.instances.proofs.Computed.{bytes-by}
+use Rattle.instances.proofs.KeptPatch.{file-bytes}
+
+-- ---- the sheet of five points, its first two and its next two points the other way round
+
+pub file-is : file ≡ shortFile 0x42C8_0000 (fourteen ∷ ten ∷ eleven ∷ twelve ∷ thirteen ∷ [])
+file-is = refl
+
+abbrev turned : List ℕ
+turned = shortFile 0x42C8_0000 (ten ∷ fourteen ∷ twelve ∷ eleven ∷ thirteen ∷ [])
+
+framed : framingOf file ≡ Framed (layoutOf file)
+unfolding file-computes
+framed = refl
+
+is-relisted : Relisted file turned (layoutOf file)
+unfolding file-computes recordsIn every
+is-relisted = record {
+  rest = record { size = refl; head = λ k h. eqb-true (getD turned k 0) (getD file k 0) (every-at (λ (k : ℕ). eqb (getD turned k 0) (getD file k 0)) 10 refl k h) };
+  records = List·Permᴰ·trans (List·Permᴰ·swap refl refl) (List·Permᴰ·cons refl (List·Permᴰ·cons refl (List·Permᴰ·swap refl refl)));
+}
+
+-- what the promise says of it
+pub turned-same : SameResult file turned
+turned-same = another-order file turned (layoutOf file) file-bytes framed is-relisted
+
+-- so the counts, the text and the rows of the one file are those of the other
+pub turned-answered : answerOf turned 140 ≡ Accepted (record { points = 5; components = 2 })
+turned-answered = turned-same .answer 140 ∙ answered
+
+pub turned-printed : textOf turned ≡ shown
+turned-printed = turned-same .text ∙ printed
+
+pub turned-rows : rowsAfter turned (replicate 140 255) ≡ replicate 112 0 ++ 8 ∷ replicate 27 0
+turned-rows = turned-same .rows (replicate 140 255) ∙ rows-left
+
+-- ---- without "all else .. unchanged": the same records with another cell size
+
+-- (0,0) and (1,0) 19 pixels apart
+abbrev near : List Point
+near = point 0 0 10 0 0 ∷ point 1 0 11 0x4198_0000 0 ∷ []
+
+abbrev nearFile : List ℕ
+nearFile = shortFile 0x42C8_0000 near
+
+abbrev bareFile : List ℕ
+bareFile = shortFile 0 near
+
+near-framed : framingOf nearFile ≡ Framed (layoutOf nearFile)
+unfolding file-computes
+near-framed = refl
+
+records-same : recordsIn nearFile (layoutOf nearFile .points) (layoutOf nearFile .count) ≡ recordsIn bareFile (layoutOf nearFile .points) (layoutOf nearFile .count)
+unfolding recordsIn file-computes
+records-same = refl
+
+-- with cell size 100 both are marked, with 0 neither
+pub near-marks : marksOf settings near ≡ 4 ∷ 4 ∷ []
+unfolding rules-compute
+near-marks = refl
+
+pub bare-marks : marksOf bare near ≡ 0 ∷ 0 ∷ []
+unfolding rules-compute
+bare-marks = refl
+
+near-answered : answerOf nearFile 56 ≡ Accepted (record { points = 2; components = 0 })
+unfolding answerOf file-computes rules-compute
+near-answered = refl
+
+bare-answered : answerOf bareFile 56 ≡ Accepted (record { points = 2; components = 1 })
+unfolding answerOf file-computes rules-compute
+bare-answered = refl
+
+not-same : SameResult nearFile bareFile → ⊥
+not-same r = let z : _≡_ {A = ℕ} 1 0 = ap componentsIn (sym bare-answered ∙ r .answer 56 ∙ near-answered) in omega arith
+
+-- so the promise needs its condition on the rest of the file
+pub rest-needed : ((file other : List ℕ) (f : Layout) → Bytes file → framingOf file ≡ Framed f
+    → List·Permᴰ (recordsIn file (f .points) (f .count)) (recordsIn other (f .points) (f .count)) → SameResult file other) → ⊥
+rest-needed f =
+    let l = layoutOf nearFile in
+    not-same (f nearFile bareFile l (bytes-by nearFile refl) near-framed (rw (← records-same) (Permᴰ·refl (recordsIn nearFile (l .points) (l .count)))))

@@ -1,0 +1,5 @@
+pub mod Computed
+pub mod KeptPatch
+pub mod AnotherOrder
+pub mod Offset
+pub mod Switches

@@ -1,0 +1,81 @@
+-- The bytes of small sheet files; the sheet of five points; settings with cell size 0; the marks of points, and the component count of an
+-- answer. Assumes nothing.
+use mathlib.Core.List.{List, [], _∷_, _++_}
+use Prim.Native.Nat.{ℕ}
+use lib.ListN.{length, take}
+use Rattle.folds.specs.Arith.{f32}
+use Rattle.cells.specs.Points.{Point}
+use Rattle.sheet_file.specs.Grammar.{field}
+use Rattle.sheet_file.specs.Refusals.{defaultsFor}
+use Rattle.sheet_file.specs.declared.EdgeGate.the-variants.{Off}
+use Rattle.sheet_file.specs.declared.Settings.{Settings}
+use Rattle.judging.specs.Judging.{judgedFor}
+use Rattle.kept.specs.declared.Answer.{Answer}
+use Rattle.kept.specs.declared.Answer.the-variants.{Refused, Accepted}
+use Rattle.rows.specs.Rows.{littleEndian}
+
+-- a point: the patterns of its cell, its index, and the patterns of its position
+abbrev pub point : ℕ → ℕ → ℕ → ℕ → ℕ → Point
+point u v i x y = record { u = u; v = v; index = i; x = x; y = y }
+
+-- "each point is u i32, v i32, index u32, x f32, y f32"
+abbrev pub recordOf : Point → List ℕ
+recordOf p = littleEndian (p .u) ++ littleEndian (p .v) ++ littleEndian (p .index) ++ littleEndian (p .x) ++ littleEndian (p .y)
+
+abbrev pub recordsOf : List Point → List ℕ
+recordsOf [] = []
+recordsOf (p ∷ ps) = recordOf p ++ recordsOf ps
+
+-- "Length 4 gives the cell size only": the file with the cell size of this pattern and these points, in this order
+abbrev pub shortFile : ℕ → List Point → List ℕ
+shortFile size ps = field 1 (littleEndian size) ++ field 3 (recordsOf ps)
+
+-- "Tag 1, length 21": with the default tolerances 0.15, 3 and 0.20, the step flag off, and these two switches
+abbrev pub longSettings : ℕ → ℕ → ℕ → List ℕ
+longSettings size wrong largest =
+    field 1 (littleEndian size ++ (littleEndian 0x3E19_999A ++ (3 ∷ 0 ∷ (littleEndian 0x3E4C_CCCD ++ (0 ∷ (littleEndian 0 ++ (wrong ∷ largest ∷ [])))))))
+
+abbrev pub longFile : ℕ → ℕ → ℕ → List Point → List ℕ
+longFile size wrong largest ps = longSettings size wrong largest ++ field 3 (recordsOf ps)
+
+-- "Tag 2, optional, length 17": with this minimum degree, both least cosines 0 and both largest ratios 4
+abbrev pub gatedFile : ℕ → ℕ → ℕ → ℕ → List Point → List ℕ
+gatedFile size wrong largest degree ps =
+    longSettings size wrong largest
+    ++ (field 2 (degree ∷ (littleEndian 0 ++ littleEndian 0x4080_0000 ++ littleEndian 0 ++ littleEndian 0x4080_0000))
+    ++ field 3 (recordsOf ps))
+
+-- ---- the sheet of five points: its points by their indices, and in cell order
+
+abbrev pub ten : Point
+ten = point 0 0 10 0 0
+
+abbrev pub eleven : Point
+eleven = point 1 0 11 0x42C8_0000 0
+
+abbrev pub twelve : Point
+twelve = point 0 1 12 0 0x42C8_0000
+
+abbrev pub thirteen : Point
+thirteen = point 1 1 13 0x42C8_0000 0x42C8_0000
+
+abbrev pub fourteen : Point
+fourteen = point 5 5 14 0x43FA_0000 0x43FA_0000
+
+abbrev pub five : List Point
+five = ten ∷ twelve ∷ eleven ∷ thirteen ∷ fourteen ∷ []
+
+-- ---- settings and marks
+
+-- the settings of a short file with cell size 0: no two points are too close, and no line flags a point that lies on it
+abbrev pub bare : Settings
+bare = defaultsFor (f32 0) Off
+
+-- "Byte 0: marks, bit 0 validate, 1 orientation, 2 wrong label, 3 component": of each of the points, in cell order
+abbrev pub marksOf : Settings → List Point → List ℕ
+marksOf s ps = take (length ps) (judgedFor s ps .marks)
+
+-- the component count of an answer
+abbrev pub componentsIn : Answer → ℕ
+componentsIn (Refused k) = 0
+componentsIn (Accepted c) = c .components

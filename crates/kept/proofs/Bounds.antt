@@ -1,0 +1,44 @@
+-- How large the numbers of an answer are, for every file and buffer. Assumes nothing.
+use mathlib.Core.Path.{_≡_, refl, sym}
+use mathlib.Core.List.{List}
+use Prim.Native.Nat.{ℕ, _≤_}
+use native.Mathlib.Omega.{arith}
+use lib.ListN.{length}
+use Rattle.view.specs.View.{maxPoints}
+use Rattle.sheet_file.specs.Bytes.{Bytes}
+use Rattle.ruling.specs.Ruling.{Ruling, refused, accepted, rulingOf}
+use Rattle.ruling.proofs.Given.{is-given}
+use Rattle.ruling.proofs.Standing.{accepted-order}
+use Rattle.judging.specs.Judging.{judgedFor}
+use Rattle.judging.proofs.Laws.{few-components}
+use Rattle.kept.specs.Answer.{answerBy, answerOf}
+use Rattle.kept.specs.declared.Answer.{Answer}
+use Rattle.kept.specs.declared.Answer.the-variants.{Refused, Accepted}
+use Rattle.kept.specs.declared.Counts.{Counts}
+
+other : {k : ℕ} {c : Counts} → Refused k ≡ Accepted c → ⊥
+other e = let z : _≡_ {A = ℕ} 0 1 = cc in omega arith
+
+module _ (file : List ℕ) (room : ℕ) where
+  -- no more components than points, and no more points than the most of a sheet
+  pub counts-bounded : Bytes file → {c : Counts} → answerOf file room ≡ Accepted c → (c .components ≤ c .points) × (c .points ≤ maxPoints)
+  unfolding answerOf
+  counts-bounded b {c} e = go (rulingOf file room) refl e
+    where
+      go : (r : Ruling) → rulingOf file room ≡ r → answerBy r ≡ Accepted c → (c .components ≤ c .points) × (c .points ≤ maxPoints)
+      go (refused k) q e = absurd (other e)
+      go (accepted s ps) q e =
+          let p : _≡_ {A = Counts} (record { points = length ps; components = judgedFor s ps .components }) c = cc e in
+          rw (← p) (few-components s ps, accepted-order file room s ps b q .few)
+
+  -- the number of a refusal is 1 to 9
+  pub refusal-bounded : {k : ℕ} → answerOf file room ≡ Refused k → (1 ≤ k) × (k ≤ 9)
+  unfolding answerOf
+  refusal-bounded {k} e = go (rulingOf file room) refl e
+    where
+      go : (r : Ruling) → rulingOf file room ≡ r → answerBy r ≡ Refused k → (1 ≤ k) × (k ≤ 9)
+      go (refused j) q e =
+          let p : j ≡ k = cc e in
+          let g = is-given file room j q in
+          rw (← p) (g .low, g .high)
+      go (accepted s ps) q e = absurd (other (sym e))
