@@ -1,4 +1,4 @@
-// The functions of `float` for C and Rust: tools/float_check runs them over all bit patterns and times them.
+// The functions of `float` for C and Rust: `harness float-check` runs them over all bit patterns and times them.
 ghost use mathlib.Core.Path.{_≡_};
 ghost use Rattle.float.specs.Root.{rootOf};
 ghost use Rattle.float.specs.Scalar.{normOf, absOf, maxOf, minOf, clampOf, over30Degrees};

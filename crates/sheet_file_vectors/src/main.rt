@@ -1,6 +1,6 @@
 // Replays recorded sheet files. Each case is the file's length and the result buffer's, both u32, and then the file's bytes. For each it
 // writes a line: the number of the refusal or 0, the number of points, and a digest of the points in cell order. What it must write was
-// made by make/make.rs.
+// made by `harness vectors sheet_file`.
 use libc::STDIN_FILENO;
 use libc::STDOUT_FILENO;
 use view::Floats;

@@ -1,4 +1,3 @@
 pub mod FailingEdges
 pub mod LineEnds
 pub mod Laws
-pub mod Theorems
