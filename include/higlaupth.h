@@ -1,15 +1,16 @@
 /*
- * higlaupth: kept corners of a make-ready sheet.
+ * higlaupth: kept corners of a calibration sheet.
  *
  * One function. It takes the bytes of a sheet file and a buffer for rows, and either refuses the
  * file with a number of 1 to 9 or writes one row of 28 bytes for each point: which filters mark
  * the point, why, its residual and its edge figures.
  *
  * The function is proved: for any bytes and any buffer its number and every byte of the buffer
- * are those of the specification, document 01, "Kept corners of a make-ready sheet". The rules
- * for callers below are what the proof takes for granted; README.md says what else is assumed.
- * Link with libhiglaupth.a (x86-64, which `rt staticlib higlaupth` writes). Of the C library it
- * needs the copying, filling and comparing of memory alone (memcpy, memset and their like).
+ * are what docs/SPECIFICATION.md says. The rules for callers below are what the proof takes for
+ * granted; README.md says what else is assumed.
+ * Link with libhiglaupth.a (x86-64; `./install PREFIX` builds and installs it). Of the C library
+ * it needs the copying, filling and comparing of memory alone (memcpy, memset and their like).
+ * C99, and C++ from C++11 on. examples/c/keep.c is a whole program.
  *
  * The sheet file, little-endian, nothing before, between or after its fields; a field is a
  * one-byte tag, a two-byte length and its data:
@@ -33,12 +34,39 @@
 extern "C" {
 #endif
 
-/* Sizes. */
-#define HIGLAUPTH_MOST_POINTS 2048 /* a sheet with more is refused */
-#define HIGLAUPTH_ROW_SIZE 28      /* bytes of a row */
-#define HIGLAUPTH_ROWS_SIZE 57344  /* 2,048 rows: a buffer of this size always suffices */
-#define HIGLAUPTH_FILE_SIZE 41007  /* bytes of the longest file that can be accepted */
-#define HIGLAUPTH_STACK_SIZE 786432 /* bytes of stack to have free; the note at the function */
+/* The version of this header and of the library that is installed with it. A change that breaks a
+   caller raises the first number, an addition the second, anything else the third. */
+#define HIGLAUPTH_VERSION_MAJOR 1
+#define HIGLAUPTH_VERSION_MINOR 0
+#define HIGLAUPTH_VERSION_PATCH 0
+#define HIGLAUPTH_VERSION "1.0.0"
+
+/* Sizes, in bytes but for the first. */
+#define HIGLAUPTH_MOST_POINTS 2048  /* a sheet with more is refused */
+#define HIGLAUPTH_ROW_SIZE 28       /* a row */
+#define HIGLAUPTH_ROWS_SIZE 57344   /* 2,048 rows: a buffer of this size always suffices */
+#define HIGLAUPTH_FILE_SIZE 41007   /* the longest file that can be accepted */
+#define HIGLAUPTH_READ_SIZE 65568   /* read so much of a file whose length is not known */
+#define HIGLAUPTH_STACK_SIZE 786432 /* stack to have free; the note at the function */
+
+/*
+ * HIGLAUPTH_READ_SIZE is one byte more than the longest well-framed file has: 3 + 21 bytes of
+ * settings, 3 + 17 of the gate, 3 + 65,520 of points, 3,276 of them. A longer file is refused
+ * with 1, and so are its first HIGLAUPTH_READ_SIZE bytes: a reader that stops there gets the
+ * whole file's answer. One that stops at HIGLAUPTH_FILE_SIZE may cut a file into one that is
+ * accepted though the whole is refused: an accepted file of 41,007 bytes and a byte after it.
+ */
+
+/*
+ * The original's values for tag 2, for a file that asks for the gate as the original sets it:
+ * those of its EdgeShapeParams::default, the one set that it has. (Its ValidationParams::default
+ * has no gate.) The original's 8 degrees are the cosine 16,613,942 / 2^24 here.
+ */
+#define HIGLAUPTH_GATE_MINIMUM_DEGREE 2
+#define HIGLAUPTH_GATE_CONTINUATION_COSINE 0.99026811122894287109375f /* bits 0x3F7D8236 */
+#define HIGLAUPTH_GATE_CONTINUATION_RATIO 1.18f                       /* bits 0x3F970A3D */
+#define HIGLAUPTH_GATE_CELL_COSINE 0.99026811122894287109375f         /* bits 0x3F7D8236 */
+#define HIGLAUPTH_GATE_CELL_RATIO 1.10f                               /* bits 0x3F8CCCCD */
 
 /* Refusals. A call returns the first number whose condition holds. */
 enum higlaupth_refusal {
@@ -99,12 +127,14 @@ enum higlaupth_mark {
     HIGLAUPTH_MARK_COMPONENT = 8
 };
 
-/* Values of byte 1. */
+/* Values of byte 1: the first reason that holds. */
 enum higlaupth_reason {
     HIGLAUPTH_REASON_NONE = 0,
-    HIGLAUPTH_REASON_LOW_CARDINAL_DEGREE = 1,
-    HIGLAUPTH_REASON_BAD_CONTINUATION = 2,
-    HIGLAUPTH_REASON_NO_VALID_ADJACENT_CELL = 3
+    HIGLAUPTH_REASON_LOW_CARDINAL_DEGREE = 1,   /* The degree is under the minimum. */
+    HIGLAUPTH_REASON_BAD_CONTINUATION = 2,      /* A continuation cosine is under the least, or a
+                                                   continuation ratio over the largest where
+                                                   degree is at most 3 or valid cells at most 2. */
+    HIGLAUPTH_REASON_NO_VALID_ADJACENT_CELL = 3 /* Adjacent cells, none valid. */
 };
 
 /* Bits of byte 2. */
@@ -141,21 +171,102 @@ enum higlaupth_present {
  *   stack: this is the deepest use that was measured, docs/TESTING.md, rounded up. The usual
  *   8 MiB of a main thread and the 2 MiB of a Rust thread suffice. The code touches its stack
  *   page by page, so that a stack too small ends in a fault at its guard page.
+ *
+ * Example, of the bytes file[0] to file[file_len - 1]; those below go on from it:
+ *
+ *     uint8_t rows[HIGLAUPTH_ROWS_SIZE];
+ *     uint64_t returned = higlaupth_keep(file, file_len, rows, sizeof rows);
  */
 uint64_t higlaupth_keep(const uint8_t *file, size_t file_len, uint8_t *rows, size_t rows_len);
 
-/* Whether the returned number is a refusal, which then is the number itself. */
+/*
+ * Whether the returned number is a refusal, which then is the number itself.
+ * Example:
+ *
+ *     if (higlaupth_refused(returned)) printf("refused %u\n", (unsigned)returned);
+ */
 static inline int higlaupth_refused(uint64_t returned) { return (returned >> 32) == 0; }
 
-/* Of a number that is no refusal: how many points, hence rows; 0 to 2,048. */
+/*
+ * What a refusal number says, in one line of text.
+ * Example:
+ *
+ *     if (higlaupth_refused(returned)) {
+ *         printf("%s\n", higlaupth_refusal_text((unsigned)returned));
+ *         return 1;
+ *     }
+ */
+static inline const char *higlaupth_refusal_text(unsigned number) {
+    switch (number) {
+    case HIGLAUPTH_MISFRAMED:
+        return "the fields, their order, their lengths or the end of the file are wrong";
+    case HIGLAUPTH_TOO_MANY_POINTS:
+        return "there are more than 2,048 points";
+    case HIGLAUPTH_SHORT_BUFFER:
+        return "the result buffer is shorter than 28 bytes per point";
+    case HIGLAUPTH_BAD_SWITCH:
+        return "the step flag or a switch is neither 0 nor 1";
+    case HIGLAUPTH_BAD_SETTING:
+        return "a float of tag 1 or 2 is not finite or exceeds 16,384 in magnitude";
+    case HIGLAUPTH_BAD_CELL:
+        return "a u or v lies outside -8,000 to 8,000";
+    case HIGLAUPTH_BAD_POSITION:
+        return "a position is not finite or exceeds 16,384 in magnitude";
+    case HIGLAUPTH_REPEATED_CELL:
+        return "two points have the same cell";
+    case HIGLAUPTH_TWO_POSITIONS:
+        return "one index stands at positions with different bits";
+    default:
+        return "no such refusal";
+    }
+}
+
+/*
+ * Of a number that is no refusal: how many points, hence rows; 0 to 2,048.
+ * Example:
+ *
+ *     for (unsigned k = 0; k < higlaupth_points(returned); k++) {
+ *         const uint8_t *row = rows + k * HIGLAUPTH_ROW_SIZE;
+ *         if (row[HIGLAUPTH_MARKS] == 0) printf("row %u is kept\n", k);
+ *     }
+ */
 static inline unsigned higlaupth_points(uint64_t returned) {
     return (unsigned)((returned >> 16) & 0xFFFF);
 }
 
-/* Of a number that is no refusal: how many patches the largest-patch filter saw; 0 with its
-   switch off. */
+/*
+ * Of a number that is no refusal: how many patches the largest-patch filter saw; 0 with its
+ * switch off.
+ * Example:
+ *
+ *     printf("%u patches\n", higlaupth_components(returned));
+ */
 static inline unsigned higlaupth_components(uint64_t returned) {
     return (unsigned)(returned & 0xFFFF);
+}
+
+/*
+ * What a reason, byte 1 of a row, says, in one line of text.
+ * Example:
+ *
+ *     for (unsigned k = 0; k < higlaupth_points(returned); k++) {
+ *         const uint8_t *row = rows + k * HIGLAUPTH_ROW_SIZE;
+ *         printf("row %u: %s\n", k, higlaupth_reason_text(row[HIGLAUPTH_REASON]));
+ *     }
+ */
+static inline const char *higlaupth_reason_text(unsigned reason) {
+    switch (reason) {
+    case HIGLAUPTH_REASON_NONE:
+        return "none";
+    case HIGLAUPTH_REASON_LOW_CARDINAL_DEGREE:
+        return "fewer neighbours than the minimum degree";
+    case HIGLAUPTH_REASON_BAD_CONTINUATION:
+        return "a row or column bends or stretches at the point";
+    case HIGLAUPTH_REASON_NO_VALID_ADJACENT_CELL:
+        return "no cell at the point is valid";
+    default:
+        return "no such reason";
+    }
 }
 
 #ifdef __cplusplus

@@ -1,109 +1,200 @@
-//! Vectors of single f32 operations, and the machine's root against whole numbers.
+//! Crate `float` against Rust's own functions, through the static library of `float_c`, and the
+//! machine's root against whole numbers.
 //!
-//! A bundle is the count of cases, then for each four u32, little-endian: operation, bits of a,
-//! bits of b, result. Operations: 0 a+b, 1 a-b, 2 a*b, 3 a/b, 4 root of a, 5 a<b (0 or 1),
-//! 6 a over 30 degrees (0 or 1), 7 |a|, 8 root of a*a+b*b. NaN is 7FC00000 as operand and as
-//! result.
+//! With the feature `float-library`, `libfloat_c.a` is linked from the folder that
+//! HIGLAUPTH_FLOAT_LIBRARY names.
 
 use crate::random::Random;
-use crate::second::{over_30_degrees, root};
+use crate::second::root;
+use std::fmt::Debug;
+use std::hint::black_box;
+use std::time::Instant;
 
-const NAN: u32 = 0x7FC0_0000;
+type One = extern "C" fn(f32) -> f32;
+type Two = extern "C" fn(f32, f32) -> f32;
+
+/// The functions of `float_c`.
+struct Functions {
+    sqrt: One,
+    abs: One,
+    clamp: One,
+    norm: Two,
+    max: Two,
+    min: Two,
+    over_30_degrees: extern "C" fn(f32) -> bool,
+}
+
+#[cfg(feature = "float-library")]
+fn functions() -> Option<Functions> {
+    unsafe extern "C" {
+        safe fn float_sqrt(x: f32) -> f32;
+        safe fn float_abs(x: f32) -> f32;
+        safe fn float_clamp(x: f32) -> f32;
+        safe fn float_norm(x: f32, y: f32) -> f32;
+        safe fn float_max(a: f32, b: f32) -> f32;
+        safe fn float_min(a: f32, b: f32) -> f32;
+        safe fn float_over_30_degrees(c: f32) -> bool;
+    }
+    Some(Functions {
+        sqrt: float_sqrt,
+        abs: float_abs,
+        clamp: float_clamp,
+        norm: float_norm,
+        max: float_max,
+        min: float_min,
+        over_30_degrees: float_over_30_degrees,
+    })
+}
+
+#[cfg(not(feature = "float-library"))]
+fn functions() -> Option<Functions> {
+    None
+}
 
 /// Values at and beside limits.
-const SPECIAL: [u32; 30] = [
+const SPECIAL: [u32; 12] = [
     0,
     0x8000_0000,
     1,
     0x8000_0001,
-    2,
-    3,
-    0x007F_FFFF,
-    0x0080_0000,
-    0x0080_0001,
+    0x3F80_0000,
+    0xBF80_0000,
     0x7F7F_FFFF,
     0xFF7F_FFFF,
     0x7F80_0000,
     0xFF80_0000,
-    NAN,
-    0x3F80_0000,
-    0xBF80_0000,
-    0x3F7F_FFFF,
-    0x3F80_0001,
-    0x3F00_0000,
-    0x4000_0000,
-    0x4040_0000,
-    0x3F5D_B3D7,
-    0x3F5D_B3D8,
-    0x4680_0000,
-    0xC680_0000,
-    0x3400_0000,
-    0x2B8C_BCCC,
-    0x3EAA_AAAB,
-    0x4B80_0000,
-    0x4B7F_FFFF,
+    0x7FC0_0000,
+    0xFFC0_0000,
 ];
 
-fn bits(float: f32) -> u32 {
-    if float.is_nan() {
-        NAN
-    } else {
-        float.to_bits()
-    }
+/// The same bits, or two NaNs.
+fn same(a: f32, b: f32) -> bool {
+    a.to_bits() == b.to_bits() || (a.is_nan() && b.is_nan())
 }
 
-fn result(operation: u32, a: f32, b: f32) -> u32 {
-    match operation {
-        0 => bits(a + b),
-        1 => bits(a - b),
-        2 => bits(a * b),
-        3 => bits(a / b),
-        4 => bits(root(a)),
-        5 => u32::from(a < b),
-        6 => u32::from(over_30_degrees(a)),
-        7 => bits(a.abs()),
-        _ => bits(root(a * a + b * b)),
-    }
+/// Counts what was tried and what differs; the first ten that differ are listed.
+#[derive(Default)]
+struct Tried {
+    count: u64,
+    differences: u64,
 }
 
-/// A float of any kind: special, any bits, or of common size.
-fn operand(r: &mut Random) -> f32 {
-    let any = match r.below(4) {
-        0 => r.pick(&SPECIAL),
-        1 => r.bits() as u32,
-        2 => r.between(-2.0, 2.0).to_bits(),
-        _ => r.between(-16384.0, 16384.0).to_bits(),
-    };
-    f32::from_bits(bits(f32::from_bits(any)))
-}
-
-/// A bundle: each special value and pair of special values in each operation, then `count`
-/// at random.
-pub fn bundle(count: usize, seed: u64) -> Vec<u8> {
-    let mut r = Random::new(seed);
-    let mut cases = Vec::new();
-    for operation in 0..9 {
-        for a in SPECIAL {
-            for b in SPECIAL {
-                let one_operand = matches!(operation, 4 | 6 | 7);
-                if !one_operand || b == SPECIAL[0] {
-                    cases.push((operation, f32::from_bits(a), f32::from_bits(b)));
-                }
+impl Tried {
+    fn add(&mut self, alike: bool, what: impl Fn() -> String) {
+        self.count += 1;
+        if !alike {
+            self.differences += 1;
+            if self.differences <= 10 {
+                println!("  {}", what());
             }
         }
     }
-    for _ in 0..count {
-        cases.push((r.below(9) as u32, operand(&mut r), operand(&mut r)));
+
+    /// True if nothing differs.
+    fn print(&self, name: &str, what: &str) -> bool {
+        let Tried { count, differences } = self;
+        println!("{name}: {what} {count}, differences {differences}");
+        *differences == 0
     }
-    let mut out = (cases.len() as u32).to_le_bytes().to_vec();
-    for (operation, a, b) in cases {
-        // NaN is over 30 degrees by no rule of document 01.
-        let a = if operation == 6 && a.is_nan() { 1.0 } else { a };
-        for number in [operation, bits(a), bits(b), result(operation, a, b)] {
-            out.extend(number.to_le_bytes());
+}
+
+/// Both functions at all 2^32 bit patterns.
+fn every_pattern<T: Debug>(
+    name: &str,
+    ours: extern "C" fn(f32) -> T,
+    rusts: impl Fn(f32) -> T,
+    alike: impl Fn(&T, &T) -> bool,
+) -> bool {
+    let mut tried = Tried::default();
+    for bits in 0..=u32::MAX {
+        let x = f32::from_bits(bits);
+        let (a, b) = (ours(x), rusts(x));
+        tried.add(alike(&a, &b), || {
+            format!("{name} {bits:08X}: {a:?}, Rust {b:?}")
+        });
+    }
+    tried.print(name, "patterns")
+}
+
+/// Both functions at every pair of special values, and at ten million pairs of any bit patterns.
+fn pairs(name: &str, ours: Two, rusts: impl Fn(f32, f32) -> f32) -> bool {
+    let mut tried = Tried::default();
+    let mut at = |a: u32, b: u32| {
+        let (x, y) = (f32::from_bits(black_box(a)), f32::from_bits(black_box(b)));
+        let (p, q) = (ours(x, y), rusts(x, y));
+        tried.add(same(p, q), || {
+            format!("{name} {a:08X} {b:08X}: {p:?}, Rust {q:?}")
+        });
+    };
+    for a in SPECIAL {
+        for b in SPECIAL {
+            at(a, b);
         }
     }
-    out
+    let mut r = Random::new(1);
+    for _ in 0..10_000_000 {
+        let both = r.bits();
+        at(both as u32, (both >> 32) as u32);
+    }
+    tried.print(name, "pairs")
+}
+
+/// Nanoseconds a call in a loop of a million, taken in parts of 10,000 calls so that other work on
+/// the machine falls on few of them.
+fn time(name: &str, inputs: &[f32], call: impl Fn(f32, f32) -> f32) {
+    let mut parts = Vec::new();
+    for part in inputs.chunks(10_000) {
+        let start = Instant::now();
+        for pair in part.windows(2) {
+            black_box(call(pair[0], pair[1]));
+        }
+        parts.push(start.elapsed().as_nanos() as f64 / part.len() as f64);
+    }
+    parts.sort_by(f64::total_cmp);
+    let (median, count, least) = (parts[parts.len() / 2], parts.len(), parts[0]);
+    println!("{name}: {median:.1} ns a call, the median of {count} parts; least {least:.1}");
+}
+
+fn times(float: &Functions) {
+    let mut r = Random::new(7);
+    let mut million = |number: fn(&mut Random) -> f32| -> Vec<f32> {
+        (0..1_000_000).map(|_| number(&mut r)).collect()
+    };
+    let lengths = million(|r| r.between(0.0, 16384.0));
+    let patterns = million(|r| f32::from_bits(1 + r.below(0x7F7F_FFFF) as u32));
+    time("sqrt, 0 to 16,384", &lengths, |x, _| (float.sqrt)(x));
+    time("sqrt, any finite above 0", &patterns, |x, _| {
+        (float.sqrt)(x)
+    });
+    time("norm, 0 to 16,384", &lengths, |x, y| (float.norm)(x, y));
+    time("abs", &lengths, |x, _| (float.abs)(x));
+    time("max", &lengths, |x, y| (float.max)(x, y));
+}
+
+fn agree(float: &Functions) -> bool {
+    let alike = |a: &f32, b: &f32| same(*a, *b);
+    let over = |x: f32| x.clamp(-1.0, 1.0).acos().to_degrees() > 30.0;
+    let all = [
+        pairs("max", float.max, f32::max),
+        pairs("min", float.min, f32::min),
+        pairs("norm", float.norm, |a, b| (a * a + b * b).sqrt()),
+        every_pattern("sqrt", float.sqrt, f32::sqrt, alike),
+        every_pattern("abs", float.abs, f32::abs, alike),
+        every_pattern("clamp", float.clamp, |x| x.clamp(-1.0, 1.0), alike),
+        every_pattern("over_30_degrees", float.over_30_degrees, over, bool::eq),
+    ];
+    all.iter().all(|holds| *holds)
+}
+
+/// Times the functions and, unless only the times are asked for, holds each against Rust's own; true
+/// if all agree.
+pub fn check(only_times: bool) -> bool {
+    let Some(float) = functions() else {
+        println!("built without the static library of float_c");
+        return false;
+    };
+    times(&float);
+    only_times || agree(&float)
 }
 
 /// Every `step`-th f32: how many there are, and those whose machine root is another.
@@ -112,7 +203,7 @@ pub fn roots(step: usize) -> (u64, u64) {
     for k in (0..=u32::MAX).step_by(step) {
         let x = f32::from_bits(k);
         count += 1;
-        otherwise += u64::from(bits(x.sqrt()) != bits(root(x)));
+        otherwise += u64::from(!same(x.sqrt(), root(x)));
     }
     (count, otherwise)
 }

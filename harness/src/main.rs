@@ -42,11 +42,10 @@ harness generate KIND SEED            a sheet file to standard output
 harness kinds                         the kinds of generated sheets
 harness second [BUFFER]               listing of the sheet file on standard input
 harness original                      rows of the original for the sheet file on standard input
-harness vectors FILE [--sheets N] [--seed S] [--most BYTES] [--full N]
-                                      a bundle of files with their expected answers
-harness floats FILE [--count N] [--seed S]
-                                      a bundle of single f32 operations
+harness vectors float|sheet_file|sheet FOLDER [--sheets N] [--seed S] [--most BYTES] [--full N]
+                                      the recorded files of a vector crate, stdin and stdout
 harness roots [--step N]              the machine's root against whole numbers
+harness float-check [time]            the static library of float_c against Rust's own functions
 harness load [--files N] [--seed S] [--heap] [--threads N] [--wrong K]
                                       the static library under load, at guard pages or in heap blocks
 harness load faults                   whether the load notices deliberate faults
@@ -92,12 +91,20 @@ fn save(file: &str, bytes: &[u8]) {
 /// One line if the Rust files were not at hand when this was built.
 fn say_without_original() {
     if !cfg!(original_at_hand) {
-        println!("the Rust original is not at hand (HIGLAUPTH_RUST): its part is left out");
+        println!("left out: the Rust original, which is not at hand (HIGLAUPTH_RUST)");
+    }
+}
+
+/// A line for the original and one for the static library, if this was built without it.
+fn say_left_out() {
+    say_without_original();
+    if library::function().is_none() {
+        println!("left out: the static library, which is not linked (HIGLAUPTH_LIBRARY)");
     }
 }
 
 fn compare(args: &[String]) -> bool {
-    say_without_original();
+    say_left_out();
     let kind = args
         .iter()
         .position(|a| a == "--kind")
@@ -177,13 +184,34 @@ fn generated(kind: &str, seed: &str) -> Vec<u8> {
     }
 }
 
+/// The files of a vector crate into its folder.
+fn vectors(crate_of: &str, folder: &str, args: &[String]) {
+    let made = match crate_of {
+        "float" => vectors::float(),
+        "sheet_file" => vectors::sheet_file(),
+        "sheet" => {
+            say_without_original();
+            let recorded = vectors::Choice::RECORDED;
+            vectors::sheet(&vectors::Choice {
+                sheets: option(args, "--sheets", recorded.sheets as u64) as usize,
+                seed: option(args, "--seed", recorded.seed),
+                most: option(args, "--most", recorded.most as u64) as usize,
+                full: option(args, "--full", recorded.full as u64) as usize,
+            })
+        }
+        _ => fail("vectors takes float, sheet_file or sheet, and a folder"),
+    };
+    save(&format!("{folder}/stdin"), &made.stdin);
+    save(&format!("{folder}/stdout"), &made.stdout);
+}
+
 fn main() -> ExitCode {
     let args: Vec<String> = std::env::args().skip(1).collect();
     let words: Vec<&str> = args.iter().map(String::as_str).collect();
     let mut holds = true;
     match words.as_slice() {
         ["quick"] => {
-            say_without_original();
+            say_left_out();
             holds = quick::run();
         }
         ["compare", ..] => holds = compare(&args),
@@ -202,17 +230,9 @@ fn main() -> ExitCode {
             );
         }
         ["original"] => original_rows(),
-        ["vectors", file, ..] => {
-            let sheets = option(&args, "--sheets", 230) as usize;
-            let most = option(&args, "--most", 2000) as usize;
-            let full = option(&args, "--full", 0) as usize;
-            let bundle = vectors::bundle(sheets, option(&args, "--seed", 0), most, full);
-            save(file, &bundle);
-        }
-        ["floats", file, ..] => {
-            let count = option(&args, "--count", 2000) as usize;
-            save(file, &floats::bundle(count, option(&args, "--seed", 0)));
-        }
+        ["vectors", crate_of, folder, ..] => vectors(crate_of, folder, &args),
+        ["float-check"] => holds = floats::check(false),
+        ["float-check", "time"] => holds = floats::check(true),
         ["roots", ..] => {
             let (count, otherwise) = floats::roots(option(&args, "--step", 1).max(1) as usize);
             println!("{count} floats, {otherwise} with another root");

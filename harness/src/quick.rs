@@ -11,6 +11,7 @@ use crate::second::Fault;
 use crate::sheet::Sheet;
 use crate::stars;
 use crate::text;
+use crate::vectors::{self, Choice, Vectors};
 
 /// On a row of five with strengths 1, the last 2, and fraction 2 all but the last are peeled.
 fn weak_ends() -> bool {
@@ -52,6 +53,24 @@ fn faults() -> Vec<(String, bool)> {
         .collect()
 }
 
+/// Whether the recorded files of the vector crates are those that are made here. The sheets are
+/// chosen with the original's help.
+fn recorded() -> Vec<(String, bool)> {
+    let check = |crate_name: &str, made: Vectors| {
+        let holds = made.recorded(crate_name);
+        (format!("the recorded files of {crate_name}"), holds)
+    };
+    let mut checks = vec![
+        check("float_vectors", vectors::float()),
+        check("sheet_file_vectors", vectors::sheet_file()),
+    ];
+    if cfg!(original_at_hand) {
+        let made = vectors::sheet(&Choice::RECORDED);
+        checks.push(check("sheet_vectors", made));
+    }
+    checks
+}
+
 /// Runs all checks; true if all hold.
 pub fn run() -> bool {
     let mut checks = stars::checks();
@@ -67,6 +86,7 @@ pub fn run() -> bool {
         "roots over whole numbers".into(),
         floats::roots(4099).1 == 0,
     ));
+    checks.extend(recorded());
     if cfg!(original_at_hand) {
         checks.push(("weak_leaf_peel is reached".into(), weak_ends()));
     }

@@ -1,6 +1,6 @@
-//! A bundle of sheet files with their expected answers, for other programs to replay.
+//! Sheet files with their whole answers, for `sheet_vectors` and other programs to replay.
 //!
-//! Numbers are little-endian u32. The bundle is the count of cases, then each case:
+//! Numbers are little-endian u32. `stdin` is the count of cases, then each case:
 //!
 //! ```text
 //! file length, buffer length, refusal number (0: accepted), points, components, listing length
@@ -9,9 +9,10 @@
 //! the listing's bytes, by a buffer with room for every sheet
 //! ```
 //!
-//! A case stands in the bundle only if the original agrees with the second program, where it
-//! is at hand.
+//! A generated case stands there only if the original agrees with the second program, where it is at
+//! hand.
 
+use super::Vectors;
 use crate::compare::{self, Verdict};
 use crate::generate::{self, Case};
 use crate::second::{self, Answer, Fault};
@@ -26,7 +27,7 @@ fn put(out: &mut Vec<u8>, numbers: &[usize]) {
     }
 }
 
-/// One case of a bundle.
+/// One case.
 fn encode(file: &[u8], buffer: usize, answer: &Answer) -> Vec<u8> {
     let listing = second::answer(file, FULL_BUFFER, Fault::None).listing();
     let (number, points, components, rows) = match answer {
@@ -66,9 +67,34 @@ fn agreed(case: &Case) -> Option<Vec<u8>> {
     }
 }
 
-/// A bundle of document 01's sheets, `sheets` generated cases of at most `most` bytes of file
-/// each, and `full` generated cases of the most points.
-pub fn bundle(sheets: usize, seed: u64, most: usize, full: usize) -> Vec<u8> {
+/// What generated cases there are.
+pub struct Choice {
+    /// Cases of at most `most` bytes of file each, from a seed on.
+    pub sheets: usize,
+    pub seed: u64,
+    pub most: usize,
+    /// Cases of the most points.
+    pub full: usize,
+}
+
+impl Choice {
+    /// That of the recorded files.
+    pub const RECORDED: Choice = Choice {
+        sheets: 800,
+        seed: 100,
+        most: 500,
+        full: 20,
+    };
+}
+
+/// Document 01's sheets and generated ones.
+pub fn sheet(choice: &Choice) -> Vectors {
+    let Choice {
+        sheets,
+        seed,
+        most,
+        full,
+    } = *choice;
     let named = stars::files().into_iter().map(|file| {
         let buffer = file.len() * 2;
         encode(&file, buffer, &second::answer(&file, buffer, Fault::None))
@@ -82,8 +108,12 @@ pub fn bundle(sheets: usize, seed: u64, most: usize, full: usize) -> Vec<u8> {
     let mut cases: Vec<Vec<u8>> = named.collect();
     cases.extend(small.filter_map(|case| agreed(&case)).take(sheets));
     cases.extend(large.filter_map(|case| agreed(&case)).take(full));
-    let mut out = Vec::new();
-    put(&mut out, &[cases.len()]);
-    out.extend(cases.concat());
-    out
+    let mut stdin = Vec::new();
+    put(&mut stdin, &[cases.len()]);
+    stdin.extend(cases.concat());
+    let stdout = format!("{} files, 0 differ\n", cases.len());
+    Vectors {
+        stdin,
+        stdout: stdout.into_bytes(),
+    }
 }
