@@ -1,6 +1,6 @@
 -- What the table of edges holds at each place, and that the edges of a way fill their part of it. Assumes nothing.
-use mathlib.Core.Path.{_≡_, refl, sym, ap, _∙_}
-use Prim.Native.Nat.{ℕ, _+_, _*_, _/_, _%_, _≤_, _<_}
+use mathlib.Core.Path.{_≡_, sym, ap, _∙_}
+use Prim.Native.Nat.{ℕ, _+_, _/_, _%_, _≤_, _<_}
 use Prim.{Dec, yes, no}
 use mathlib.Core.List.{List}
 use native.Mathlib.Decide.{decLt}

@@ -2,12 +2,12 @@
 -- 4.2): similarities T and T′ centre and scale the two fours; H̃ takes each T x to T′ x′; and H = T′⁻¹ H̃ T, scaled to a last entry of 1.
 -- Assumes nothing.
 use Prim.Native.Nat.{ℕ}
-use mathlib.Core.Bool.{Bool, true, false, cond}
+use mathlib.Core.Bool.{Bool, true, cond}
 use mathlib.Core.List.{List, [], _∷_}
 use lib.ListN.{getD}
 use lib.Ieee.{Float, nan, neg, lt, eq}
 use Rattle.folds.specs.Arith.{_⊕_, _⊖_, _⊗_, _⊘_, zeroF}
-use Rattle.float.specs.Constants.{one, two, four, negligible, rootTwo}
+use Rattle.float.specs.Constants.{one, four, negligible, rootTwo}
 use Rattle.float.specs.Root.{rootOf}
 use Rattle.float.specs.Scalar.{normOf, absOf}
 use Rattle.linear.specs.Rows.{entryAt, entry}

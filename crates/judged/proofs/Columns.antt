@@ -8,7 +8,7 @@ use native.Mathlib.Decide.{decLt}
 use native.Mathlib.Nat.{eq-or-lt-of-le}
 use native.Mathlib.Omega.{arith}
 use native.Mathlib.Numerals.{add-one, add-two, add-three, add-four, add-five}
-use lib.ListN.{length, getD, set, length-replicate}
+use lib.ListN.{getD, set, length-replicate}
 use lib.Seq.{sets, length-sets}
 use lib.Ieee.{Float, nan}
 use Rattle.folds.specs.Column.{column}
@@ -22,7 +22,7 @@ use Rattle.edge_shape.specs.declared.Measure.the-variants.{Absent, Held}
 use Rattle.edge_shape.specs.declared.Reason.{Reason}
 use Rattle.edge_shape.specs.declared.Reason.the-variants.{NoReason, LowCardinalDegree, BadContinuation, NoValidAdjacentCell}
 use Rattle.edge_shape.specs.declared.Figures.{Figures}
-use Rattle.judged.specs.Columns.{countsSize, measuresSize, measureOf, reasonWith, reasonFrom, figuresFrom, figuresIn, isHeld, cosineIn, ratioIn, Sized, Blank, FiguresPut}
+use Rattle.judged.specs.Columns.{countsSize, measureOf, reasonWith, reasonFrom, figuresFrom, figuresIn, isHeld, cosineIn, ratioIn, Sized, Blank, FiguresPut}
 
 -- what was put is read again
 reason-again : (r : Reason) → reasonWith (reasonNumber r) ≡ r

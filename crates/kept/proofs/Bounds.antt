@@ -12,7 +12,6 @@ use Rattle.ruling.proofs.Standing.{accepted-order}
 use Rattle.judging.specs.Judging.{judgedFor}
 use Rattle.judging.proofs.Laws.{few-components}
 use Rattle.kept.specs.Answer.{answerBy, answerOf}
-use Rattle.kept.specs.declared.Answer.{Answer}
 use Rattle.kept.specs.declared.Answer.the-variants.{Refused, Accepted}
 use Rattle.kept.specs.declared.Counts.{Counts}
 

@@ -6,7 +6,6 @@ use Prim.Native.Nat.{ℕ}
 use lib.IntN.{pos}
 use lib.Ieee.{Float, binary32, ofInt, neg}
 use Rattle.folds.specs.Arith.{f32}
-use Rattle.linear.specs.declared.Solution.{Solution}
 use Rattle.linear.specs.Linear.{solutionOf, solution-computes}
 
 -- whole numbers, above and below 0

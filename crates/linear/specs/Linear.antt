@@ -4,9 +4,9 @@
 use Prim.Native.Nat.{ℕ, _+_}
 use mathlib.Core.Bool.{Bool, true, false, cond}
 use mathlib.Core.List.{List, []}
-use lib.ListN.{getD, set, replicate}
+use lib.ListN.{set, replicate}
 use lib.Count.{trailingZeros}
-use lib.Ieee.{Float, nan, add, sum, sub, mul, div, neg, lt, eq, ofBits, odd, round, units, size, span, climb}
+use lib.Ieee.{Float, add, sum, sub, mul, div, neg, lt, eq, ofBits, odd, round, units, size, span, climb}
 use Rattle.folds.specs.Arith.{_⊕_, _⊗_, _⊘_, zeroF}
 use Rattle.folds.specs.Run.{run, upTo, down}
 use Rattle.folds.specs.Below.{some, first}

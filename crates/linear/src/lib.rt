@@ -3,7 +3,7 @@
 ghost use mathlib.Core.Path.{_≡_};
 ghost use Prim.Native.Nat.{_<_, _≤_};
 ghost use Rattle.folds.specs.Run.{run};
-ghost use Rattle.linear.specs.Linear.{System, nextLarger, pivotRow, reduceRow, reduceRows, eliminateColumn, lessEntry, forwardBy, backwardBy, zeroDiagonal, substituted, solutionOf};
+ghost use Rattle.linear.specs.Linear.{nextLarger, pivotRow, reduceRow, reduceRows, eliminateColumn, lessEntry, forwardBy, backwardBy, zeroDiagonal, substituted, solutionOf};
 
 // The solution x, where there is one.
 pub struct Solution {

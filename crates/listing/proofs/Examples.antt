@@ -3,9 +3,9 @@ use mathlib.Core.Path.{_≡_, refl}
 use mathlib.Core.List.{List, [], _∷_}
 use mathlib.Core.Option.{some}
 use Prim.Native.Nat.{ℕ}
-use lib.IntN.{ℤ, pos, negsuc}
+use lib.IntN.{pos, negsuc}
 use lib.Ieee.{binary32, ofBits}
-use lib.ListN.{getD, replicate}
+use lib.ListN.{getD}
 use Rattle.folds.specs.Below.{fold, tally, first, firstIn}
 use Rattle.folds.specs.Lists.{listOf, upFrom}
 use Rattle.cells.specs.Cell.{Cell}

@@ -1,5 +1,5 @@
 -- How long a listing is at most. Assumes nothing.
-use mathlib.Core.Path.{_≡_, refl, sym}
+use mathlib.Core.Path.{refl}
 use mathlib.Core.Bool.{Bool, true, false, cond, _&&_}
 use mathlib.Core.List.{List, _++_}
 use mathlib.Core.Option.{Option, none, some}
@@ -15,7 +15,7 @@ use Rattle.folds.specs.Below.{every}
 use Rattle.folds.proofs.Below.{every-at, tally-le}
 use Rattle.folds.proofs.Lists.{list-at}
 use Rattle.view.specs.View.{maxPoints}
-use Rattle.text.specs.Text.{bytes, each, decimal, whole, hex, digit}
+use Rattle.text.specs.Text.{bytes, each, decimal, whole, digit}
 use Rattle.cells.specs.Points.{bias, stride}
 use Rattle.cells.specs.Cell.{cellOfKey, cellsAt}
 use Rattle.judged.specs.Shown.{Shown, shownAt}
@@ -24,7 +24,7 @@ use Rattle.edge_shape.specs.Figures.{reasonNumber}
 use Rattle.marks.specs.Filters.{filterCount, filterAt}
 use Rattle.marks.specs.Byte.{hasMark, firstMark}
 use Rattle.marks.specs.Tally.{countUnder, countsOf}
-use Rattle.listing.specs.Listing.{cellText, markText, marksText, reasonText, residualText, shownText, lineText, lineOf, linesOf, headText, countText, tallyText, listingOf, lineSize, listingSize}
+use Rattle.listing.specs.Listing.{cellText, markText, marksText, residualText, shownText, lineText, lineOf, headText, countText, tallyText, listingOf, lineSize, listingSize}
 use Rattle.text.proofs.Numbers.{decimal-length, hex-length}
 use Rattle.listing.proofs.Cells.{whole-below, whole-from}
 use Rattle.text.proofs.Stores.{each-length}

@@ -1,12 +1,11 @@
 -- "With fewer than four there is no fit": a base is short of its fourth only where no four of the 24 cells have points of other indices and
 -- are not all on one lattice line. Assumes nothing.
-use mathlib.Core.Path.{_≡_, refl, sym, ap, _∙_}
+use mathlib.Core.Path.{_≡_, refl, sym, _∙_}
 use mathlib.Core.Bool.{Bool, true, false, not, _&&_, _||_, true≢false}
 use Prim.Native.Nat.{ℕ, _+_, _≤_, _<_}
 use Prim.{Dec, yes, no}
 use native.Mathlib.Decide.{decLt, ℕ-discrete}
 use native.Mathlib.Omega.{arith}
-use lib.Dec.{ltb}
 use borrow.Author.Tests.{ltb-false, eq-eqb}
 use Rattle.folds.specs.Below.{every, first}
 use Rattle.folds.proofs.Below.{first-before, first-from, every-at, and-left, and-right, and-both}

@@ -7,7 +7,6 @@ use Rattle.cells.specs.Cell.{Cell}
 use Rattle.view.specs.View.{View}
 use Rattle.local_h.specs.Base.{memberAt, baseOf, hasFour}
 use Rattle.local_h.specs.Residual.{fourCells, fourSeen}
-use Rattle.local_h.specs.declared.Base.{Base}
 
 module _ (w : View) (cell : ℕ → Cell) where
   -- the base of rank k has fewer than four, or its four are unfit

@@ -15,7 +15,6 @@ use Rattle.homography.specs.Fit.{homographyFrom4pt, appliedTo, fit-computes}
 use Rattle.cells.specs.Cell.{Cell}
 use Rattle.view.specs.View.{View}
 use Rattle.local_h.specs.Base.{memberAt, onLine, isOther, isServing, baseOf, hasFour}
-use Rattle.local_h.specs.declared.Base.{Base}
 use Rattle.local_h.specs.declared.Residual.{Residual}
 use Rattle.local_h.specs.declared.Residual.the-variants.{Value, NoFit}
 

@@ -3,7 +3,7 @@
 use mathlib.Core.Path.{_≡_, refl, sym, ap, _∙_}
 use mathlib.Core.Bool.{Bool, true, false, cond, not, _&&_, _||_, true≢false}
 use mathlib.Core.List.{List, [], _∷_, _++_}
-use Prim.Native.Nat.{ℕ, _+_, _^_, _≤_, _<_}
+use Prim.Native.Nat.{ℕ, _+_, _<_}
 use native.Mathlib.Omega.{arith}
 use lib.Dec.{eqb, ltb}
 use lib.ListN.{getD, replicate}
@@ -11,10 +11,9 @@ use borrow.Author.Tests.{eqb-true, eq-eqb, ltb-true}
 use Rattle.folds.specs.Among.{anyIn}
 use Rattle.folds.specs.Below.{some, every}
 use Rattle.folds.proofs.Below.{some-yes, some-ext, every-at, not-true, and-left, and-right, or-none, or-false, not-false}
-use Rattle.folds.specs.Column.{column}
 use Rattle.folds.proofs.Column.{column-at, column-ext, replicate-at}
 use Rattle.view.specs.View.{maxPoints}
-use Rattle.marks.specs.Filters.{filterAt, filterCount}
+use Rattle.marks.specs.Filters.{filterCount}
 use Rattle.marks.specs.Byte.{hasMark, withMark, markedBy, Marking, markedByAll}
 
 -- ---- one byte

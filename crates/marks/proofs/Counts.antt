@@ -1,11 +1,11 @@
 -- The tally's counts, one point after the other. Assumes nothing.
-use mathlib.Core.Path.{_≡_, refl, sym, _∙_}
+use mathlib.Core.Path.{_≡_, refl, _∙_}
 use mathlib.Core.Bool.{Bool, true}
 use mathlib.Core.List.{List}
 use Prim.Native.Nat.{ℕ, _+_, _≤_, _<_}
 use native.Mathlib.Omega.{arith}
 use lib.Dec.{eqb}
-use lib.ListN.{length, getD, set, replicate, length-replicate, getD-replicate}
+use lib.ListN.{getD, set, replicate, getD-replicate}
 use Rattle.folds.proofs.Below.{and-true, tally-ext}
 use Rattle.folds.proofs.Lists.{is-list}
 use Rattle.folds.specs.Scattered.{Scattered, counts, oneMore}

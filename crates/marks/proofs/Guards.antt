@@ -8,7 +8,7 @@ use native.Mathlib.Decide.{ℕ-discrete}
 use Prim.{yes, no}
 use lib.Dec.{eqb, ltb}
 use borrow.Author.Tests.{lt-ltb, le-ltb, ne-eqb}
-use lib.ListN.{getD, replicate}
+use lib.ListN.{replicate}
 use Rattle.folds.specs.Below.{some}
 use Rattle.folds.proofs.Below.{some-ext, some-no, and-false}
 use Rattle.folds.specs.Column.{column}

@@ -1,21 +1,19 @@
 -- How pieces of a text in a buffer join, and what the whole leaves. Assumes nothing.
 use mathlib.Core.Path.{_≡_, refl, ap, sym, _∙_}
-use mathlib.Core.Bool.{cond}
 use mathlib.Core.List.{List, [], _∷_, _++_}
 use Prim.Native.Nat.{ℕ, zero, suc, _+_, _*_, _≤_, _<_}
 use native.Mathlib.Nat.{mul-suc}
 use native.Mathlib.Numerals.{add-one}
 use native.Mathlib.Decide.{decLe}
 use native.Mathlib.Omega.{arith}
-use borrow.Author.Tests.{lt-ltb, le-ltb, le-leb, lt-leb}
+use borrow.Author.Tests.{lt-ltb, le-ltb, lt-leb}
 use lib.ListN.{length, take, drop, set, length-append, length-set}
-use lib.Seq.{set-out, take-all}
+use lib.Seq.{set-out}
 use Rattle.folds.proofs.Below.{fold-none, fold-more}
 use Rattle.text.specs.Text.{each}
 use Rattle.text.specs.Stored.{nextPlace, placeAfter, laid, Stored}
 use Rattle.text.proofs.Numbers.{below-or-not}
 use Rattle.text.specs.declared.Written.{Written}
-use Rattle.text.specs.declared.Written.the-variants.{Whole}
 use Rattle.text.specs.Answer.{writtenOf, Shows}
 
 length-laid : (l : List ℕ) (at : ℕ) (t : List ℕ) → length (laid l at t) ≡ length l
@@ -110,10 +108,6 @@ shows {l} {t} {m} {e} {r} p q =
       buffer = p .buffer ∙ laid-whole l t;
       answer = q ∙ rw (stored-length p, p .place) (same-answer (length l) t);
     }
-
--- where there is room: the whole text, then what stood beyond
-pub shows-whole : {t l m : List ℕ} {r : Written} → Shows t l m r → length t ≤ length l → (m ≡ t ++ drop (length t) l) × (r ≡ Whole (length t))
-shows-whole {t} {l} p h = (p .buffer ∙ rw (take-all (length l) t h), p .answer ∙ rw (le-leb (length t) (length l) h))
 
 -- ---- how long a text is
 

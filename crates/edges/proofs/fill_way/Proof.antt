@@ -1,7 +1,7 @@
-use Prim.Native.Nat.{_+_, _*_, _-_, _≤_}
+use Prim.Native.Nat.{_-_, _≤_}
 use mathlib.Core.Path.{_≡_}
 use native.Mathlib.Omega.{arith}
-use Rattle.view.specs.View.{View, viewAt}
+use Rattle.view.specs.View.{viewAt}
 use Rattle.edges.specs.Edges.{edgePlace, FilledTo}
 use Rattle.edges.proofs.Laws.{edge-more, way-done}
 use borrow.Author.Needs.{needs}

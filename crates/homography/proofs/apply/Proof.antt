@@ -1,6 +1,5 @@
 use Rattle.homography.specs.Fit.{appliedTo}
 use mathlib.Core.Path.{refl}
-use borrow.Author.Needs.{needs}
 use Rattle.homography.proofs.apply.Statement.{statement}
 use Rattle.homography.proofs.apply.Tie as tie
 

@@ -1,10 +1,9 @@
-use mathlib.Core.Bool.{Bool, true, false, cond}
+use mathlib.Core.Bool.{Bool, cond}
 use mathlib.Core.List.{List}
-use mathlib.Core.Path.{_≡_, _∙_, sym}
+use mathlib.Core.Path.{_≡_, _∙_}
 use lib.Ieee.{Float}
 use Rattle.linear.specs.declared.Solution.{Solution}
 use Rattle.homography.specs.declared.PlanePoint.{PlanePoint}
-use Rattle.homography.specs.declared.HomographyFit.{HomographyFit}
 use Rattle.homography.specs.declared.HomographyFit.the-variants.{NoFit}
 use Rattle.linear.specs.Linear.{solutionOf}
 use Rattle.homography.specs.Fit.{normalizationOf, normalizedBy, equationsOf, rightSide, matrixOf, denormalizedMap, mapBy, homographyFrom4pt}

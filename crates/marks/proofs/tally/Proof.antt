@@ -1,5 +1,5 @@
 -- `marks::tally` meets its contract. Assumes nothing.
-use mathlib.Core.Path.{_≡_, _∙_}
+use mathlib.Core.Path.{_≡_}
 use Prim.Native.Nat.{_≤_, _-_}
 use native.Mathlib.Omega.{arith}
 use Rattle.marks.proofs.Counts.{Counted, counted-start, counted-more, counted-small, counted}

@@ -9,7 +9,6 @@ use Rattle.folds.proofs.Column.{fill-start, fill-more, filled}
 use Rattle.folds.specs.Marked.{bit}
 use Rattle.cells.specs.Cell.{Cell, cellsAt}
 use Rattle.view.specs.View.{View, viewAt, maxPoints}
-use Rattle.local_h.specs.declared.Residual.{Residual}
 use Rattle.residuals.specs.declared.Residuals.{Residuals}
 use Rattle.local_h.specs.Residual.{residualAt}
 use Rattle.residuals.specs.ByIndex.{hasValue, valueOf, overAt, highAt, cellColumns}

@@ -1,6 +1,6 @@
 -- `rows::write_rows` meets its contract. The loop's invariant: the rows of the first k ranks are filled in. Assumes nothing.
 use mathlib.Core.Path.{_≡_, refl}
-use Prim.Native.Nat.{ℕ, _+_, _*_, _-_, _≤_, _<_}
+use Prim.Native.Nat.{ℕ, _+_, _*_, _-_, _≤_}
 use native.Mathlib.Omega.{arith}
 use lib.ListN.{length}
 use Rattle.folds.specs.Column.{Filling}

@@ -1,5 +1,4 @@
 use borrow.Author.Tests.{eq-eqb, ne-eqb}
-use borrow.Author.Needs.{needs}
 use Rattle.judged.proofs.figures.measure_of.Statement.{statement}
 use Rattle.judged.proofs.figures.measure_of.Tie as tie
 

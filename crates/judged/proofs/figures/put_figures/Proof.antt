@@ -1,5 +1,3 @@
-use mathlib.Core.Path.{_≡_, ap, _∙_}
-use native.Mathlib.Numerals.{add-one, add-two, add-three, add-four, add-five}
 use Rattle.judged.proofs.Columns.{stored}
 use borrow.Author.Needs.{needs}
 use Rattle.judged.proofs.figures.put_figures.Statement.{statement}

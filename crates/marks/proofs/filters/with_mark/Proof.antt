@@ -1,8 +1,8 @@
 -- `marks::filters::with_mark` meets its contract. Assumes nothing.
 use mathlib.Core.Path.{_≡_, sym, _∙_}
-use mathlib.Core.Bool.{true, false}
+use mathlib.Core.Bool.{false}
 use native.Mathlib.Omega.{arith}
-use Rattle.marks.specs.Byte.{hasMark, withMark}
+use Rattle.marks.specs.Byte.{hasMark}
 use Rattle.marks.proofs.Byte.{set-fits}
 use borrow.Author.Needs.{needs}
 use Rattle.marks.proofs.filters.with_mark.Statement.{statement}

@@ -1,4 +1,3 @@
-use borrow.Author.Needs.{needs}
 use borrow.Author.Tests.{eq-eqb, ne-eqb}
 use Rattle.wrong_label_filters.proofs.frontier.is_inner.Statement.{statement}
 use Rattle.wrong_label_filters.proofs.frontier.is_inner.Tie as tie
