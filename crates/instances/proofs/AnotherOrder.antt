@@ -21,7 +21,7 @@ use Rattle.promises.specs.Promises.{SameResult}
 use Rattle.promises.proofs.Theorems.{another-order}
 use Rattle.stars.specs.Stars.{rules-compute, settings}
 use Rattle.stars.specs.Listed.{file, file-computes, answered, shown, printed, rows-left}
-use Rattle.instances.specs.Files.{point, shortFile, ten, eleven, twelve, thirteen, fourteen, bare, componentsIn, marksOf}
+use Rattle.instances.specs.Files.{point, shortFile, ten, eleven, twelve, thirteen, fourteen, zeroSize, answeredComponents, marksOf}
 use Rattle.instances.proofs.Computed.{bytes-by}
 use Rattle.instances.proofs.KeptPatch.{file-bytes}
 
@@ -67,14 +67,14 @@ near = point 0 0 10 0 0 ∷ point 1 0 11 0x4198_0000 0 ∷ []
 abbrev nearFile : List ℕ
 nearFile = shortFile 0x42C8_0000 near
 
-abbrev bareFile : List ℕ
-bareFile = shortFile 0 near
+abbrev zeroSizeFile : List ℕ
+zeroSizeFile = shortFile 0 near
 
 near-framed : framingOf nearFile ≡ Framed (layoutOf nearFile)
 unfolding file-computes
 near-framed = refl
 
-records-same : recordsIn nearFile (layoutOf nearFile .points) (layoutOf nearFile .count) ≡ recordsIn bareFile (layoutOf nearFile .points) (layoutOf nearFile .count)
+records-same : recordsIn nearFile (layoutOf nearFile .points) (layoutOf nearFile .count) ≡ recordsIn zeroSizeFile (layoutOf nearFile .points) (layoutOf nearFile .count)
 unfolding recordsIn file-computes
 records-same = refl
 
@@ -83,24 +83,24 @@ pub near-marks : marksOf settings near ≡ 4 ∷ 4 ∷ []
 unfolding rules-compute
 near-marks = refl
 
-pub bare-marks : marksOf bare near ≡ 0 ∷ 0 ∷ []
+pub zero-size-marks : marksOf zeroSize near ≡ 0 ∷ 0 ∷ []
 unfolding rules-compute
-bare-marks = refl
+zero-size-marks = refl
 
 near-answered : answerOf nearFile 56 ≡ Accepted (record { points = 2; components = 0 })
 unfolding answerOf file-computes rules-compute
 near-answered = refl
 
-bare-answered : answerOf bareFile 56 ≡ Accepted (record { points = 2; components = 1 })
+zero-size-answered : answerOf zeroSizeFile 56 ≡ Accepted (record { points = 2; components = 1 })
 unfolding answerOf file-computes rules-compute
-bare-answered = refl
+zero-size-answered = refl
 
-not-same : SameResult nearFile bareFile → ⊥
-not-same r = let z : _≡_ {A = ℕ} 1 0 = ap componentsIn (sym bare-answered ∙ r .answer 56 ∙ near-answered) in omega arith
+not-same : SameResult nearFile zeroSizeFile → ⊥
+not-same r = let z : _≡_ {A = ℕ} 1 0 = ap answeredComponents (sym zero-size-answered ∙ r .answer 56 ∙ near-answered) in omega arith
 
 -- so the promise needs its condition on the rest of the file
 pub rest-needed : ((file other : List ℕ) (f : Layout) → Bytes file → framingOf file ≡ Framed f
     → List·Permᴰ (recordsIn file (f .points) (f .count)) (recordsIn other (f .points) (f .count)) → SameResult file other) → ⊥
 rest-needed f =
     let l = layoutOf nearFile in
-    not-same (f nearFile bareFile l (bytes-by nearFile refl) near-framed (rw (← records-same) (Permᴰ·refl (recordsIn nearFile (l .points) (l .count)))))
+    not-same (f nearFile zeroSizeFile l (bytes-by nearFile refl) near-framed (rw (← records-same) (Permᴰ·refl (recordsIn nearFile (l .points) (l .count)))))

@@ -24,7 +24,7 @@ use Rattle.promises.specs.Promises.{LargestPatch, PatchCount}
 use Rattle.promises.proofs.Theorems.{kept-patch, component-count}
 use Rattle.stars.specs.Stars.{rules-compute, settings}
 use Rattle.stars.specs.Listed.{file, file-computes, answered}
-use Rattle.instances.specs.Files.{point, shortFile, longFile, five, bare, componentsIn, marksOf}
+use Rattle.instances.specs.Files.{point, shortFile, longFile, five, zeroSize, answeredComponents, marksOf}
 use Rattle.instances.proofs.Computed.{bytes-by, distinct-by, marks-are, alive-is, link-is, kept-is, reached-in, patch-by}
 
 -- ---- the sheet of five points
@@ -90,7 +90,7 @@ pub five-counted : PatchCount file 140 settings five
 five-counted = component-count file 140 settings five file-bytes file-accepted switch-on
 
 pub two-patches : tally (five-counted .first) 5 ≡ 2
-two-patches = ap componentsIn (sym (five-counted .answer) ∙ answered)
+two-patches = ap answeredComponents (sym (five-counted .answer) ∙ answered)
 
 -- ---- two points far apart: a tie
 
@@ -180,33 +180,33 @@ switch-needed f = off-not-largest (f offFile 56 switchOff apart (bytes-by offFil
 abbrev twice : List Point
 twice = point 0 0 7 0 0 ∷ point 5 5 7 0 0 ∷ []
 
-twice-accepted : rulingOf (shortFile 0 twice) 56 ≡ accepted bare twice
+twice-accepted : rulingOf (shortFile 0 twice) 56 ≡ accepted zeroSize twice
 unfolding file-computes rules-compute
 twice-accepted = refl
 
 -- both points survive, and both have the component mark, which is of the index
-pub twice-marks : marksOf bare twice ≡ 8 ∷ 8 ∷ []
+pub twice-marks : marksOf zeroSize twice ≡ 8 ∷ 8 ∷ []
 unfolding rules-compute
 twice-marks = refl
 
 -- nothing is kept, although the other filters mark no point
-twice-not-largest : LargestPatch bare twice → ⊥
+twice-not-largest : LargestPatch zeroSize twice → ⊥
 unfolding some
-twice-not-largest p = true≢false (sym (p .empty-only none 0 (omega arith)) ∙ ap otherMark (marks-are bare twice (8 ∷ 8 ∷ []) twice-marks 0 (omega arith)))
+twice-not-largest p = true≢false (sym (p .empty-only none 0 (omega arith)) ∙ ap otherMark (marks-are zeroSize twice (8 ∷ 8 ∷ []) twice-marks 0 (omega arith)))
   where
     go : (k : ℕ) → ltb k 2 && eqb (getD (8 ∷ 8 ∷ []) k 0) 0 ≡ false
     go zero = refl
     go (suc zero) = refl
     go (suc (suc k)) = rw (le-ltb (suc (suc k)) 2 (omega arith))
 
-    none : (k : ℕ) → keptRank bare twice k ≡ false
-    none k = ap (λ (K : ℕ → Bool). K k) (kept-is bare twice (8 ∷ 8 ∷ []) twice-marks) ∙ go k
+    none : (k : ℕ) → keptRank zeroSize twice k ≡ false
+    none k = ap (λ (K : ℕ → Bool). K k) (kept-is zeroSize twice (8 ∷ 8 ∷ []) twice-marks) ∙ go k
 
 -- so the promise needs its condition on the indices
 pub distinct-needed : ((file : List ℕ) (room : ℕ) (s : Settings) (ps : List Point) → Bytes file → rulingOf file room ≡ accepted s ps
     → s .«apply_largest_component» ≡ true → LargestPatch s ps) → ⊥
 unfolding defaultsFor
-distinct-needed f = twice-not-largest (f (shortFile 0 twice) 56 bare twice (bytes-by (shortFile 0 twice) refl) twice-accepted refl)
+distinct-needed f = twice-not-largest (f (shortFile 0 twice) 56 zeroSize twice (bytes-by (shortFile 0 twice) refl) twice-accepted refl)
 
 -- ---- without distinct indices: the middle of a row again, far away
 
@@ -214,24 +214,24 @@ distinct-needed f = twice-not-largest (f (shortFile 0 twice) 56 bare twice (byte
 abbrev again : List Point
 again = point 0 0 1 0 0 ∷ point 1 0 2 0x42C8_0000 0 ∷ point 2 0 3 0x4348_0000 0 ∷ point 9 9 2 0x42C8_0000 0 ∷ []
 
-pub again-accepted : rulingOf (shortFile 0 again) 112 ≡ accepted bare again
+pub again-accepted : rulingOf (shortFile 0 again) 112 ≡ accepted zeroSize again
 unfolding file-computes rules-compute
 again-accepted = refl
 
-pub again-marks : marksOf bare again ≡ 0 ∷ 8 ∷ 0 ∷ 8 ∷ []
+pub again-marks : marksOf zeroSize again ≡ 0 ∷ 8 ∷ 0 ∷ 8 ∷ []
 unfolding rules-compute
 again-marks = refl
 
 -- kept are 1 and 3 without 2 between them, which is no whole patch
-again-no-patch : WholePatch (survivor bare again) (joined bare again) (keptRank bare again) → ⊥
+again-no-patch : WholePatch (survivor zeroSize again) (joined zeroSize again) (keptRank zeroSize again) → ⊥
 unfolding some
 again-no-patch w =
     let m : List ℕ = 0 ∷ 8 ∷ 0 ∷ 8 ∷ [] in
-    let kept = kept-is bare again m again-marks in
-    let first : keptRank bare again 0 ≡ true = ap (λ (K : ℕ → Bool). K 0) kept in
-    let next : joined bare again 0 1 ≡ true = ap (λ (l : ℕ → ℕ → Bool). l 0 1) (link-is bare again m again-marks) in
+    let kept = kept-is zeroSize again m again-marks in
+    let first : keptRank zeroSize again 0 ≡ true = ap (λ (K : ℕ → Bool). K 0) kept in
+    let next : joined zeroSize again 0 1 ≡ true = ap (λ (l : ℕ → ℕ → Bool). l 0 1) (link-is zeroSize again m again-marks) in
     true≢false (sym (w .outer 1 (step (w .inner 0 first) next)) ∙ ap (λ (K : ℕ → Bool). K 1) kept)
 
-pub again-not-largest : LargestPatch bare again → ⊥
+pub again-not-largest : LargestPatch zeroSize again → ⊥
 unfolding some
-again-not-largest p = again-no-patch (p .largest .whole 0 (ap (λ (A : ℕ → Bool). A 0) (alive-is bare again (0 ∷ 8 ∷ 0 ∷ 8 ∷ []) again-marks)))
+again-not-largest p = again-no-patch (p .largest .whole 0 (ap (λ (A : ℕ → Bool). A 0) (alive-is zeroSize again (0 ∷ 8 ∷ 0 ∷ 8 ∷ []) again-marks)))

@@ -68,14 +68,14 @@ five = ten ∷ twelve ∷ eleven ∷ thirteen ∷ fourteen ∷ []
 -- ---- settings and marks
 
 -- the settings of a short file with cell size 0: no two points are too close, and no line flags a point that lies on it
-abbrev pub bare : Settings
-bare = defaultsFor (f32 0) Off
+abbrev pub zeroSize : Settings
+zeroSize = defaultsFor (f32 0) Off
 
 -- "Byte 0: marks, bit 0 validate, 1 orientation, 2 wrong label, 3 component": of each of the points, in cell order
 abbrev pub marksOf : Settings → List Point → List ℕ
 marksOf s ps = take (length ps) (judgedFor s ps .marks)
 
 -- the component count of an answer
-abbrev pub componentsIn : Answer → ℕ
-componentsIn (Refused k) = 0
-componentsIn (Accepted c) = c .components
+abbrev pub answeredComponents : Answer → ℕ
+answeredComponents (Refused k) = 0
+answeredComponents (Accepted c) = c .components
