@@ -1,6 +1,6 @@
 -- A sheet that was read of an accepted file: its arrays are as the filters ask, and what is judged of them is what is judged of its points.
 -- Assumes nothing.
-use mathlib.Core.Path.{_≡_, refl, ap, _∙_}
+use mathlib.Core.Path.{_≡_, refl, sym, ap, _∙_}
 use mathlib.Core.List.{List}
 use Prim.Native.Nat.{ℕ, _≤_}
 use native.Mathlib.Omega.{arith}
@@ -29,6 +29,14 @@ accepted-sheet file room r h z = go (rulingOf file room) refl h
     go : (x : Ruling) → rulingOf file room ≡ x → Ruled x r → AcceptedSheet file room r
     go (refused k) e h = absurd (omega (arith, z, h .table-is .number-is, is-given file room k e .low))
     go (accepted s ps) e h = record { settings = s; points = ps; ruled = e; sheet = h }
+
+-- a number other than 0 is that of the refusal
+pub refused-sheet : (file : List ℕ) (room : ℕ) (r : Sheet) → Ruled (rulingOf file room) r → (r .table .number ≡ 0 → ⊥) → rulingOf file room ≡ refused (r .table .number)
+refused-sheet file room r h f = go (rulingOf file room) refl h
+  where
+    go : (x : Ruling) → rulingOf file room ≡ x → Ruled x r → rulingOf file room ≡ refused (r .table .number)
+    go (refused k) e h = e ∙ ap refused (sym (h .table-is .number-is))
+    go (accepted s ps) e h = absurd (f (h .table-is .number-is))
 
 module _ (file : List ℕ) (room : ℕ) (r : Sheet) (bytes : Bytes file) (o : AcceptedSheet file room r) where
   standing : Sound (o .points)

@@ -1,4 +1,4 @@
--- Document 01's listing, and a refusal. Assumes nothing.
+-- Document 01's listing. Assumes nothing.
 use mathlib.Core.Path.{_≡_, refl}
 use mathlib.Core.List.{List, [], _∷_}
 use mathlib.Core.Option.{some}
@@ -15,7 +15,7 @@ use Rattle.judged.specs.Judged.{Judged}
 use Rattle.marks.specs.Byte.{firstMark}
 use Rattle.marks.specs.Tally.{countUnder, countsOf}
 use Rattle.text.specs.Text.{bytes, each, digits, decimal, whole, hex}
-use Rattle.listing.specs.Listing.{cellText, marksText, residualText, shownText, lineText, headText, tallyText, listingOf, refusalOf}
+use Rattle.listing.specs.Listing.{cellText, marksText, residualText, shownText, lineText, headText, tallyText, listingOf}
 
 -- "Here: .. cell (5,5) index 14 ..; (0,0) 10 ..; (1,0) 11 ..; (0,1) 12 ..; (1,1) 13": in cell order
 cells : ℕ → Cell
@@ -36,7 +36,3 @@ example = refl
 full : lineText (cellAt (negsuc 7999) (pos 12)) 4294967295 15 2 (some (ofBits binary32 0x40ab_cdef)) ≡ bytes "-8000 12 4294967295 VOWC 2 40ABCDEF\n"
 unfolding lineText cellText shownText marksText residualText decimal digits whole hex each fold ofBits
 full = refl
-
-refused : refusalOf 7 ≡ bytes "refused 7\n"
-unfolding refusalOf decimal digits
-refused = refl

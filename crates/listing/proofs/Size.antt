@@ -25,8 +25,7 @@ use Rattle.marks.specs.Filters.{filterCount, filterAt}
 use Rattle.marks.specs.Byte.{hasMark, firstMark}
 use Rattle.marks.specs.Tally.{countUnder, countsOf}
 use Rattle.listing.specs.Listing.{cellText, markText, marksText, residualText, shownText, lineText, lineOf, headText, countText, tallyText, listingOf, lineSize, listingSize}
-use Rattle.text.proofs.Numbers.{decimal-length, hex-length}
-use Rattle.listing.proofs.Cells.{whole-below, whole-from}
+use Rattle.text.proofs.Numbers.{decimal-length, hex-length, whole-below, whole-from}
 use Rattle.text.proofs.Stores.{each-length}
 
 record AtMost (c : ℕ) (t : List ℕ) : Type 0 where
@@ -52,8 +51,8 @@ number d n h = record { within = decimal-length d n h }
 -- a cell number
 cell-number : (d b : ℕ) → 4 ≤ d → b < 10 ^ suc d → AtMost (suc d) (whole (pos b -ℤ pos bias))
 cell-number d b h l = elim (decLt b bias) [
-  | yes m ↦ rw (whole-below b m) (record { within = omega (arith, decimal-length 3 (bias - b) (omega arith)) })
-  | no m ↦ rw (whole-from b (omega arith)) (number d (b - bias) (omega arith))
+  | yes m ↦ rw (whole-below b bias m) (record { within = omega (arith, decimal-length 3 (bias - b) (omega arith)) })
+  | no m ↦ rw (whole-from b bias (omega arith)) (number d (b - bias) (omega arith))
 ]
 
 marks-size : (marks : ℕ) → AtMost filterCount (marksText marks)

@@ -80,11 +80,6 @@ listingOf n cell indices j =
     ++ linesOf cell indices j n
     ++ tallyText (countsOf n (j .marks))
 
--- "A refusal prints `refused` and the number."
-unfoldable pub refusalOf : ℕ → List ℕ
-unfolding decimal
-refusalOf number = bytes "refused " ++ decimal number ++ bytes "\n"
-
 -- no line of a point is longer, and no listing: the first line has at most 44 bytes (proved in proofs/Size.antt)
 abbrev pub lineSize : ℕ
 lineSize = 36 + filterCount

@@ -20,7 +20,7 @@ ghost use Rattle.text.specs.Stored.{Stored};
 ghost use Rattle.text.specs.Text.{each};
 ghost use lib.Ieee.{Float};
 ghost use Rattle.judged.specs.Judged.{judgedFrom};
-ghost use Rattle.listing.specs.Listing.{headText, linesOf, tallyText, listingOf, refusalOf, listingSize, countText};
+ghost use Rattle.listing.specs.Listing.{headText, linesOf, tallyText, listingOf, listingSize, countText};
 
 // A buffer of this size has room for every listing: the first line, a line for each point, the tally.
 pub const LISTING_SIZE: usize = 44 + (36 + FILTERS) * MAX_POINTS + (10 + 17 * FILTERS);
@@ -116,15 +116,5 @@ pub fn write_listing(
     let marks = j.marks;
     let counts = marks::tally(&marks, n);
     let c = put_tally(&counts, out, b);
-    text::answer(c, out.len())
-}
-
-// `refused` and the number.
-pub fn write_refusal(number: u8, out: &mut [u8]) -> Written
-    ensures { λ r. ⌜ Shows (refusalOf number) (now (out .entry)) (now (out .exit)) r ⌝ }
-{
-    let a = text::put_text(b"refused ", out, 0);
-    let b = text::put_decimal(number as usize, out, a);
-    let c = text::put_byte(b'\n', out, b);
     text::answer(c, out.len())
 }

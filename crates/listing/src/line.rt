@@ -67,11 +67,7 @@ fn put_residual(has: u8, value: f32, out: &mut [u8], at: usize) -> usize
 fn put_cell_number(b: u32, out: &mut [u8], at: usize) -> usize
     ensures { λ r. ⌜ Stored (now (out .entry)) at (whole (pos b -ℤ pos bias)) (now (out .exit)) r ⌝ }
 {
-    if b < cells::BIAS {
-        let next = text::put_byte(b'-', out, at);
-        return text::put_decimal(wide(cells::BIAS - b), out, next);
-    }
-    text::put_decimal(wide(b - cells::BIAS), out, at)
+    text::put_difference(wide(b), wide(cells::BIAS), out, at)
 }
 
 fn put_cell(key: u32, out: &mut [u8], at: usize) -> usize

@@ -7,7 +7,7 @@ use lib.ListN.{length, getD}
 pub record Filter : Type 0 where
   -- its bit of the marks
   pub bit : ℕ
-  -- its letter in a line of the listing
+  -- its letter in a line of the listing and on the map
   pub letter : String
   -- its word in the tally
   pub word : String

@@ -18,16 +18,50 @@ pub const WRONG: usize = 2;
 
 pub const COMPONENT: usize = 3;
 
-const BIT_VALUES: [u8; FILTERS] = [1, 2, 4, 8];
+// A word with a space on each side has at most this size.
+const WORD_SIZE: usize = 13;
 
-const LETTERS: [u8; FILTERS] = [b'V', b'O', b'W', b'C'];
+// A filter: the value of its bit, its letter, and its word with a space on each side, which is so long.
+struct Filter {
+    bit_value: u8,
+    letter: u8,
+    word: [u8; WORD_SIZE],
+    size: usize,
+}
+
+const TABLE: [Filter; FILTERS] = [
+    Filter {
+        bit_value: 1,
+        letter: b'V',
+        word: *b" validate    ",
+        size: 10,
+    },
+    Filter {
+        bit_value: 2,
+        letter: b'O',
+        word: *b" orientation ",
+        size: 13,
+    },
+    Filter {
+        bit_value: 4,
+        letter: b'W',
+        word: *b" wrong       ",
+        size: 7,
+    },
+    Filter {
+        bit_value: 8,
+        letter: b'C',
+        word: *b" component   ",
+        size: 11,
+    },
+];
 
 // The value of filter f's bit.
 fn bit_value(f: usize) -> u8
     requires { ⌜ f < filterCount ⌝ }
     ensures { λ r. ⌜ (r ≡ 2 ^ filterAt f .bit) × (0 < r) ⌝ }
 {
-    BIT_VALUES[f]
+    TABLE[f].bit_value
 }
 
 // The letter of filter f.
@@ -35,7 +69,7 @@ pub fn letter(f: usize) -> u8
     requires { ⌜ f < filterCount ⌝ }
     ensures { λ r. ⌜ (r ∷ []) ≡ bytes (filterAt f .letter) ⌝ }
 {
-    LETTERS[f]
+    TABLE[f].letter
 }
 
 // The word of filter f, with a space on each side.
@@ -43,12 +77,9 @@ pub fn put_word(f: usize, out: &mut [u8], at: usize) -> usize
     requires { ⌜ f < filterCount ⌝ }
     ensures { λ r. ⌜ Stored (now (out .entry)) at (bytes " " ++ bytes (filterAt f .word) ++ bytes " ") (now (out .exit)) r ⌝ }
 {
-    match f {
-        0 => text::put_text(b" validate ", out, at),
-        1 => text::put_text(b" orientation ", out, at),
-        2 => text::put_text(b" wrong ", out, at),
-        _ => text::put_text(b" component ", out, at),
-    }
+    let filter = TABLE[f];
+    let word = filter.word;
+    text::put_text(&word[..filter.size], out, at)
 }
 
 // Whether filter f has marked a point with these marks.

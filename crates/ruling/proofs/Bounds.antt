@@ -13,7 +13,7 @@ use Rattle.sheet_file.specs.Bytes.{Bytes}
 use Rattle.sheet_file.specs.Frame.{layoutOf}
 use Rattle.sheet_file.specs.Grammar.{longest}
 use Rattle.sheet_file.proofs.Longest.{too-long}
-use Rattle.ruling.specs.Ruling.{refused, rulingOf, applies}
+use Rattle.ruling.specs.Ruling.{refused, rulingOf, applies, rowsSize}
 use Rattle.ruling.proofs.Given.{is-given}
 
 module _ (file : List ℕ) (room : ℕ) where
@@ -22,7 +22,7 @@ module _ (file : List ℕ) (room : ℕ) where
   long-refused b l = rw (too-long file b l)
 
   -- a buffer of 28 bytes for each of the most points is never too short
-  pub never-three : 28 * maxPoints ≤ room → rulingOf file room ≡ refused 3 → ⊥
+  pub never-three : rowsSize ≤ room → rulingOf file room ≡ refused 3 → ⊥
   unfolding applies
   never-three l e =
       let g = is-given file room 3 e in

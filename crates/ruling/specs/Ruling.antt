@@ -2,8 +2,9 @@
 -- settings and the points in cell order. Assumes nothing.
 use mathlib.Core.Bool.{Bool}
 use mathlib.Core.List.{List, _++_}
-use Prim.Native.Nat.{ℕ}
+use Prim.Native.Nat.{ℕ, _*_}
 use Rattle.refusals.specs.First.{Refusal, ruled, appliesIn}
+use Rattle.view.specs.View.{maxPoints}
 use Rattle.cells.specs.Points.{Point}
 use Rattle.sheet_file.specs.Frame.{framingOf, layoutOf}
 use Rattle.sheet_file.specs.Refusals.{settingsOf, headerRefusals}
@@ -38,3 +39,7 @@ refusalsOf file room = headerRefusals file room (framingOf file) ++ pointRefusal
 unfoldable pub applies : List ℕ → ℕ → ℕ → Bool
 unfolding refusalsOf
 applies file room k = appliesIn (refusalsOf file room) k
+
+-- the length of a result buffer with room for every sheet: number 3 never arises (`never-three`)
+abbrev pub rowsSize : ℕ
+rowsSize = 28 * maxPoints

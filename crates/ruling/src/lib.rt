@@ -4,11 +4,23 @@ use sheet_file::EdgeGate;
 use sheet_file::Header;
 use sheet_file::Reading;
 use sheet_file::Settings;
+use view::MAX_POINTS;
 ghost use Rattle.points.specs.Records.{pointsIn, PointsFit};
 ghost use Rattle.points.specs.Table.{Tabled};
-ghost use Rattle.ruling.specs.Ruling.{refused, rulingFor, rulingOf};
+ghost use Rattle.ruling.specs.Ruling.{refused, rulingFor, rulingOf, rowsSize};
 ghost use Rattle.ruling.specs.Sheet.{Ruled};
+ghost use mathlib.Core.Path.{_≡_};
 ghost use mathlib.Core.List.{[]};
+
+// A result buffer of this size has room for the rows of every sheet.
+pub const ROWS_SIZE: usize = 28 * MAX_POINTS;
+
+// The number that the specifications use is the code's.
+pub fn rows_size() -> usize
+    ensures { λ r. ⌜ r ≡ rowsSize ⌝ }
+{
+    ROWS_SIZE
+}
 
 // The settings, how many points there are, and the points in cell order. The number of a refusal is the table's; it is 0 for none.
 pub struct Sheet {

@@ -6,9 +6,20 @@ ghost use Prim.Native.Nat.{_+_, _≤_, _<_};
 ghost use lib.ListN.{length};
 ghost use Rattle.folds.specs.Among.{anyIn};
 ghost use Rattle.sheet_file.specs.Bytes.{le16, le32};
+ghost use Rattle.sheet_file.specs.Grammar.{longest};
 ghost use Rattle.sheet_file.specs.Limit.{outside};
 ghost use Rattle.sheet_file.specs.Frame.{fieldAt, endFrom, pointsFrom, gateFrom, framingOf, gateStart, Held};
 ghost use Rattle.sheet_file.specs.Refusals.{floatAt, defaultsFor, settingsIn, gateIn, edgeShapeOf, settingsOf, noFlag, badFlag, settingsFloats, gateFloats, badFloat, FloatHeld, SettingsHeld, GateHeld, FloatsHeld, readingIn, readingOf};
+
+// One byte more than the longest well-framed file. The ruling on a longer file is that on its first FILE_SIZE bytes (`cut-ruling`, in ruling).
+pub const FILE_SIZE: usize = 24 + 20 + 3 + 20 * 3276 + 1;
+
+// The number that the specifications use is the code's.
+pub fn file_size() -> usize
+    ensures { λ r. ⌜ r ≡ longest + 1 ⌝ }
+{
+    FILE_SIZE
+}
 
 // ---- numbers in the file
 

@@ -1,5 +1,5 @@
 -- The two cases of the ruling, as the code meets them. Assumes nothing.
-use mathlib.Core.Path.{_≡_, refl, sym, ap, _∙_}
+use mathlib.Core.Path.{_≡_, sym, ap, _∙_}
 use mathlib.Core.List.{List}
 use Prim.Native.Nat.{ℕ, _≤_}
 use lib.ListN.{length}
@@ -7,15 +7,16 @@ use Rattle.view.specs.View.{maxPoints}
 use Rattle.cells.specs.Cell.{Cell, cellsAt, cellsOf}
 use Rattle.cells.proofs.Keys.{cells-are}
 use Rattle.sheet_file.specs.Bytes.{Bytes}
-use Rattle.ruling.specs.Ruling.{Ruling, refused, accepted, rulingOf}
+use Rattle.ruling.specs.Ruling.{rulingOf, rowsSize}
 use Rattle.ruling.specs.Sheet.{Ruled}
 use Rattle.ruling.specs.declared.Sheet.{Sheet}
 use Rattle.ruling.proofs.Standing.{accepted-order}
 use Rattle.judged.specs.Judged.{Judged}
 use Rattle.judging.specs.Judging.{Arrays, judgedBy, judgedFor}
-use Rattle.judging.proofs.Sheets.{AcceptedSheet, accepted-sheet, sheet-arrays, sheet-judged, sheet-few}
-use Rattle.listing.specs.Listing.{listingOf, refusalOf}
-use Rattle.sheet_listing.specs.Text.{rowsSize, textBy, textOf}
+use Rattle.judging.proofs.Sheets.{AcceptedSheet, accepted-sheet, refused-sheet, sheet-arrays, sheet-judged, sheet-few}
+use Rattle.text.specs.Text.{refusalOf}
+use Rattle.listing.specs.Listing.{listingOf}
+use Rattle.sheet_listing.specs.Text.{textBy, textOf}
 use Rattle.sheet_listing.proofs.Laws.{text-is}
 
 module _ (file : List ℕ) (bytes : Bytes file) (r : Sheet) (h : Ruled (rulingOf file rowsSize) r) where
@@ -40,8 +41,4 @@ module _ (file : List ℕ) (bytes : Bytes file) (r : Sheet) (h : Ruled (rulingOf
       ∙ sym (text-is file ∙ ap textBy (o .ruled))
 
   pub turned : (r .table .number ≡ 0 → ⊥) → refusalOf (r .table .number) ≡ textOf file
-  turned f = go (rulingOf file rowsSize) refl h
-    where
-      go : (x : Ruling) → rulingOf file rowsSize ≡ x → Ruled x r → refusalOf (r .table .number) ≡ textOf file
-      go (refused k) e h = ap refusalOf (h .table-is .number-is) ∙ sym (text-is file ∙ ap textBy e)
-      go (accepted s ps) e h = absurd (f (h .table-is .number-is))
+  turned f = sym (text-is file ∙ ap textBy (refused-sheet file rowsSize r h f))

@@ -5,7 +5,7 @@ use Prim.{Dec, yes, no}
 use Prim.Native.Nat.{ℕ, _^_, _≤_, _<_}
 use native.Mathlib.Decide.{decLt}
 use native.Mathlib.Omega.{arith}
-use lib.ListN.{length, getD, take, drop, length-append}
+use lib.ListN.{length, getD, take, drop}
 use lib.Seq.{take-all, take-append-seam}
 use borrow.Author.Tests.{le-leb}
 use Rattle.folds.specs.Column.{column}
@@ -15,23 +15,19 @@ use Rattle.cells.specs.Points.{Point, nowhere, keyOf, keysOf, indicesOf}
 use Rattle.cells.proofs.Keys.{key-small, cells-are}
 use Rattle.sheet_file.specs.Bytes.{Bytes}
 use Rattle.sheet_file.specs.declared.Settings.{Settings}
-use Rattle.ruling.specs.Ruling.{Ruling, refused, accepted, rulingOf}
+use Rattle.ruling.specs.Ruling.{Ruling, refused, accepted, rulingOf, rowsSize}
 use Rattle.ruling.proofs.Given.{is-given}
 use Rattle.ruling.proofs.Standing.{sound, accepted-order}
 use Rattle.text.specs.Answer.{Shows}
 use Rattle.text.specs.declared.Written.{Written}
 use Rattle.text.specs.declared.Written.the-variants.{Whole}
-use Rattle.text.proofs.Numbers.{decimal-length}
-use Rattle.listing.specs.Listing.{refusalOf, listingSize}
+use Rattle.text.proofs.Stores.{refusal-length}
+use Rattle.listing.specs.Listing.{listingSize}
 use Rattle.listing.proofs.Size.{listing-fits}
 use Rattle.judging.specs.Judging.{judgedFor}
 use Rattle.judging.proofs.Laws.{few-components}
-use Rattle.sheet_listing.specs.Text.{rowsSize, textBy, textOf}
+use Rattle.sheet_listing.specs.Text.{textBy, textOf}
 use Rattle.sheet_listing.proofs.Laws.{text-is}
-
-refusal-fits : (k : ℕ) → k < 256 → length (refusalOf k) ≤ listingSize
-unfolding refusalOf
-refusal-fits k h = simp length-append (omega (arith, decimal-length 2 k (omega arith)))
 
 -- what is read of a column is below a bound if its entries are
 column-small : (n m : ℕ) (f : ℕ → ℕ) → 0 < m → ((k : ℕ) → k < n → f k < m) → (k : ℕ) → getD (column maxPoints 0 n f) k 0 < m
@@ -63,7 +59,7 @@ pub text-fits : (file : List ℕ) → Bytes file → length (textOf file) ≤ li
 text-fits file b = rw (text-is file) (go (rulingOf file rowsSize) refl)
   where
     go : (x : Ruling) → rulingOf file rowsSize ≡ x → length (textBy x) ≤ listingSize
-    go (refused k) e = refusal-fits k (omega (arith, is-given file rowsSize k e .high))
+    go (refused k) e = omega (arith, refusal-length k (omega (arith, is-given file rowsSize k e .high)))
     go (accepted s ps) e = listed-fits file b s ps e
 
 -- so list_sheet, lent such a buffer, writes the text whole

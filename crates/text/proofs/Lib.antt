@@ -1,2 +1,3 @@
 pub mod Numbers
 pub mod Stores
+pub mod Examples

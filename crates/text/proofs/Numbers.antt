@@ -7,12 +7,13 @@ use native.Mathlib.Nat.{pow-suc}
 use native.Mathlib.Omega.{arith}
 use borrow.Author.Tests.{lt-ltb, le-ltb, ltb-true, ltb-false, eqb-true}
 use lib.Dec.{ltb, eqb}
+use lib.IntN.{pos, _-ℤ_}
 use lib.ListN.{length, getD, length-append, List·getD-append}
 use Rattle.folds.specs.Below.{every}
 use Rattle.folds.proofs.Below.{every-at}
 use Rattle.folds.specs.Lists.{All, over}
 use Rattle.folds.proofs.Lists.{over-snoc}
-use Rattle.text.specs.Text.{digit, digits, decimal, hexDigit, hex}
+use Rattle.text.specs.Text.{bytes, digit, digits, decimal, whole, hexDigit, hex}
 
 -- the two cases of a definition that asks whether n is below m
 pub below-or-not : {A : Type 0} (P : A → Type 0) (n m : ℕ) {a b : A} → (n < m → P a) → (m ≤ n → P b) → P (cond (ltb n m) a b)
@@ -130,3 +131,16 @@ hex-reads zero b l = omega arith
 hex-reads (suc k) b l =
     over-snoc (λ (a c : ℕ). 16 * a + hexValue c) 0 (hex k (b / 16)) (hexDigit (b % 16))
     ∙ rw (hex-reads k (b / 16) (omega (arith, pow-suc 16 k)), value-digit (b % 16) (omega arith)) (omega arith)
+
+-- ---- differences
+
+-- the two cases of a whole number that is a difference
+pub whole-below : (a b : ℕ) → a < b → whole (pos a -ℤ pos b) ≡ bytes "-" ++ decimal (b - a)
+unfolding whole
+whole-below a zero h = absurd (omega arith)
+whole-below a (suc b) h = let e : suc (suc b - suc a) ≡ suc b - a = omega arith in rw (lt-ltb a (suc b) h, e)
+
+pub whole-from : (a b : ℕ) → b ≤ a → whole (pos a -ℤ pos b) ≡ decimal (a - b)
+unfolding whole
+whole-from a zero h = let e : a + 0 ≡ a - 0 = omega arith in ap decimal e
+whole-from a (suc b) h = rw (le-ltb a (suc b) h)

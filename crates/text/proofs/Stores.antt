@@ -1,19 +1,22 @@
 -- How pieces of a text in a buffer join, and what the whole leaves. Assumes nothing.
 use mathlib.Core.Path.{_≡_, refl, ap, sym, _∙_}
+use mathlib.Core.Bool.{Bool, true, false, cond}
 use mathlib.Core.List.{List, [], _∷_, _++_}
-use Prim.Native.Nat.{ℕ, zero, suc, _+_, _*_, _≤_, _<_}
+use Prim.Native.Nat.{ℕ, zero, suc, _+_, _-_, _*_, _≤_, _<_}
 use native.Mathlib.Nat.{mul-suc}
 use native.Mathlib.Numerals.{add-one}
 use native.Mathlib.Decide.{decLe}
 use native.Mathlib.Omega.{arith}
-use borrow.Author.Tests.{lt-ltb, le-ltb, lt-leb}
+use borrow.Author.Tests.{lt-ltb, le-ltb, lt-leb, leb-true}
+use lib.Dec.{leb}
 use lib.ListN.{length, take, drop, set, length-append, length-set}
 use lib.Seq.{set-out}
-use Rattle.folds.proofs.Below.{fold-none, fold-more}
-use Rattle.text.specs.Text.{each}
+use Rattle.folds.proofs.Below.{fold-none, fold-more, fold-ext}
+use Rattle.text.specs.Text.{bytes, each, spaces, rightAligned, refusalOf}
 use Rattle.text.specs.Stored.{nextPlace, placeAfter, laid, Stored}
-use Rattle.text.proofs.Numbers.{below-or-not}
+use Rattle.text.proofs.Numbers.{below-or-not, decimal-length}
 use Rattle.text.specs.declared.Written.{Written}
+use Rattle.text.specs.declared.Written.the-variants.{Whole, NoRoom}
 use Rattle.text.specs.Answer.{writtenOf, Shows}
 
 length-laid : (l : List ℕ) (at : ℕ) (t : List ℕ) → length (laid l at t) ≡ length l
@@ -53,6 +56,10 @@ each-none f = fold-none (λ k t. t ++ f k) []
 pub each-more : (f : ℕ → List ℕ) (k : ℕ) → each f (k + 1) ≡ each f k ++ f k
 unfolding each
 each-more f k = fold-more (λ k t. t ++ f k) [] k
+
+pub each-ext : (f g : ℕ → List ℕ) (n : ℕ) → ((k : ℕ) → k < n → f k ≡ g k) → each f n ≡ each g n
+unfolding each
+each-ext f g n h = fold-ext (λ k t. t ++ f k) (λ k t. t ++ g k) [] n (λ k l b. ap (λ (t : List ℕ). b ++ t) (h k l))
 
 module _ (f : ℕ → List ℕ) {l : List ℕ} {at : ℕ} where
   pub stored-start : Stored l at (each f 0) l at
@@ -109,6 +116,14 @@ shows {l} {t} {m} {e} {r} p q =
       answer = q ∙ rw (stored-length p, p .place) (same-answer (length l) t);
     }
 
+-- a text that is written whole ends within the buffer
+pub shown-within : {t before after : List ℕ} {r : Written} {n : ℕ} → Shows t before after r → r ≡ Whole n → n ≤ length before
+shown-within {t} {before} {after} {r} {n} h e = go (leb (length t) (length before)) refl (sym (h .answer) ∙ e)
+  where
+    go : (b : Bool) → leb (length t) (length before) ≡ b → cond b (Whole (length t)) NoRoom ≡ Whole n → n ≤ length before
+    go true l q = let z : length t ≡ n = cc in omega (arith, leb-true (length t) (length before) l)
+    go false l q = absurd (let z : _≡_ {A = ℕ} 0 1 = cc in omega arith)
+
 -- ---- how long a text is
 
 pub each-length : (f : ℕ → List ℕ) (c n : ℕ) → ((k : ℕ) → k < n → length (f k) ≤ c) → length (each f n) ≤ c * n
@@ -116,3 +131,22 @@ each-length f c zero h = rw (each-none f) (omega arith)
 each-length f c (suc n) h =
     rw (← add-one n, each-more f n, length-append (each f n) (f n), add-one n, mul-suc c n)
     (omega (arith, each-length f c n (λ k l. h k (omega arith)), h n (omega arith)))
+
+pub each-long : (f : ℕ → List ℕ) (c n : ℕ) → ((k : ℕ) → k < n → length (f k) ≡ c) → length (each f n) ≡ c * n
+each-long f c zero h = rw (each-none f) (omega arith)
+each-long f c (suc n) h =
+    rw (← add-one n, each-more f n, length-append (each f n) (f n), add-one n, mul-suc c n)
+    (omega (arith, each-long f c n (λ k l. h k (omega arith)), h n (omega arith)))
+
+spaces-long : (n : ℕ) → length (spaces n) ≡ 1 * n
+unfolding spaces
+spaces-long n = each-long (λ k. bytes " ") 1 n (λ k l. refl)
+
+-- a text that is not wider than asked for is made as wide
+pub right-length : (width : ℕ) (t : List ℕ) → length t ≤ width → length (rightAligned width t) ≡ width
+unfolding rightAligned
+right-length width t h = length-append (spaces (width - length t)) t ∙ omega (arith, spaces-long (width - length t))
+
+pub refusal-length : (k : ℕ) → k < 1000 → length (refusalOf k) ≤ 12
+unfolding refusalOf
+refusal-length k h = simp length-append (omega (arith, decimal-length 2 k (omega arith)))

@@ -1,12 +1,12 @@
--- Numbers as texts. A text is a list of bytes. Assumes nothing.
+-- Numbers and refusals as texts. A text is a list of bytes. Assumes nothing.
 use mathlib.Core.Bool.{Bool, true, false}
 use mathlib.Core.List.{List, [], _∷_, _++_}
-use Prim.Native.Nat.{ℕ, zero, suc, _+_, _/_, _%_}
+use Prim.Native.Nat.{ℕ, zero, suc, _+_, _-_, _/_, _%_}
 use Prim.Native.Char.{code}
 use Prim.Native.String.{String, [] as nothing, _∷_ as _then_}
 use lib.Dec.{ltb}
 use lib.IntN.{ℤ, pos, negsuc}
-use lib.ListN.{getD}
+use lib.ListN.{length, getD}
 use Rattle.folds.specs.Below.{fold}
 
 -- the bytes of a text of ASCII characters
@@ -47,3 +47,18 @@ hexDigit d = getD (bytes "0123456789ABCDEF") d 0
 unfoldable pub hex : ℕ → ℕ → List ℕ
 hex zero b = []
 hex (suc k) b = hex k (b / 16) ++ (hexDigit (b % 16) ∷ [])
+
+-- so many spaces
+unfoldable pub spaces : ℕ → List ℕ
+unfolding each
+spaces count = each (λ k. bytes " ") count
+
+-- "right-aligned": spaces before the text, up to `width` characters; none where it has as many
+unfoldable pub rightAligned : ℕ → List ℕ → List ℕ
+unfolding spaces
+rightAligned width t = spaces (width - length t) ++ t
+
+-- "A refusal prints `refused` and the number."
+unfoldable pub refusalOf : ℕ → List ℕ
+unfolding decimal
+refusalOf number = bytes "refused " ++ decimal number ++ bytes "\n"

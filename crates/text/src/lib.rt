@@ -3,8 +3,10 @@
 ghost use mathlib.Core.Path.{_≡_};
 ghost use mathlib.Core.List.{[], _∷_};
 ghost use Prim.Native.Nat.{_<_};
-ghost use Rattle.text.specs.Answer.{writtenOf};
-ghost use Rattle.text.specs.Text.{decimal, hexDigit, hex};
+ghost use lib.IntN.{pos, _-ℤ_};
+ghost use lib.ListN.{length};
+ghost use Rattle.text.specs.Answer.{writtenOf, Shows};
+ghost use Rattle.text.specs.Text.{decimal, whole, hexDigit, hex, spaces, rightAligned, refusalOf};
 ghost use Rattle.text.specs.Stored.{Stored};
 
 // What became of a text.
@@ -59,6 +61,63 @@ pub fn put_decimal(n: usize, out: &mut [u8], at: usize) -> usize
     put_byte(48 + (n % 10) as u8, out, next)
 }
 
+fn decimal_length(n: usize) -> usize
+    ensures { λ r. ⌜ r ≡ length (decimal n) ⌝ }
+{
+    let mut size = 1;
+    let mut rest = n;
+    while 10 <= rest {
+        rest /= 10;
+        size += 1;
+    }
+    size
+}
+
+// The whole number a - b.
+pub fn put_difference(a: usize, b: usize, out: &mut [u8], at: usize) -> usize
+    ensures { λ r. ⌜ Stored (now (out .entry)) at (whole (pos a -ℤ pos b)) (now (out .exit)) r ⌝ }
+{
+    if a < b {
+        let next = put_byte(b'-', out, at);
+        return put_decimal(b - a, out, next);
+    }
+    put_decimal(a - b, out, at)
+}
+
+fn difference_length(a: usize, b: usize) -> usize
+    ensures { λ r. ⌜ r ≡ length (whole (pos a -ℤ pos b)) ⌝ }
+{
+    if b <= a {
+        return decimal_length(a - b);
+    }
+    1 + decimal_length(b - a)
+}
+
+fn put_spaces(count: usize, out: &mut [u8], at: usize) -> usize
+    ensures { λ r. ⌜ Stored (now (out .entry)) at (spaces count) (now (out .exit)) r ⌝ }
+{
+    let mut to = at;
+    let mut k = 0;
+    while k < count {
+        let next = put_byte(b' ', out, to);
+        to = next;
+        k += 1;
+    }
+    to
+}
+
+// The whole number a - b at the right end of `width` characters, or of as many as it needs.
+pub fn put_right(width: usize, a: usize, b: usize, out: &mut [u8], at: usize) -> usize
+    ensures { λ r. ⌜ Stored (now (out .entry)) at (rightAligned width (whole (pos a -ℤ pos b))) (now (out .exit)) r ⌝ }
+{
+    let size = difference_length(a, b);
+    if size < width {
+        let next = put_spaces(width - size, out, at);
+        return put_difference(a, b, out, next);
+    }
+    put_difference(a, b, out, at)
+}
+
 fn hex_digit(d: u8) -> u8
     requires { ⌜ d < 16 ⌝ }
     ensures { λ r. ⌜ r ≡ hexDigit d ⌝ }
@@ -78,4 +137,14 @@ pub fn put_hex(count: usize, b: u32, out: &mut [u8], at: usize) -> usize
     }
     let next = put_hex(count - 1, b / 16, out, at);
     put_byte(hex_digit((b % 16) as u8), out, next)
+}
+
+// `refused` and the number.
+pub fn write_refusal(number: u8, out: &mut [u8]) -> Written
+    ensures { λ r. ⌜ Shows (refusalOf number) (now (out .entry)) (now (out .exit)) r ⌝ }
+{
+    let a = put_text(b"refused ", out, 0);
+    let b = put_decimal(number as usize, out, a);
+    let c = put_byte(b'\n', out, b);
+    answer(c, out.len())
 }

@@ -9,4 +9,4 @@ returns c = (value-is (c .args .f) (c .pre), value-positive (c .args .f) (c .pre
 
 pub bit-value-spec : {M : Type 1} → statement M
 bit-value-spec = tie.close
-    (tie.spec (λ c. search needs) returns)
+    (tie.spec (λ c. search needs) (λ c. search needs) returns)

@@ -9,4 +9,4 @@ returns c = letter-is (c .args .f) (c .pre)
 
 pub letter-spec : {M : Type 1} → statement M
 letter-spec = tie.close
-    (tie.spec (λ c. search needs) returns)
+    (tie.spec (λ c. search needs) (λ c. search needs) returns)

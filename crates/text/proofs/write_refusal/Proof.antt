@@ -1,9 +1,9 @@
--- `listing::write_refusal` meets its contract. Assumes nothing.
-use Rattle.listing.specs.Listing.{refusalOf}
+-- `text::write_refusal` meets its contract. Assumes nothing.
+use Rattle.text.specs.Text.{refusalOf}
 use Rattle.text.proofs.Stores.{stored-then, shows}
 use borrow.Author.Needs.{needs}
-use Rattle.listing.proofs.write_refusal.Statement.{statement}
-use Rattle.listing.proofs.write_refusal.Tie as tie
+use Rattle.text.proofs.write_refusal.Statement.{statement}
+use Rattle.text.proofs.write_refusal.Tie as tie
 
 returns : tie.Need-returns
 unfolding refusalOf
