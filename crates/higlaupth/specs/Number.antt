@@ -1,16 +1,33 @@
--- The number that the call hands to C. Assumes nothing.
-use Prim.Native.Nat.{ℕ, _+_, _*_, _^_, _≤_}
+-- The numbers that the calls hand to C. Assumes nothing.
+use mathlib.Core.Path.{_≡_}
+use mathlib.Core.Bool.{cond}
+use mathlib.Core.Logic.{_⊎_}
+use Prim.Native.Nat.{ℕ, _+_, _-_, _*_, _^_, _≤_, _<_}
+use lib.Dec.{leb}
 use Rattle.view.specs.View.{maxPoints}
 use Rattle.kept.specs.declared.Answer.{Answer}
 use Rattle.kept.specs.declared.Answer.the-variants.{Refused, Accepted}
+use Rattle.map_lines.specs.Map.{mapSize}
 
 -- the refusal number, or the counts of points and of components above 2^32
 abbrev pub numberOf : Answer → ℕ
 numberOf (Refused number) = number
 numberOf (Accepted counts) = 2 ^ 32 + 2 ^ 16 * counts .points + counts .components
 
--- what a returned number is: a refusal, 1 to 9, or 2^32 + 2^16 · points + components, no more components than points, no more points than the
--- most of a sheet
+-- what the number that higlaupth_keep returns is: a refusal, 1 to 9, or 2^32 + 2^16 · points + components, no more components than points, no
+-- more points than the most of a sheet
 pub data Returned : ℕ → Type 0 where
   refusal : (number : ℕ) → 1 ≤ number → number ≤ 9 → Returned number
   counts : (points components : ℕ) → components ≤ points → points ≤ maxPoints → Returned (2 ^ 32 + 2 ^ 16 * points + components)
+
+-- of a text of `size` bytes for a buffer of `room`: its size, or 2^64 − 1 where the buffer is too short
+abbrev pub textNumber : ℕ → ℕ → ℕ
+textNumber size room = cond (leb size room) size (2 ^ 64 - 1)
+
+-- what the number that higlaupth_map returns is, of a text of `size` bytes for a buffer of `room`: the size, no more than mapSize, or 2^64 − 1,
+-- exactly where the buffer is shorter than the text
+pub record MapReturned (size room : ℕ) : Type 0 where
+  pub bounded : (textNumber size room ≤ mapSize) ⊎ (textNumber size room ≡ 2 ^ 64 - 1)
+  pub whole : size ≤ room → textNumber size room ≡ size
+  pub short : room < size → textNumber size room ≡ 2 ^ 64 - 1
+  pub short-only : textNumber size room ≡ 2 ^ 64 - 1 → room < size

@@ -1,20 +1,17 @@
--- `sheet::print_listing` is safe: the text ends within the buffer. Assumes nothing.
-use mathlib.Core.Path.{sym}
-use lib.Seq.{length-take-le}
+-- `sheet::print_listing` is safe: the buffer has room for every text. Assumes nothing.
 use native.Mathlib.Omega.{arith}
 use borrow.Author.Needs.{needs}
-use Rattle.sheet_listing.proofs.Laws.{shown-within}
+use Rattle.sheet_listing.proofs.Whole.{whole}
+use Rattle.standard_output.proofs.Laws.{printable}
 use Rattle.sheet.proofs.print_listing.Statement.{statement}
 use Rattle.sheet.proofs.print_listing.Tie as tie
 
-array-share-prefix-out : tie.Need-array-share-prefix-out
-array-share-prefix-out c = let l = shown-within (c .before .before .before .before .list-sheet .ensures) (c .before .n .given .1) in omega arith
-
-slice-aggregate-write-all : tie.Need-slice-aggregate-write-all
-slice-aggregate-write-all c = sym (length-take-le _ _ (let l = shown-within (c .before .before .before .before .before .list-sheet .ensures) (c .before .before .n .given .1) in omega arith))
+print-requires : tie.Need-print-requires
+print-requires c κs =
+    let d = c .before .before .before in
+    let f = d .before .before in
+    printable (d .list-sheet .ensures) (whole (f .before .args .file .now) _ _ _ (λ i. f .shared-slice-known .given i .fits) (omega arith) (d .list-sheet .ensures)) (omega arith)
 
 pub print-listing-spec : {M : Type 1} → statement M
 print-listing-spec =
-    tie.close
-    (tie.spec (λ c. search needs) (λ c κs. search needs) (λ c. search needs) array-share-prefix-out slice-aggregate-write-all (λ c κs. search needs)
-    (λ c. search needs) (λ c κs. search needs) (λ c. search needs) (λ c. search needs) (λ c. search needs) (λ c. search needs))
+    tie.close (tie.spec (λ c. search needs) (λ c κs. search needs) (λ c. search needs) (λ c. search needs) print-requires (λ c. search needs))

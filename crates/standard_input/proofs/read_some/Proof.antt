@@ -1,9 +1,9 @@
--- `sheet::read_some` is safe and ends. The measure is the number of turns that are left. Assumes nothing.
+-- `standard_input::read_some` is safe and ends. The measure is the number of turns that are left. Assumes nothing.
 use mathlib.Core.Path.{_≡_}
 use lib.ListN.{length}
 use borrow.Author.Needs.{needs}
-use Rattle.sheet.proofs.read_some.Statement.{statement}
-use Rattle.sheet.proofs.read_some.Tie as tie
+use Rattle.standard_input.proofs.read_some.Statement.{statement}
+use Rattle.standard_input.proofs.read_some.Tie as tie
 
 abbrev Inv-loop : tie.InvT-loop
 Inv-loop part₀ turns₀ part turns = length part ≡ length part₀

@@ -1,0 +1,9 @@
+pub mod Whole
+pub mod Ends
+pub mod Drawing
+pub mod Extremes
+pub mod Characters
+pub mod Size
+pub mod Moved
+pub mod Places
+pub mod Start

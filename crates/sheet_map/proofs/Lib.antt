@@ -1,0 +1,4 @@
+pub mod Laws
+pub mod Cases
+pub mod Whole
+pub mod Texts

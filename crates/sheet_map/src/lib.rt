@@ -1,0 +1,45 @@
+// From the bytes of a sheet file to the text that the program `map` prints. What it is stands in specs/Text.antt.
+use judged::figures::FIGURE_COUNTS_SIZE;
+use judged::figures::FIGURE_MEASURES_SIZE;
+use map_lines::spans;
+use map_lines::spans::Axis;
+use ruling::ROWS_SIZE;
+use ruling::Sheet;
+use text::Written;
+ghost use Rattle.judging.specs.Judging.{Arrays};
+ghost use Rattle.text.specs.Answer.{Shows};
+ghost use Rattle.sheet_map.specs.Text.{mapTextOf};
+ghost use Rattle.sheet_map.specs.Table.{drawnBy};
+
+// Writes the map of an accepted sheet, or `refused 10`.
+fn draw(sheet: Sheet, out: &mut [u8]) -> Written
+    requires { ⌜ Arrays (sheet .count) (sheet .table) ⌝ }
+    ensures { λ r. ⌜ Shows (drawnBy sheet) (now (out .entry)) (now (out .exit)) r ⌝ }
+{
+    let settings = sheet.settings;
+    let n = sheet.count;
+    let table = sheet.table;
+    let keys = table.keys;
+    let u = spans::span_along(&keys, n, Axis::AlongU);
+    let v = spans::span_along(&keys, n, Axis::AlongV);
+    if map_lines::too_wide(u, v) {
+        return text::write_refusal(10, out);
+    }
+    let mut counts = [0u8; FIGURE_COUNTS_SIZE];
+    let mut measures = [0.0f32; FIGURE_MEASURES_SIZE];
+    let j = judging::judge(settings, n, table, &mut counts, &mut measures);
+    let marks = j.marks;
+    map_lines::write_map(n, &keys, &marks, u, v, out)
+}
+
+// Writes the map of a sheet file, or `refused` and the number.
+pub fn draw_sheet(file: &[u8], out: &mut [u8]) -> Written
+    ensures { λ r. ⌜ Shows (mapTextOf (now (file .entry))) (now (out .entry)) (now (out .exit)) r ⌝ }
+{
+    let sheet = ruling::read(file, ROWS_SIZE);
+    let number = sheet.table.number;
+    if 0 < number {
+        return text::write_refusal(number, out);
+    }
+    draw(sheet, out)
+}
