@@ -30,7 +30,7 @@ use Rattle.instances.proofs.KeptPatch.{file-bytes}
 pub file-is : file ≡ shortFile 0x42C8_0000 (fourteen ∷ ten ∷ eleven ∷ twelve ∷ thirteen ∷ [])
 file-is = refl
 
-abbrev turned : List ℕ
+abbrev pub turned : List ℕ
 turned = shortFile 0x42C8_0000 (ten ∷ fourteen ∷ twelve ∷ eleven ∷ thirteen ∷ [])
 
 framed : framingOf file ≡ Framed (layoutOf file)
@@ -53,7 +53,7 @@ pub turned-answered : answerOf turned 140 ≡ Accepted (record { points = 5; com
 turned-answered = turned-same .answer 140 ∙ answered
 
 pub turned-printed : textOf turned ≡ shown
-turned-printed = turned-same .text ∙ printed
+turned-printed = turned-same .listing ∙ printed
 
 pub turned-rows : rowsAfter turned (replicate 140 255) ≡ replicate 112 0 ++ 8 ∷ replicate 27 0
 turned-rows = turned-same .rows (replicate 140 255) ∙ rows-left
@@ -61,20 +61,20 @@ turned-rows = turned-same .rows (replicate 140 255) ∙ rows-left
 -- ---- without "all else .. unchanged": the same records with another cell size
 
 -- (0,0) and (1,0) 19 pixels apart
-abbrev near : List Point
+abbrev pub near : List Point
 near = point 0 0 10 0 0 ∷ point 1 0 11 0x4198_0000 0 ∷ []
 
-abbrev nearFile : List ℕ
+abbrev pub nearFile : List ℕ
 nearFile = shortFile 0x42C8_0000 near
 
-abbrev zeroSizeFile : List ℕ
+abbrev pub zeroSizeFile : List ℕ
 zeroSizeFile = shortFile 0 near
 
-near-framed : framingOf nearFile ≡ Framed (layoutOf nearFile)
+pub near-framed : framingOf nearFile ≡ Framed (layoutOf nearFile)
 unfolding file-computes
 near-framed = refl
 
-records-same : recordsIn nearFile (layoutOf nearFile .points) (layoutOf nearFile .count) ≡ recordsIn zeroSizeFile (layoutOf nearFile .points) (layoutOf nearFile .count)
+pub records-same : recordsIn nearFile (layoutOf nearFile .points) (layoutOf nearFile .count) ≡ recordsIn zeroSizeFile (layoutOf nearFile .points) (layoutOf nearFile .count)
 unfolding recordsIn file-computes
 records-same = refl
 

@@ -3,3 +3,5 @@ pub mod KeptPatch
 pub mod AnotherOrder
 pub mod Offset
 pub mod Switches
+pub mod Map
+pub mod MovedMap

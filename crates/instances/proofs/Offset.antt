@@ -37,7 +37,7 @@ points-are {s = s} {qs = qs} p e = let q : accepted s (p .along .points) ≡ acc
 -- ---- the sheet of five points, moved by (-6, 7)
 
 -- 0xFFFFFFFF is -1, 0xFFFFFFFB -5 and 0xFFFFFFFA -6
-abbrev shifted : List ℕ
+abbrev pub shifted : List ℕ
 shifted =
     shortFile 0x42C8_0000
     (point 0xFFFF_FFFF 12 14 0x43FA_0000 0x43FA_0000 ∷ point 0xFFFF_FFFA 7 10 0 0 ∷ point 0xFFFF_FFFB 7 11 0x42C8_0000 0
@@ -48,14 +48,14 @@ unfolding file-computes movedFile
 shifted-is = refl
 
 -- its points in cell order
-abbrev sixLess : List Point
+abbrev pub sixLess : List Point
 sixLess =
     point 0xFFFF_FFFA 7 10 0 0 ∷ point 0xFFFF_FFFA 8 12 0 0x42C8_0000
     ∷ point 0xFFFF_FFFB 7 11 0x42C8_0000 0 ∷ point 0xFFFF_FFFB 8 13 0x42C8_0000 0x42C8_0000
     ∷ point 0xFFFF_FFFF 12 14 0x43FA_0000 0x43FA_0000
     ∷ []
 
-in-range : StaysInRange (negsuc 5) (pos 7) five
+pub in-range : StaysInRange (negsuc 5) (pos 7) five
 unfolding every
 in-range = in-range-by (negsuc 5) (pos 7) five refl
 
@@ -79,7 +79,7 @@ none-after : some (validateMark settings (viewOf sixLess) (cellsOf sixLess)) 5 �
 unfolding rules-compute
 none-after = refl
 
-validate-stays : (k : ℕ) → k < 5 → hasMark validate (marksIn settings sixLess k) ≡ hasMark validate (marksIn settings five k)
+pub validate-stays : (k : ℕ) → k < 5 → hasMark validate (marksIn settings sixLess k) ≡ hasMark validate (marksIn settings five k)
 validate-stays k h =
     validate-in settings sixLess k h
     ∙ some-fails (validateMark settings (viewOf sixLess) (cellsOf sixLess)) 5 none-after k h
@@ -99,7 +99,7 @@ kept-moved k = ap (λ (m : ℕ). ltb k 5 && eqb m 0) (marks-moved k)
 -- ---- without the condition on the validate marks: u and v enter the fits as f32s; as given index 3 has no fit, moved it has one by rounding
 
 -- (2,2) 5 at (200,200); (1,0) 4 at (100,0); (1,1) 3 at (200,100); (1,2) 2 at (100,200); (0,2) 8 at (25,200)
-abbrev bent : List ℕ
+abbrev pub bent : List ℕ
 bent =
     shortFile 0x42C8_0000
     (point 2 2 5 0x4348_0000 0x4348_0000 ∷ point 1 0 4 0x42C8_0000 0 ∷ point 1 1 3 0x4348_0000 0x42C8_0000
@@ -114,10 +114,10 @@ bentFrom u =
     ∷ []
 
 -- as given, and moved by (1, 0)
-abbrev given : List Point
+abbrev pub given : List Point
 given = bentFrom 0
 
-abbrev oneMore : List Point
+abbrev pub oneMore : List Point
 oneMore = bentFrom 1
 
 bent-accepted : rulingOf bent 140 ≡ accepted settings given

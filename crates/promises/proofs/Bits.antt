@@ -8,15 +8,16 @@ use native.Mathlib.Omega.{arith}
 use lib.Dec.{eqb, ltb}
 use lib.ListN.{length, getD}
 use borrow.Author.Tests.{ltb-true}
+use Rattle.folds.specs.Below.{some}
 use Rattle.folds.proofs.Below.{and-under}
 use Rattle.view.specs.View.{View}
 use Rattle.cells.specs.Points.{Point}
 use Rattle.cells.specs.Cell.{Cell, cellsOf}
 use Rattle.grid.specs.Views.{viewOf}
 use Rattle.sheet_file.specs.declared.Settings.{Settings}
-use Rattle.marks.specs.Filters.{validate, orientation, wrong, component}
+use Rattle.marks.specs.Filters.{filterCount, validate, orientation, wrong, component}
 use Rattle.marks.specs.Byte.{hasMark, Marking, markedByAll}
-use Rattle.marks.proofs.Byte.{not-not, in-two, one-more, marked-by, others-than, next-zero, all-small, by-same}
+use Rattle.marks.proofs.Byte.{not-not, in-two, one-more, marked-by, others-than, next-zero, all-small, zero-means, by-same}
 use Rattle.validate.specs.Validate.{validateMark}
 use Rattle.orientation.specs.Orientation.{orientationMark}
 use Rattle.drop_set.specs.Filters.{wrongMark, byPoints, viewFilters, pointFilters, patchFilters, componentMarked, patchedOf, pointMarks, measuredOf, judgedOf}
@@ -65,6 +66,14 @@ module _ (s : Settings) (w : View) (cell : ℕ → Cell) where
     no-mark =
         ap (λ (l : List ℕ). eqb (getD l k 0) 0) (marks-are ∙ one-more (w .count) (pointFilters s w cell) (record { filter = component; marks = componentMarked s w }) [])
         ∙ next-zero (w .count) k h (record { filter = component; marks = componentMarked s w }) (markedByAll (w .count) (pointFilters s w cell) []) (all-small (w .count) k h (pointFilters s w cell) [] refl (omega arith)) (omega arith)
+
+    -- the byte is 0 just where no filter has marked the point
+    pub none-marked : eqb (getD (judgedOf s w cell .marks) k 0) 0 ≡ not (some (λ (f : ℕ). hasMark f (getD (judgedOf s w cell .marks) k 0)) filterCount)
+    unfolding some
+    none-marked =
+        ap (λ (l : List ℕ). eqb (getD l k 0) 0) marks-are
+        ∙ zero-means (w .count) k h all [] refl (omega arith) refl
+        ∙ ap (λ (l : List ℕ). not (some (λ (f : ℕ). hasMark f (getD l k 0)) filterCount)) (sym marks-are)
 
 -- of the cells, the marks and the count depend on the validate marks alone
 module _ (s : Settings) (w : View) (cell cell′ : ℕ → Cell) (same : (k : ℕ) → k < w .count → validateMark s w cell k ≡ validateMark s w cell′ k) where

@@ -2,6 +2,8 @@ pub mod Bits
 pub mod Patch
 pub mod RowMarks
 pub mod Moving
+pub mod MovingMap
+pub mod OnMap
 pub mod Unswitched
 pub mod Theorems
 pub mod Cosines

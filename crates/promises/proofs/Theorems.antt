@@ -2,12 +2,18 @@
 use mathlib.Core.Path.{_≡_, sym, ap, _∙_}
 use mathlib.Core.Logic.{inl, inr}
 use mathlib.Core.List.{List}
-use Prim.Native.Nat.{ℕ}
+use Prim.{yes, no}
+use Prim.Native.Nat.{ℕ, _<_}
+use native.Mathlib.Decide.{ℕ-discrete}
+use lib.Dec.{eqb, ltb}
 use lib.ListN.{length}
+use borrow.Author.Tests.{ltb-true}
 use Rattle.folds.specs.Among.{anyIn}
 use Rattle.folds.specs.Below.{tally}
+use Rattle.folds.proofs.Below.{and-left}
 use Rattle.cells.specs.Points.{Point}
 use Rattle.cells.specs.Cell.{cellsOf}
+use Rattle.cells.proofs.Keys.{cell-at}
 use Rattle.grid.specs.Views.{viewOf}
 use Rattle.grid.proofs.Moved.{view-moved}
 use Rattle.sheet_file.specs.Bytes.{byteAt}
@@ -16,7 +22,7 @@ use Rattle.sheet_file.specs.declared.Layout.{Layout}
 use Rattle.sheet_file.specs.declared.Settings.{Settings}
 use Rattle.points.specs.Records.{pointsIn}
 use Rattle.points.specs.Refusals.{offRange}
-use Rattle.ruling.specs.Ruling.{accepted, rulingOf, applies}
+use Rattle.ruling.specs.Ruling.{Ruling, accepted, rulingOf, applies, rowsSize}
 use Rattle.ruling.proofs.Header.{frame-same}
 use Rattle.ruling.proofs.Standing.{accepted-file, accepted-order}
 use Rattle.ruling.proofs.Order.{same-ruling}
@@ -31,12 +37,24 @@ use Rattle.marks.specs.Byte.{hasMark}
 use Rattle.judging.specs.Judging.{judgedFor}
 use Rattle.kept.specs.Answer.{answerBy, rowsBy, answerOf, rowsAfter}
 use Rattle.kept.specs.declared.Answer.the-variants.{Accepted}
-use Rattle.sheet_listing.specs.Text.{rowsSize, textBy, textOf}
-use Rattle.promises.specs.Words.{tallyBy, tallyOf}
+use Rattle.sheet_listing.specs.Text.{textBy, textOf}
+use Rattle.map_lines.specs.Map.{pointCharacter, lineCharacters, mapOf}
+use Rattle.map_lines.proofs.Characters.{first-character, no-full-stop}
+use Rattle.map_lines.proofs.Moved.{map-lines}
+use Rattle.map_lines.proofs.Places.{lineOfRank, columnOfRank, cell-of-rank, line-drawn, column-drawn, point-byte, empty-byte}
+use Rattle.map_lines.proofs.Size.{characters-long, line-no-newline, line-size, few-lines}
+use Rattle.sheet_map.specs.Text.{mapRuling, mapBy, mapRulingOf, mapTextOf}
+use Rattle.sheet_map.proofs.Laws.{text-is, older-first, ten-given, none-given, is-wide, is-drawn, number-given, never-ten, never-three-drawn}
+use Rattle.sheet_map.proofs.Texts.{number-printed, drawn-printed, number-read}
+use Rattle.sheet_map.proofs.Whole.{v-within, text-fits}
+use Rattle.promises.specs.Words.{marksIn, tallyBy, tallyOf}
 use Rattle.promises.proofs.Patch.{none-kept, all-marked, reached-below, largest-kept, roots, patchOf, all-counted, count-on, count-off}
 use Rattle.promises.proofs.Unswitched.{validate-stays}
 use Rattle.promises.proofs.RowMarks.{row-marks, kept-rows}
 use Rattle.promises.proofs.Moving.{validate-in, orientation-in, orientation-stays, wrong-stays, marks-stay, kept-stays, through, rows-stay}
+use Rattle.promises.proofs.MovingMap.{ten-moved, ten-before, map-stays}
+use Rattle.promises.proofs.OnMap.{cells-apart, kept-shown, only-kept-shown}
+use Rattle.promises.specs.Map.{onMap, MapLinesPromise, MapPointsPromise, MapSizePromise, MapNumbersPromise, MapTextsPromise, TenAlonePromise, OffsetMapPromise, MovedFileMapPromise}
 use Rattle.promises.specs.Promises.{RanksAreCells, KeptByRows, KeptPatchPromise, ComponentCountPromise, NoCountPromise, AnotherOrderPromise, OffsetPromise, OffsetRowsPromise, MovedFilePromise, MovedFileRowsPromise, SwitchesPromise, SwitchedRowsPromise}
 
 pub ranks-are-cells : RanksAreCells
@@ -77,12 +95,13 @@ pub no-count : NoCountPromise
 no-count file room s ps e off = answer-is file room s ps e ∙ ap (λ (c : ℕ). Accepted (record { points = length ps; components = c })) (count-off s ps off)
 
 pub another-order : AnotherOrderPromise
-unfolding answerOf rowsAfter tallyOf textOf
+unfolding answerOf rowsAfter tallyOf textOf mapTextOf mapRulingOf
 another-order file other f b e r = record {
   answer = λ room. ap answerBy (sym (same-ruling file other f b e r room));
   rows = λ buffer. ap (rowsBy buffer) (sym (same-ruling file other f b e r (length buffer)));
   tally = λ room. ap tallyBy (sym (same-ruling file other f b e r room));
-  text = ap textBy (sym (same-ruling file other f b e r rowsSize));
+  listing = ap textBy (sym (same-ruling file other f b e r rowsSize));
+  map = ap (λ (x : Ruling). mapBy (mapRuling x)) (sym (same-ruling file other f b e r rowsSize));
 }
 
 pub moved-sheet : OffsetPromise
@@ -138,3 +157,85 @@ switched-rows file other buffer b w full s ps e =
       validate = λ k h. ap (hasMark validate) (row-marks other buffer (r .settings) ps (r .ruling) k h) ∙ r .validate k h ∙ ap (hasMark validate) (sym (row-marks file buffer s ps e k h));
       orientation = λ k h. ap (hasMark orientation) (row-marks other buffer (r .settings) ps (r .ruling) k h) ∙ r .orientation k h ∙ ap (hasMark orientation) (sym (row-marks file buffer s ps e k h));
     }
+
+-- ---- the map
+
+pub map-of-lines : MapLinesPromise
+map-of-lines file s ps b e =
+    let d = is-drawn file s ps e in
+    let cell = cellsOf ps in
+    let marks = judgedFor s ps .marks in
+    record {
+      characters = lineCharacters (length ps) cell marks;
+      whole = text-is file ∙ ap mapBy e ∙ map-lines (length ps) cell marks;
+      cells = λ i l. characters-long (length ps) cell marks i;
+      long = line-size (length ps) cell marks (v-within file b s ps (d .ruled));
+      no-newline = λ i l. line-no-newline (length ps) cell marks i;
+      few = few-lines (length ps) cell (d .narrow);
+    }
+
+pub map-points : MapPointsPromise
+map-points file s ps b e =
+    let d = is-drawn file s ps e in
+    let n = length ps in
+    let cell = cellsOf ps in
+    let marks = judgedFor s ps .marks in
+    let inside = v-within file b s ps (d .ruled) in
+    let text : mapTextOf file ≡ mapOf n cell marks = text-is file ∙ ap mapBy e in
+    let apart = cells-apart ps (accepted-order file rowsSize s ps b (d .ruled)) in
+    let Shown : ℕ → Type 0 = λ k. onMap (mapTextOf file) (lineOfRank n cell k) (columnOfRank n cell k) ≡ pointCharacter (marksIn s ps k) in
+    let shown : (k : ℕ) → k < n → Shown k = λ k h. ap (λ (t : List ℕ). onMap t (lineOfRank n cell k) (columnOfRank n cell k)) text ∙ point-byte n cell marks inside (d .narrow) apart k h in
+    record {
+      line = lineOfRank n cell;
+      column = columnOfRank n cell;
+      line-drawn = line-drawn n cell;
+      column-drawn = column-drawn n cell (d .narrow);
+      cell = λ k h. cell-of-rank n cell k h ∙ cell-at ps k h;
+      character = shown;
+      kept = λ k q. shown k (ltb-true k n (and-left (ltb k n) (eqb (marksIn s ps k) 0) q)) ∙ kept-shown s ps k q;
+      kept-only = λ k h q. only-kept-shown s ps k h (sym (shown k h) ∙ q);
+      letter = λ k f h l q before. shown k h ∙ first-character (marksIn s ps k) f l q before;
+      none = λ i j l m f. ap (λ (t : List ℕ). onMap t i j) text ∙ empty-byte n cell marks inside i j l m (λ k h q. f k h (sym (cell-at ps k h) ∙ q));
+      none-only = λ k h q. no-full-stop (marksIn s ps k) (sym (shown k h) ∙ q);
+    }
+
+pub map-size : MapSizePromise
+map-size = text-fits
+
+pub map-numbers : MapNumbersPromise
+map-numbers file = record {
+  older = older-first file;
+  ten = ten-given file;
+  ten-only = λ e. let w = is-wide file e in (w .settings, w .points, w .ruled, w .wide);
+  none = none-given file;
+  known = λ k e. elim (ℕ-discrete k 10) [ yes q ↦ inr q | no n ↦ inl (number-given file k e n) ];
+  never-three = never-three-drawn file;
+}
+
+pub map-texts : MapTextsPromise
+map-texts file b = record {
+  older = λ k e. number-printed file k (older-first file k e);
+  known = λ k q. map-numbers file .known k (number-read file b k q);
+  ten = λ s ps e w. number-printed file 10 (ten-given file s ps e w);
+  ten-only = λ q. map-numbers file .ten-only (number-read file b 10 q);
+  drawn = λ s ps e w. drawn-printed file b s ps (none-given file s ps e w);
+}
+
+pub ten-alone : TenAlonePromise
+ten-alone = never-ten
+
+pub moved-map : OffsetMapPromise
+moved-map file other a b bf bo o in-range s ps e =
+    let r = moved-sheet file other a b bf bo o rowsSize in-range s ps e in
+    let m = r .along in
+    record {
+      along = m;
+      ten = ten-moved file other a b s ps (m .points) e (m .ruling) (m .size) (m .along);
+      ten-only = ten-before file other a b s ps (m .points) e (m .ruling) (m .size) (m .along);
+      same = λ h. map-stays file other a b s ps (m .points) e (m .ruling) (m .size) (m .along) (r .same h);
+    }
+
+pub moved-file-map : MovedFileMapPromise
+moved-file-map file a b bytes s ps e in-range =
+    let o = moved-offset file a b rowsSize s ps e in-range in
+    moved-map file (movedFile file a b) a b bytes (moved-bytes file a b bytes) o (moved-in-range file a b rowsSize s ps e in-range) s ps e

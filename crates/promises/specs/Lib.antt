@@ -1,2 +1,3 @@
 pub mod Words
 pub mod Promises
+pub mod Map

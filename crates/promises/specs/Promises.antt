@@ -1,4 +1,4 @@
--- Demand 3: what document 01 promises of an accepted, rearranged, moved or switched sheet. Each promise is a type; proofs/Theorems.antt proves
+-- Demand 3: what documents 01 and 02 promise of an accepted, rearranged, moved or switched sheet. Each promise is a type; proofs/Theorems.antt proves
 -- them of the definitions that the call is proved equal to. Assumes nothing.
 use mathlib.Core.Path.{_≡_}
 use mathlib.Core.Bool.{Bool, true, false, _&&_}
@@ -26,6 +26,7 @@ use Rattle.marks.specs.Byte.{hasMark}
 use Rattle.kept.specs.Answer.{answerOf, rowsAfter}
 use Rattle.kept.specs.declared.Answer.the-variants.{Accepted}
 use Rattle.sheet_listing.specs.Text.{textOf}
+use Rattle.sheet_map.specs.Text.{mapTextOf}
 use Rattle.promises.specs.Words.{DistinctIndices, marksIn, hasOther, survivor, joined, keptRank, marksByte, tallyOf}
 
 -- ---- ranks, and the rows
@@ -72,13 +73,15 @@ NoCountPromise = (file : List ℕ) (room : ℕ) (s : Settings) (ps : List Point)
 -- ---- (b) another order
 
 -- "Another order is any rearrangement of the points in tag 3, all else and the result buffer's length unchanged": for every well-framed file
--- the same number, or the same counts, the same rows byte for byte, and the same text
+-- the same number, or the same counts, the same rows byte for byte, the same listing, and the same map
 pub record SameResult (file other : List ℕ) : Type 0 where
   pub answer : (room : ℕ) → answerOf other room ≡ answerOf file room
   pub rows : (buffer : List ℕ) → rowsAfter other buffer ≡ rowsAfter file buffer
   -- "The counts are those of the listing's first line and of its tally."
   pub tally : (room : ℕ) → tallyOf other room ≡ tallyOf file room
-  pub text : textOf other ≡ textOf file
+  pub listing : textOf other ≡ textOf file
+  -- the map of the program `map`
+  pub map : mapTextOf other ≡ mapTextOf file
 
 abbrev pub AnotherOrderPromise : Type 0
 AnotherOrderPromise = (file other : List ℕ) (f : Layout) → Bytes file → framingOf file ≡ Framed f → Relisted file other f → SameResult file other
