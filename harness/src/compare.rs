@@ -3,8 +3,9 @@
 use crate::angles;
 use crate::generate::{self, Case, Expected, Kind};
 use crate::library;
+use crate::limits::Met;
 use crate::run_original::{Held, Prepared};
-use crate::second::{self, Answer, Fault, ROW};
+use crate::second::{self, Answer, Fault, Map, ROW};
 use crate::sheet::Sheet;
 use crate::text;
 
@@ -58,16 +59,37 @@ fn difference(sheet: &Sheet, held: &Held, answer: &Answer) -> Option<String> {
     None
 }
 
-/// Compares one case with its answer.
-pub fn check(case: &Case, answer: &Answer) -> Verdict {
+/// Whether a number, or none, is what the generator knows of it.
+fn as_expected(expected: Expected, found: Expected) -> Result<(), String> {
+    if expected != Expected::Unknown && found != expected {
+        return Err(format!("expected {expected:?}, found {found:?}"));
+    }
+    Ok(())
+}
+
+/// What the generator and the library say otherwise of a map.
+fn map_difference(case: &Case, map: &Map) -> Option<String> {
+    let refusal = match map {
+        Err(number) => Expected::Refused(*number),
+        Ok(_) => Expected::Accepted,
+    };
+    if let Err(text) = as_expected(case.map, refusal) {
+        return Some(format!("map: {text}"));
+    }
+    library::map_difference(&case.file, &second::map_text(map))
+}
+
+/// Compares one case with its answer and its map.
+pub fn check(case: &Case, answer: &Answer, map: &Map) -> Verdict {
     let refusal = match answer {
         Answer::Refused(number) => Expected::Refused(*number),
         Answer::Accepted { .. } => Expected::Accepted,
     };
-    if case.expected != Expected::Unknown && refusal != case.expected {
-        return Verdict::Different(format!("expected {:?}, found {refusal:?}", case.expected));
+    if let Err(text) = as_expected(case.expected, refusal) {
+        return Verdict::Different(text);
     }
-    if let Some(text) = library::difference(&case.file, case.buffer, answer) {
+    let library = library::difference(&case.file, case.buffer, answer);
+    if let Some(text) = library.or_else(|| map_difference(case, map)) {
         return Verdict::Different(text);
     }
     if refusal != Expected::Accepted {
@@ -108,6 +130,11 @@ pub struct Report {
     without_fit: usize,
     not_a_number: usize,
     infinite: usize,
+    /// Maps drawn, their lines, and maps refused by number.
+    maps: usize,
+    lines: usize,
+    no_maps: [usize; 11],
+    pub met: Met,
     smallest_acos: Option<(usize, Case)>,
 }
 
@@ -126,8 +153,19 @@ impl Report {
         }
     }
 
+    fn count_map(&mut self, map: &Map) {
+        match map {
+            Err(number) => self.no_maps[usize::from(*number)] += 1,
+            Ok(text) => {
+                self.maps += 1;
+                self.lines += text.lines().count();
+            }
+        }
+    }
+
     fn add(&mut self, case: &Case) {
-        let answer = second::answer(&case.file, case.buffer, Fault::None);
+        let (answer, map) = second::answer_and_map(&case.file, case.buffer);
+        self.count_map(&map);
         self.sheets += 1;
         self.by_kind.resize(Kind::ALL.len(), [0; 4]);
         let kind = &mut self.by_kind[case.kind as usize];
@@ -136,7 +174,7 @@ impl Report {
             Answer::Refused(number) => self.refused[usize::from(*number)] += 1,
             Answer::Accepted { .. } => kind[1] += 1,
         }
-        match check(case, &answer) {
+        match check(case, &answer, &map) {
             Verdict::Same => {}
             Verdict::AcosOnly => {
                 kind[2] += 1;
@@ -160,12 +198,26 @@ impl Report {
         }
         if let Answer::Accepted { rows, .. } = &answer {
             self.count_rows(rows);
+            self.met.add(&Sheet::from_file(&case.file).unwrap(), rows);
+        }
+    }
+
+    fn print_maps(&self) {
+        println!(
+            "maps {} lines {} refused with 1 to 10: {:?}",
+            self.maps,
+            self.lines,
+            &self.no_maps[1..]
+        );
+        for (name, sheets) in self.met.each().filter(|(_, sheets)| *sheets > 0) {
+            println!("{sheets:>6} sheets with {name}");
         }
     }
 
     pub fn print(&self) {
         println!("kind           sheets accepted acos differ");
-        for (&(kind, _), [sheets, accepted, acos, differ]) in Kind::ALL.iter().zip(&self.by_kind) {
+        let kinds = Kind::ALL.iter().zip(&self.by_kind);
+        for (&(kind, _), [sheets, accepted, acos, differ]) in kinds.filter(|(_, n)| n[0] > 0) {
             println!(
                 "{:<14} {sheets:>6} {accepted:>8} {acos:>4} {differ:>6}",
                 format!("{kind:?}")
@@ -182,6 +234,7 @@ impl Report {
             "residuals: none {} NaN {} infinite {}",
             self.without_fit, self.not_a_number, self.infinite
         );
+        self.print_maps();
         if let Some((_, case)) = &self.smallest_acos {
             println!(
                 "smallest sheet that only acos explains ({:?} seed {}):",
@@ -201,15 +254,11 @@ impl Report {
     }
 }
 
-/// Compares `sheets` cases from a seed on, of one kind or of all in turn.
-pub fn run(sheets: usize, seed: u64, kind: Option<Kind>) -> Report {
+/// Compares `sheets` cases from a seed on, of some kinds in turn.
+pub fn run(kinds: &[(Kind, &str)], sheets: usize, seed: u64) -> Report {
     let mut report = Report::default();
     for i in 0..sheets {
-        let case = match kind {
-            Some(kind) => generate::case(kind, seed + i as u64),
-            None => generate::nth(seed, i),
-        };
-        report.add(&case);
+        report.add(&generate::nth(kinds, seed, i));
     }
     report
 }

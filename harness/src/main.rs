@@ -8,7 +8,9 @@ mod floats;
 mod generate;
 mod guarded;
 mod library;
+mod limits;
 mod load;
+mod map_reader;
 mod mutants;
 mod properties;
 mod quick;
@@ -33,16 +35,20 @@ use std::process::ExitCode;
 
 const USE: &str = "\
 harness quick                         the checks of the gate
-harness compare [--sheets N] [--seed S] [--kind KIND]
-                                      original against second program
-harness mutants [--sheets N] [--seed S]
-                                      how many sheets show each deliberate fault
+harness compare [--sheets N] [--seed S] [--kind KIND | --maps]
+                                      original against second program; --maps: sheets made for
+                                      the map
+harness mutants [--sheets N] [--seed S] [--maps]
+                                      how many sheets show each deliberate fault of the answers,
+                                      or of the maps
 harness acos [COSINE ..]              what the Rust's acos makes of 30 degrees and of least cosines
 harness generate KIND SEED            a sheet file to standard output
 harness kinds                         the kinds of generated sheets
 harness second [BUFFER]               listing of the sheet file on standard input
+harness map                           map of the sheet file on standard input
 harness original                      rows of the original for the sheet file on standard input
 harness vectors float|sheet_file|sheet FOLDER [--sheets N] [--seed S] [--most BYTES] [--full N]
+                [--maps N] [--full-lines N]
                                       the recorded files of a vector crate, stdin and stdout
 harness roots [--step N]              the machine's root against whole numbers
 harness float-check [time]            the static library of float_c against Rust's own functions
@@ -98,7 +104,7 @@ fn say_without_original() {
 /// A line for the original and one for the static library, if this was built without it.
 fn say_left_out() {
     say_without_original();
-    if library::function().is_none() {
+    if library::functions().is_none() {
         println!("left out: the static library, which is not linked (HIGLAUPTH_LIBRARY)");
     }
 }
@@ -109,19 +115,34 @@ fn compare(args: &[String]) -> bool {
         .iter()
         .position(|a| a == "--kind")
         .and_then(|k| args.get(k + 1));
-    let kind =
-        kind.map(|name| Kind::from_name(name).unwrap_or_else(|| fail(&format!("no kind {name}"))));
+    let named =
+        |name: &String| Kind::from_name(name).unwrap_or_else(|| fail(&format!("no kind {name}")));
+    let kinds = match kind {
+        Some(name) => vec![(named(name), "")],
+        None if args.iter().any(|a| a == "--maps") => Kind::for_map().to_vec(),
+        None => Kind::first().to_vec(),
+    };
     let sheets = option(args, "--sheets", 2300) as usize;
-    let report = compare::run(sheets, option(args, "--seed", 0), kind);
+    let report = compare::run(&kinds, sheets, option(args, "--seed", 0));
     report.print();
     report.failed == 0
 }
 
+/// How many sheets show each fault of one part; whether all are seen that can be.
+fn shown<T: PartialEq>(part: &mutants::Part<T>, sheets: usize, seed: u64) -> bool {
+    let shown = mutants::run(part, sheets, seed, false);
+    mutants::print(part.faults, sheets, &shown);
+    mutants::unseen(part.faults, &shown) == 0
+}
+
 fn mutants(args: &[String]) -> bool {
     let sheets = option(args, "--sheets", 2700) as usize;
-    let shown = mutants::run(sheets, option(args, "--seed", 0), false);
-    mutants::print(sheets, &shown);
-    mutants::unseen(&shown) == 0
+    let seed = option(args, "--seed", 0);
+    if args.iter().any(|a| a == "--maps") {
+        shown(&mutants::maps(), sheets, seed)
+    } else {
+        shown(&mutants::answers(), sheets, seed)
+    }
 }
 
 fn load(args: &[String]) -> bool {
@@ -197,6 +218,8 @@ fn vectors(crate_of: &str, folder: &str, args: &[String]) {
                 seed: option(args, "--seed", recorded.seed),
                 most: option(args, "--most", recorded.most as u64) as usize,
                 full: option(args, "--full", recorded.full as u64) as usize,
+                maps: option(args, "--maps", recorded.maps as u64) as usize,
+                full_lines: option(args, "--full-lines", recorded.full_lines as u64) as usize,
             })
         }
         _ => fail("vectors takes float, sheet_file or sheet, and a folder"),
@@ -228,6 +251,10 @@ fn main() -> ExitCode {
                     .listing()
                     .as_bytes(),
             );
+        }
+        ["map"] => {
+            let map = second::map(&input(), Fault::None);
+            output(second::map_text(&map).as_bytes());
         }
         ["original"] => original_rows(),
         ["vectors", crate_of, folder, ..] => vectors(crate_of, folder, &args),

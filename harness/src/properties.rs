@@ -1,19 +1,35 @@
-//! What document 01 says of every sheet, tried on the second program's answers.
+//! What documents 01 and 02 say of every sheet, tried on the second program's answers and maps.
 
-use crate::generate::{self, Case, Expected};
+use crate::generate::{self, Case, Expected, Kind};
+use crate::map_reader;
 use crate::random::Random;
-use crate::second::{self, Answer, Fault, ROW};
+use crate::second::{self, Answer, Fault, Map, ROOM, ROW};
 use crate::sheet::{Rest, Sheet};
 
 fn answer(sheet: &Sheet, buffer: usize) -> Answer {
     second::answer(&sheet.to_file(), buffer, Fault::None)
 }
 
-/// The points in another order get the same answer.
-fn any_order(sheet: &Sheet, case: &Case, right: &Answer) -> bool {
+fn another_order(sheet: &Sheet, case: &Case) -> Sheet {
     let mut other = sheet.clone();
     Random::new(case.seed).shuffle(&mut other.points);
-    answer(&other, case.buffer) == *right
+    other
+}
+
+/// The sheet moved by an offset in u and one in v, with the latter.
+fn moved(sheet: &Sheet, case: &Case) -> (Sheet, i32) {
+    let mut r = Random::new(case.seed);
+    let (du, dv) = (r.whole(-4000, 4000), r.whole(-4000, 4000));
+    let mut other = sheet.clone();
+    for p in &mut other.points {
+        (p.u, p.v) = (p.u.wrapping_add(du), p.v.wrapping_add(dv));
+    }
+    (other, dv)
+}
+
+/// The points in another order get the same answer.
+fn any_order(sheet: &Sheet, case: &Case, right: &Answer) -> bool {
+    answer(&another_order(sheet, case), case.buffer) == *right
 }
 
 /// "Changing only the two switches alters neither bit 0 nor bit 1."
@@ -47,12 +63,7 @@ fn unmoved(row: &[u8]) -> Vec<u8> {
 /// A whole move changes no more than that, and neither marks nor count if it leaves the
 /// validate marks alone.
 fn any_move(sheet: &Sheet, case: &Case, right: &Answer) -> bool {
-    let mut r = Random::new(case.seed);
-    let (du, dv) = (r.whole(-4000, 4000), r.whole(-4000, 4000));
-    let mut other = sheet.clone();
-    for p in &mut other.points {
-        (p.u, p.v) = (p.u.wrapping_add(du), p.v.wrapping_add(dv));
-    }
+    let (other, _) = moved(sheet, case);
     let marks =
         |rows: &[u8], bits: u8| -> Vec<u8> { rows.chunks(ROW).map(|row| row[0] & bits).collect() };
     let parts = |rows: &[u8]| -> Vec<Vec<u8>> { rows.chunks(ROW).map(unmoved).collect() };
@@ -78,7 +89,7 @@ fn any_move(sheet: &Sheet, case: &Case, right: &Answer) -> bool {
 /// The first of the cases on which one of these fails.
 pub fn first_failure(sheets: usize, seed: u64) -> Option<String> {
     for i in 0..sheets {
-        let case = generate::nth(seed, i);
+        let case = generate::nth(Kind::first(), seed, i);
         let Some(sheet) = Sheet::from_file(&case.file) else {
             continue;
         };
@@ -95,4 +106,83 @@ pub fn first_failure(sheets: usize, seed: u64) -> Option<String> {
         }
     }
     None
+}
+
+/// The validate marks of an accepted sheet.
+fn validate_marks(answer: &Answer) -> Option<Vec<u8>> {
+    match answer {
+        Answer::Refused(_) => None,
+        Answer::Accepted { rows, .. } => Some(rows.chunks(ROW).map(|row| row[0] & 1).collect()),
+    }
+}
+
+/// Whether a whole move that leaves the validate marks alone leaves the map's characters alone and
+/// moves the lines' numbers; none if the move changes those marks or leads out of range.
+fn any_map_move(sheet: &Sheet, case: &Case, right: &Answer, map: &Map) -> Option<bool> {
+    let (other, dv) = moved(sheet, case);
+    let (after, other) = second::answer_and_map(&other.to_file(), ROOM);
+    if validate_marks(right)? != validate_marks(&after)? {
+        return None;
+    }
+    Some(match (map, other) {
+        (Ok(map), Ok(other)) => {
+            let mut lines = map_reader::lines(map);
+            lines.iter_mut().flatten().for_each(|line| line.v += dv);
+            lines.is_some() && lines == map_reader::lines(&other)
+        }
+        (map, other) => *map == other,
+    })
+}
+
+/// The first of the cases whose map another order changes, or a whole move, or whose map does not
+/// say what its listing says; and how many were moved.
+pub fn first_map_failure(
+    kinds: &[(Kind, &str)],
+    sheets: usize,
+    seed: u64,
+) -> (Option<String>, usize) {
+    let mut all_moved = 0;
+    for i in 0..sheets {
+        let case = generate::nth(kinds, seed, i);
+        let (right, map) = second::answer_and_map(&case.file, ROOM);
+        let fails = |what: String| (Some(format!("{:?} {}: {what}", case.kind, case.seed)), 0);
+        if let Some(text) = map_reader::fault(&second::map_text(&map), &right.listing()) {
+            return fails(format!("beside its listing, {text}"));
+        }
+        let Some(sheet) = Sheet::from_file(&case.file) else {
+            continue;
+        };
+        if second::map(&another_order(&sheet, &case).to_file(), Fault::None) != map {
+            return fails("another order".into());
+        }
+        match any_map_move(&sheet, &case, &right, &map) {
+            Some(false) => return fails("a whole move".into()),
+            Some(true) => all_moved += 1,
+            None => {}
+        }
+    }
+    (None, all_moved)
+}
+
+/// The first small case and fault of the map, right maps aside, that the reader does not notice; and
+/// how many it noticed.
+pub fn first_unread(sheets: usize, seed: u64) -> (Option<String>, usize) {
+    let mut noticed = 0;
+    let all = (0..).map(|i| generate::nth(Kind::for_map(), seed, i));
+    let small = all.filter(|case| case.file.len() < 2000);
+    for case in small.take(sheets) {
+        let (right, map) = second::answer_and_map(&case.file, ROOM);
+        for &(fault, _) in Fault::MAP {
+            let wrong = second::map(&case.file, fault);
+            if wrong == map {
+                continue;
+            }
+            if map_reader::fault(&second::map_text(&wrong), &right.listing()).is_none() {
+                let name = format!("{:?} {}: {fault:?}", case.kind, case.seed);
+                return (Some(name), noticed);
+            }
+            noticed += 1;
+        }
+    }
+    (None, noticed)
 }

@@ -1,13 +1,12 @@
 //! The checks of the gate.
 
 use crate::bench;
-use crate::compare;
+use crate::compare::{self, Report};
 use crate::floats;
 use crate::generate::{self, Kind};
-use crate::mutants;
+use crate::mutants::{self, Part};
 use crate::properties;
 use crate::run_original;
-use crate::second::Fault;
 use crate::sheet::Sheet;
 use crate::stars;
 use crate::text;
@@ -32,25 +31,59 @@ fn text_and_back() -> bool {
     })
 }
 
-/// The generated sheets through both programs, or through the second alone.
-fn comparison() -> (String, bool) {
-    let report = compare::run(4600, 1, None);
+/// Generated sheets of some kinds through both programs, or through the second alone.
+fn comparison(of: &str, report: &Report) -> (String, bool) {
     report.print();
     let name = if cfg!(original_at_hand) {
         "the original and the second program agree"
     } else {
         "damaged files get their numbers, the others none"
     };
-    (name.into(), report.failed == 0)
+    (format!("{of}: {name}"), report.failed == 0)
 }
 
-/// Whether some generated sheet shows each fault that one can show.
-fn faults() -> Vec<(String, bool)> {
-    let shown = mutants::run(27_000, 0, true);
-    let faults = Fault::ALL.iter().zip(shown);
+/// The sheets of all kinds, then those made for the map, which must meet each of its limits.
+fn comparisons() -> Vec<(String, bool)> {
+    let sheets = compare::run(Kind::first(), 4600, 1);
+    let maps = compare::run(Kind::for_map(), 900, 1);
+    let mut checks = vec![
+        comparison("sheets of all kinds", &sheets),
+        comparison("sheets made for the map", &maps),
+    ];
+    let met = maps.met.each();
+    checks.extend(met.map(|(name, sheets)| (format!("a sheet with {name}"), sheets > 0)));
+    checks
+}
+
+/// Whether some generated sheet shows each fault of a part that one can show.
+fn faults<T: PartialEq>(part: &Part<T>) -> Vec<(String, bool)> {
+    let shown = mutants::run(part, 27_000, 0, true);
+    let faults = part.faults.iter().zip(shown);
     let can = faults.filter(|((fault, _), _)| mutants::can_show(*fault));
     can.map(|((_, text), (seen, _))| (format!("a sheet shows the fault: {text}"), seen > 0))
         .collect()
+}
+
+/// What holds of every sheet and every map.
+fn properties() -> Vec<(String, bool)> {
+    let failure = properties::first_failure(810, 2);
+    let sheets = (
+        format!("order, move and switches: {failure:?}"),
+        failure.is_none(),
+    );
+    let maps = |kinds| {
+        let (failure, moved) = properties::first_map_failure(kinds, 810, 2);
+        println!("of 810 maps {moved} with a whole move that keeps the validate marks");
+        let holds = failure.is_none() && moved > 0;
+        (format!("maps: form, order and move: {failure:?}"), holds)
+    };
+    let (unread, noticed) = properties::first_unread(150, 2);
+    println!("{noticed} wrong maps, which the reader notices");
+    let reader = (
+        format!("the reader notices every wrong map: {unread:?}"),
+        unread.is_none() && noticed > 0,
+    );
+    vec![sheets, maps(Kind::first()), maps(Kind::for_map()), reader]
 }
 
 /// Whether the recorded files of the vector crates are those that are made here. The sheets are
@@ -74,13 +107,10 @@ fn recorded() -> Vec<(String, bool)> {
 /// Runs all checks; true if all hold.
 pub fn run() -> bool {
     let mut checks = stars::checks();
-    checks.push(comparison());
-    checks.extend(faults());
-    let failure = properties::first_failure(810, 2);
-    checks.push((
-        format!("order, move and switches: {failure:?}"),
-        failure.is_none(),
-    ));
+    checks.extend(comparisons());
+    checks.extend(faults(&mutants::answers()));
+    checks.extend(faults(&mutants::maps()));
+    checks.extend(properties());
     checks.push(("text and back".into(), text_and_back()));
     checks.push((
         "roots over whole numbers".into(),

@@ -1,5 +1,5 @@
-//! The sheets that document 01 names, with what it says of them, and one on which the Rust's
-//! acos differs.
+//! The sheets that document 01 names, with what it says of them, one on which the Rust's acos
+//! differs, and maps written out from document 02, A.1.
 
 use crate::second::{self, over_30_degrees, Answer, Fault};
 use crate::text;
@@ -109,6 +109,55 @@ const SHEETS: &[(&str, &str, Says)] = &[
     ),
 ];
 
+/// Sheets with the beginnings of their map's lines, which full stops and a space fill up, or with
+/// what is printed otherwise.
+const MAPS: &[(&str, &str, &[&str])] = &[
+    (
+        "the map of five points",
+        "cell 100\n5 5 14 500 500\n0 0 10 0 0\n1 0 11 100 0\n0 1 12 0 100\n1 1 13 100 100",
+        &[
+            "     0 ##",
+            "     1 ##",
+            "     2 ",
+            "     3 ",
+            "     4 ",
+            "     5 .....C",
+        ],
+    ),
+    ("the map of no points", "cell 100", &[]),
+    (
+        "the map of 19 pixels apart, at negative cells",
+        "cell 100\n-8000 -10 1 0 0\n-8000 -9 2 19 0",
+        &["   -10 W", "    -9 W"],
+    ),
+    (
+        "the map of cells at both ends of a line",
+        "cell 100\n8000 8000 1 7200 0\n7929 8000 2 100 0",
+        &["  8000 #......................................................................C"],
+    ),
+    (
+        "the map of 73 values of u",
+        "cell 100\n8000 8000 1 7200 0\n7928 8000 2 100 0",
+        &["refused 10"],
+    ),
+    (
+        "the map of 61 values of v",
+        "cell 100\n0 -30 1 0 0\n0 30 2 0 6000",
+        &["refused 10"],
+    ),
+    (
+        "the map of 73 values of u and a repeated index",
+        "cell 100\n0 0 1 0 0\n72 0 1 0 1",
+        &["refused 9"],
+    ),
+    // Each point has two line flags, and the two lie 10 pixels apart: V before W.
+    (
+        "the map of points with two marks",
+        "settings 100 -1 1 0.2 0 0 1 1\n-1 0 1 0 0\n0 0 2 10 0",
+        &["     0 VV"],
+    ),
+];
+
 const REPEATED_AND_INFINITE: &str = "cell 100\n0 0 1 0x7F800000 0\n0 0 2 0 0";
 
 fn mark_word(line: &str) -> &str {
@@ -129,6 +178,20 @@ fn listing_of(sheet: &str) -> String {
     second::answer(&file, 1 << 16, Fault::None).listing()
 }
 
+/// The whole text that the beginnings of a map's lines stand for.
+fn whole_map(lines: &[&str]) -> String {
+    let line = |line: &&str| match line.starts_with("refused") {
+        true => format!("{line}\n"),
+        false => format!("{line:.<79} \n"),
+    };
+    lines.iter().map(line).collect()
+}
+
+fn map_of(sheet: &str) -> String {
+    let file = text::from_text(sheet).unwrap().to_file();
+    second::map_text(&second::map(&file, Fault::None))
+}
+
 /// A row of n points, the settings on top.
 fn row(n: usize) -> String {
     (0..n).fold("cell 100\n".into(), |text, k| {
@@ -146,6 +209,25 @@ pub fn files() -> Vec<Vec<u8>> {
         file(REPEATED_AND_INFINITE),
         Vec::new(),
     ]);
+    out.extend(MAPS.iter().map(|(_, sheet, _)| file(sheet)));
+    out
+}
+
+/// The maps written out, each with whether it holds.
+fn maps() -> Vec<(String, bool)> {
+    let check = |(name, sheet, lines): &(&str, &str, &[&str])| {
+        (name.to_string(), map_of(sheet) == whole_map(lines))
+    };
+    let mut out: Vec<(String, bool)> = MAPS.iter().map(check).collect();
+    let mut also = |name: &str, holds: bool| out.push((name.to_string(), holds));
+    also(
+        "the map of 2,048 points",
+        map_of(&row(2048)) == "refused 10\n",
+    );
+    also(
+        "the map of 2,049 points",
+        map_of(&row(2049)) == "refused 2\n",
+    );
     out
 }
 
@@ -160,6 +242,7 @@ pub fn checks() -> Vec<(String, bool)> {
         };
         out.push((name.to_string(), holds));
     }
+    out.extend(maps());
     let mut also = |name: &str, holds: bool| out.push((name.to_string(), holds));
     also("2,049 points", listing_of(&row(2049)) == "refused 2\n");
     also(

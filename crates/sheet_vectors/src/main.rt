@@ -1,10 +1,11 @@
-// Replays recorded sheet files (harness/README.md, "Vectors"): each through `kept::keep` with a buffer of the recorded length, and through
-// `sheet_listing::list_sheet`. It writes a line for each file whose number, counts, rows, bytes after the rows or listing differ from the
-// record, and at the end how many files there were and how many differ.
+// Replays recorded sheet files (harness/README.md, "Vectors"): each through `kept::keep` with a buffer of the recorded length, through
+// `sheet_listing::list_sheet` and through `sheet_map::draw_sheet`. It writes a line for each file whose number, counts, rows, bytes after the
+// rows, listing or map differ from the record, and at the end how many files there were and how many differ.
 use kept::Answer;
 use libc::STDIN_FILENO;
 use libc::STDOUT_FILENO;
 use listing::LISTING_SIZE;
+use map_lines::MAP_SIZE;
 use text::Written;
 use view::MAX_POINTS;
 
@@ -20,6 +21,7 @@ struct Case {
     points: usize,
     components: usize,
     listing_size: usize,
+    map_size: usize,
 }
 
 fn read_number() -> usize {
@@ -36,6 +38,7 @@ fn read_case() -> Case {
         points: read_number(),
         components: read_number(),
         listing_size: read_number(),
+        map_size: read_number(),
     }
 }
 
@@ -87,20 +90,42 @@ fn is_listed(file: &[u8], listing: &[u8]) -> bool {
     }
 }
 
-// What is recorded holds of the file, which stands at the start of its buffer, as its listing does.
-fn agrees(file: &[u8], case: Case, rows: &mut [u8], expected: &[u8], listing: &[u8]) -> bool {
+fn is_drawn(file: &[u8], map: &[u8]) -> bool {
+    let mut out = [0u8; MAP_SIZE];
+    match sheet_map::draw_sheet(file, &mut out) {
+        Written::Whole(n) => check::same(&out[..n], map),
+        Written::NoRoom => false,
+    }
+}
+
+// What is recorded holds of the file, which stands at the start of its buffer, as its listing and its map do.
+fn agrees(
+    file: &[u8],
+    case: Case,
+    rows: &mut [u8],
+    expected: &[u8],
+    listing: &[u8],
+    map: &[u8],
+) -> bool {
     let size = case.file_size;
     let length = case.listing_size;
+    let map_length = case.map_size;
     if file.len() < size {
         return false;
     }
     if listing.len() < length {
         return false;
     }
+    if map.len() < map_length {
+        return false;
+    }
     if !is_kept(&file[..size], case, rows, expected) {
         return false;
     }
-    is_listed(&file[..size], &listing[..length])
+    if !is_listed(&file[..size], &listing[..length]) {
+        return false;
+    }
+    is_drawn(&file[..size], &map[..map_length])
 }
 
 // Reads one case and replays it.
@@ -109,6 +134,7 @@ fn replay() -> bool {
     let mut file = [0u8; LONGEST];
     let mut expected = [0u8; ROOM];
     let mut listing = [0u8; LISTING_SIZE];
+    let mut map = [0u8; MAP_SIZE];
     fill(&mut expected);
     let points = case.points;
     if MAX_POINTS < points {
@@ -123,8 +149,11 @@ fn replay() -> bool {
     if !read_part(&mut listing, case.listing_size) {
         return false;
     }
+    if !read_part(&mut map, case.map_size) {
+        return false;
+    }
     let mut rows = [0u8; ROOM];
-    agrees(&file, case, &mut rows, &expected, &listing)
+    agrees(&file, case, &mut rows, &expected, &listing, &map)
 }
 
 fn main() {

@@ -84,6 +84,14 @@ fn ours(rounds: &Rounds, sheet: &Sheet) -> Option<f64> {
     Some(all_ours(rounds, sheet)?[0])
 }
 
+/// The map's call on a sheet, file to text; nothing without the library.
+fn our_map(rounds: &Rounds, sheet: &Sheet) -> Option<f64> {
+    let file = sheet.to_file();
+    let mut text = [0; library::MAP_SIZE];
+    library::call_map(&file, &mut text)?;
+    Some(rounds.least(|| library::call_map(&file, &mut text)))
+}
+
 /// The original's `drop_set` on a sheet made ready; nothing without the original.
 fn theirs(rounds: &Rounds, sheet: &Sheet) -> Option<f64> {
     let prepared = Prepared::new(sheet)?;
@@ -217,6 +225,40 @@ fn growth(out: &mut Text, rounds: &Rounds) {
     }
 }
 
+/// The call for the map beside that for the rows.
+fn maps(out: &mut Text, rounds: &Rounds) {
+    out.line("\nThe map beside the rows, step flag and edge gate on; µs:\n");
+    out.line("| sheet | points | lines | rows | map | map / rows | the second program's map |");
+    out.line("|---|---|---|---|---|---|---|");
+    let sheets = [
+        ("no points", Cells::Board(1), 0),
+        ("10 by 10 board", Cells::Board(10), 100),
+        ("45 by 45 board", Cells::Board(45), 2025),
+        ("72 by 28 board", Cells::Board(28), 2016),
+        ("34 by 60 board", Cells::Board(60), 2040),
+        ("ragged, a third missing", Cells::Ragged(60), MAX_POINTS),
+        ("one row, too wide", Cells::Row, MAX_POINTS),
+    ];
+    for (name, cells, n) in sheets {
+        let sheet = Shape::new(cells, n).sheet();
+        let file = sheet.to_file();
+        let lines = second::map(&file, Fault::None).map_or(0, |text| text.lines().count());
+        let (rows, map) = (ours(rounds, &sheet), our_map(rounds, &sheet));
+        let second = rounds.least(|| second::map(&file, Fault::None));
+        let times = [
+            whole(rows),
+            whole(map),
+            one_place(ratio(map, rows)),
+            whole(Some(second)),
+        ];
+        let points = whole(Some(n as f64));
+        out.line(&format!(
+            "| {name} | {points} | {lines} | {} |",
+            times.join(" | ")
+        ));
+    }
+}
+
 struct Text(String);
 
 impl Text {
@@ -240,6 +282,7 @@ pub fn run(runs: usize, count: usize, file: Option<&str>) {
         sizes(&mut out, &rounds);
         hard(&mut out, &rounds);
         growth(&mut out, &rounds);
+        maps(&mut out, &rounds);
     }
     print!("{}", out.0);
     let Some(file) = file else { return };

@@ -53,7 +53,7 @@ impl View {
 }
 
 /// A board of width by height cells from (0,0), indices rising.
-fn board(r: &mut Random, width: i32, height: i32) -> Sheet {
+pub fn board(r: &mut Random, width: i32, height: i32) -> Sheet {
     let view = View::new(r, width, height);
     let mut points = Vec::new();
     for u in 0..width {

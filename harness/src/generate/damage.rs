@@ -1,6 +1,6 @@
 //! Damaged files, with the number that they must be refused with.
 
-use super::{sheet, Case, Expected, Kind};
+use super::{pages, sheet, Case, Expected, Kind};
 use crate::random::Random;
 use crate::second::{MAX_POINTS, ROW};
 use crate::sheet::{field, Gate, Point, Rest, Sheet};
@@ -170,38 +170,49 @@ pub fn several(r: &mut Random, seed: u64) -> Case {
     if r.one_in(60) {
         chosen.push(2);
     }
-    // Later numbers first, so that an earlier damage cannot undo a later one.
     chosen.sort_unstable();
     chosen.dedup();
-    for &number in chosen.iter().rev() {
-        let at = r.below(s.points.len());
-        match number {
-            2 => too_many(r, &mut s),
-            4 => bad_flag(r, &mut s),
-            5 => bad_float(r, &mut s),
-            6 => bad_cell(r, &mut s.points[at]),
-            7 => bad_position(r, &mut s.points[at]),
-            8 => {
-                let whole = r.one_in(4);
-                repeat_cell(r, &mut s, whole)
-            }
-            9 => tear_index(r, &mut s),
-            _ => {}
-        }
-    }
-    let needed = s.points.len() * ROW;
-    let buffer = if chosen.contains(&3) {
-        r.pick(&[0, needed / 2, needed - 1])
-    } else {
-        needed
-    };
-    let expected = Expected::Refused(chosen[0]);
+    let buffer = put_in(r, &mut s, &chosen);
     Case {
         kind: Kind::Damaged,
         seed,
         file: s.to_file(),
         buffer,
-        expected,
+        expected: Expected::Refused(chosen[0]),
+        map: map_number(&s, &chosen),
+    }
+}
+
+/// What the map of a damaged sheet must be: it has room for all rows, so 3 does not count.
+pub fn map_number(s: &Sheet, chosen: &[u8]) -> Expected {
+    let older = chosen.iter().find(|&&number| number != 3);
+    older.map_or_else(|| pages::expected(s), |&number| Expected::Refused(number))
+}
+
+/// Puts in the damages of these numbers, rising, and gives the length of the buffer.
+pub fn put_in(r: &mut Random, s: &mut Sheet, chosen: &[u8]) -> usize {
+    // Later numbers first, so that an earlier damage cannot undo a later one.
+    for &number in chosen.iter().rev() {
+        let at = r.below(s.points.len());
+        match number {
+            2 => too_many(r, s),
+            4 => bad_flag(r, s),
+            5 => bad_float(r, s),
+            6 => bad_cell(r, &mut s.points[at]),
+            7 => bad_position(r, &mut s.points[at]),
+            8 => {
+                let whole = r.one_in(4);
+                repeat_cell(r, s, whole)
+            }
+            9 => tear_index(r, s),
+            _ => {}
+        }
+    }
+    let needed = s.points.len() * ROW;
+    if chosen.contains(&3) {
+        r.pick(&[0, needed / 2, needed - 1])
+    } else {
+        needed
     }
 }
 
@@ -253,6 +264,7 @@ pub fn framing(r: &mut Random, seed: u64) -> Case {
         file,
         buffer,
         expected: Expected::Refused(1),
+        map: Expected::Refused(1),
     }
 }
 
@@ -272,5 +284,6 @@ pub fn scrambled(r: &mut Random, seed: u64) -> Case {
         file,
         buffer,
         expected: Expected::Unknown,
+        map: Expected::Unknown,
     }
 }

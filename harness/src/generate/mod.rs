@@ -3,6 +3,7 @@
 mod boards;
 mod changes;
 mod damage;
+mod pages;
 mod settings;
 mod small;
 
@@ -50,6 +51,12 @@ kinds! {
     Damaged: "damaged files, several damages at once among them",
     Framing: "files whose fields, lengths or end are wrong",
     Scrambled: "files with bytes changed at random",
+    Spans: "spans at and beside 72 values of u and 60 of v, of few points or many",
+    Holes: "rows and columns that no point has",
+    FullLines: "lines without a gap, 72 by 28 and 34 by 60 cells among them",
+    Several: "points that several filters mark",
+    FarPages: "spans at the map's limits, cells at the limits of 8,000",
+    DamagedPages: "damaged files, too wide for a map at times",
 }
 
 /// What the generator knows of the answer.
@@ -68,9 +75,24 @@ pub struct Case {
     pub file: Vec<u8>,
     pub buffer: usize,
     pub expected: Expected,
+    /// What is known of the map.
+    pub map: Expected,
 }
 
+/// How many kinds there were before those for the map: the seeds of the first ones go by it.
+const FIRST: usize = 27;
+
 impl Kind {
+    /// The kinds of all sheets.
+    pub fn first() -> &'static [(Kind, &'static str)] {
+        &Kind::ALL[..FIRST]
+    }
+
+    /// The kinds made for the map.
+    pub fn for_map() -> &'static [(Kind, &'static str)] {
+        &Kind::ALL[FIRST..]
+    }
+
     pub fn from_name(name: &str) -> Option<Kind> {
         let matches = |(kind, _): &&(Kind, &str)| format!("{kind:?}").eq_ignore_ascii_case(name);
         Kind::ALL.iter().find(matches).map(|&(kind, _)| kind)
@@ -79,7 +101,11 @@ impl Kind {
 
 /// The case of a kind and a seed.
 pub fn case(kind: Kind, seed: u64) -> Case {
-    let mut random = Random::new(seed * Kind::ALL.len() as u64 + kind as u64);
+    let place = kind as u64;
+    if kind as usize >= FIRST {
+        return pages::case(kind, &mut Random::new(seed ^ place << 56), seed);
+    }
+    let mut random = Random::new(seed * FIRST as u64 + place);
     let r = &mut random;
     match kind {
         Kind::Damaged => damage::several(r, seed),
@@ -95,6 +121,7 @@ pub fn case(kind: Kind, seed: u64) -> Case {
                 file,
                 buffer,
                 expected: Expected::Accepted,
+                map: pages::expected(&sheet),
             }
         }
     }
@@ -122,13 +149,13 @@ pub fn full(seed: u64) -> Case {
         buffer: sheet.points.len() * ROW + r.pick(&[0, 1, 100]),
         file: sheet.to_file(),
         expected: Expected::Accepted,
+        map: pages::expected(&sheet),
     }
 }
 
-/// Case i of a run: the kinds in turn, each with rising seeds from `seed` on.
-pub fn nth(seed: u64, i: usize) -> Case {
-    let kinds = Kind::ALL.len();
-    case(Kind::ALL[i % kinds].0, seed + (i / kinds) as u64)
+/// Case i of a run: some kinds in turn, each with rising seeds from `seed` on.
+pub fn nth(kinds: &[(Kind, &str)], seed: u64, i: usize) -> Case {
+    case(kinds[i % kinds.len()].0, seed + (i / kinds.len()) as u64)
 }
 
 /// An accepted sheet of a kind.

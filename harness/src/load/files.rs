@@ -1,6 +1,7 @@
 //! The files of the load: random, framed, generated, damaged and large ones.
 
 use crate::generate::{self, Kind};
+use crate::library::MAP_SIZE;
 use crate::random::Random;
 use crate::second::{MAX_POINTS, ROW};
 use crate::shapes::{self, any_bits};
@@ -192,6 +193,19 @@ fn claimed(file: &[u8]) -> Option<usize> {
         at += 3 + usize::from(u16::from_le_bytes([*file.get(at + 1)?, *file.get(at + 2)?]));
     }
     Some(usize::from(u16::from_le_bytes([*file.get(at + 1)?, *file.get(at + 2)?])) / 20)
+}
+
+/// The length of the buffer that a map's text of some length is asked for with.
+pub fn map_buffer(r: &mut Random, length: usize) -> usize {
+    match r.below(20) {
+        0 | 1 => 0,
+        2..5 => length.saturating_sub(1),
+        5 => r.below(length + 1),
+        6..8 => length + r.below(100),
+        8..11 => MAP_SIZE,
+        11 => r.below(70_000),
+        _ => length,
+    }
 }
 
 /// The file of a seed.

@@ -1,12 +1,14 @@
-//! The call with a deliberate fault: the load must notice each.
+//! The two calls with a deliberate fault: the load must notice each.
 
 use crate::clock::processor;
-use crate::library;
+use crate::guarded::Call;
+use crate::library::{self, Calls, NO_ROOM};
 use std::hint::black_box;
 use std::sync::atomic::{AtomicUsize, Ordering};
 use std::time::Duration;
 
-pub const FAULTS: [&str; 14] = [
+/// Faults of the call for rows.
+const KEEP: [&str; 14] = [
     "reads a byte beyond the file",
     "reads a byte before the file",
     "writes a byte beyond the buffer",
@@ -23,25 +25,72 @@ pub const FAULTS: [&str; 14] = [
     "takes 400 KB more of the stack",
 ];
 
-/// The fault that `call` has, counted from 0.
-pub static CHOSEN: AtomicUsize = AtomicUsize::new(0);
+/// Faults of the call for the map.
+const MAP: [&str; 14] = [
+    "map: reads a byte beyond the file",
+    "map: reads a byte before the file",
+    "map: writes a byte beyond the buffer",
+    "map: writes a byte before the buffer",
+    "map: writes a byte beyond the text",
+    "map: changes the file",
+    "map: changes the last character",
+    "map: counts a byte too many",
+    "map: finds no room in a buffer of the text's length",
+    "map: finds room in a buffer of one byte less",
+    "map: writes nothing without room",
+    "map: answers as in the call before",
+    "map: takes 10 ms more than the limit",
+    "map: takes 400 KB more of the stack",
+];
+
+/// What is wrong under each fault, counted from 0.
+pub fn faults() -> impl Iterator<Item = &'static str> {
+    KEEP.into_iter().chain(MAP)
+}
+
+/// The fault that a call has, counted from 0.
+static CHOSEN: AtomicUsize = AtomicUsize::new(0);
 static BEFORE: AtomicUsize = AtomicUsize::new(1);
 
-/// The library's function, with the chosen fault.
-pub unsafe extern "C" fn call(
-    file: *const u8,
-    file_len: usize,
-    rows: *mut u8,
-    rows_len: usize,
-) -> u64 {
-    let flip = |at: *mut u8| at.write_volatile(at.read_volatile() ^ 1);
-    let keep = library::function().unwrap();
+/// The library's functions, one of them with a fault.
+pub fn calls(right: Calls, fault: usize) -> Calls {
+    let of_map = fault >= KEEP.len();
+    let first = if of_map { KEEP.len() } else { 0 };
+    CHOSEN.store(fault - first, Ordering::Relaxed);
+    if of_map {
+        Calls { map, ..right }
+    } else {
+        Calls { keep, ..right }
+    }
+}
+
+unsafe fn flip(at: *mut u8) {
+    at.write_volatile(at.read_volatile() ^ 1);
+}
+
+unsafe fn look(at: *const u8) {
+    black_box(at.read_volatile());
+}
+
+/// The answer of the call before.
+fn earlier(returned: u64) -> u64 {
+    BEFORE.swap(returned as usize, Ordering::Relaxed) as u64
+}
+
+fn linger() {
+    let start = processor();
+    while processor() - start < super::LIMIT + Duration::from_millis(10) {}
+}
+
+/// The library's function for rows, with the chosen fault.
+unsafe extern "C" fn keep(file: *const u8, file_len: usize, rows: *mut u8, rows_len: usize) -> u64 {
+    let keep = library::functions().unwrap().keep;
     let returned = keep(file, file_len, rows, rows_len);
     let accepted = returned >> 32 == 1;
     let points = (returned >> 16 & 0xFFFF) as usize;
     match CHOSEN.load(Ordering::Relaxed) {
-        0 => drop(black_box(file.wrapping_add(file_len).read_volatile())),
-        1 => drop(black_box(file.wrapping_sub(1).read_volatile())),
+        0 => look(file.wrapping_add(file_len)),
+        1 => look(file.wrapping_sub(1)),
         2 => flip(rows.wrapping_add(rows_len)),
         3 => flip(rows.wrapping_sub(1)),
         4 if accepted && rows_len > 28 * points => flip(rows.add(28 * points)),
@@ -51,12 +100,38 @@ pub unsafe extern "C" fn call(
         8 => return 0,
         9 if points > 0 => return returned + 1,
         10 if points > 0 => flip(rows.add(28 * points - 1)),
-        11 => return BEFORE.swap(returned as usize, Ordering::Relaxed) as u64,
-        12 => {
-            let start = processor();
-            while processor() - start < super::LIMIT + Duration::from_millis(10) {}
-        }
+        11 => return earlier(returned),
+        12 => linger(),
         13 => return deep(keep, file, file_len, rows, rows_len),
+        _ => {}
+    }
+    returned
+}
+
+/// The library's function for the map, with the chosen fault.
+unsafe extern "C" fn map(file: *const u8, file_len: usize, text: *mut u8, text_len: usize) -> u64 {
+    let map = library::functions().unwrap().map;
+    let before: Vec<u8> = (0..text_len).map(|k| text.add(k).read()).collect();
+    let returned = map(file, file_len, text, text_len);
+    let (whole, length) = (returned != NO_ROOM, returned as usize);
+    match CHOSEN.load(Ordering::Relaxed) {
+        0 => look(file.wrapping_add(file_len)),
+        1 => look(file.wrapping_sub(1)),
+        2 => flip(text.wrapping_add(text_len)),
+        3 => flip(text.wrapping_sub(1)),
+        4 if whole && text_len > length => flip(text.add(length)),
+        5 if file_len > 0 => flip(file.add(file_len / 2).cast_mut()),
+        6 if whole && length > 0 => flip(text.add(length - 1)),
+        7 if whole => return returned + 1,
+        8 if whole && text_len == length => return NO_ROOM,
+        9 if !whole => return text_len as u64 + 1,
+        10 if !whole => before
+            .iter()
+            .enumerate()
+            .for_each(|(k, byte)| text.add(k).write(*byte)),
+        11 => return earlier(returned),
+        12 => linger(),
+        13 => return deep(map, file, file_len, text, text_len),
         _ => {}
     }
     returned
@@ -65,14 +140,14 @@ pub unsafe extern "C" fn call(
 /// The call again, below an array on the stack.
 #[inline(never)]
 unsafe fn deep(
-    keep: crate::guarded::Call,
+    call: Call,
     file: *const u8,
     file_len: usize,
-    rows: *mut u8,
-    rows_len: usize,
+    buffer: *mut u8,
+    buffer_len: usize,
 ) -> u64 {
     let below = black_box([1u8; 400_000]);
-    let returned = keep(file, file_len, rows, rows_len);
+    let returned = call(file, file_len, buffer, buffer_len);
     black_box(below[returned as usize % below.len()]);
     returned
 }

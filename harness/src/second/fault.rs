@@ -1,19 +1,23 @@
 //! Deliberate faults of the second program: what the generated sheets must bring to light.
 
 macro_rules! faults {
-    ($($name:ident: $text:literal,)*) => {
+    ($($name:ident: $text:literal,)* ; $($of_map:ident: $what:literal,)*) => {
         #[derive(Clone, Copy, Debug, PartialEq, Eq)]
         pub enum Fault {
-            /// No fault: the program as document 01 has it.
+            /// No fault: the program as documents 01 and 02 have it.
             None,
             /// Angles judged by the Rust's acos, to explain a difference.
             AnglesByAcos,
             $($name,)*
+            $($of_map,)*
         }
 
         impl Fault {
-            /// Every deliberate fault with what is wrong.
+            /// Every deliberate fault of the answer to a file, with what is wrong.
             pub const ALL: &'static [(Fault, &'static str)] = &[$((Fault::$name, $text),)*];
+
+            /// Every deliberate fault of the map.
+            pub const MAP: &'static [(Fault, &'static str)] = &[$((Fault::$of_map, $what),)*];
 
             /// a above b; under the fault `wrong` also where they are equal.
             pub fn above(self, a: f32, b: f32, wrong: Fault) -> bool {
@@ -90,4 +94,27 @@ faults! {
     CellsBeforePositions: "refusal 8 is given before 7",
     FlagsAfterFloats: "refusal 5 is given before 4",
     TailTaken: "bytes after the last field are taken",
+    // Those of the map.
+    ;
+    MapColumnShort: "a line of the map has 71 cell characters",
+    MapNarrow: "a line of the map ends at the largest u",
+    MapLastSpace: "a line of the map has no space at its end",
+    Map71Allowed: "a map of 72 values of u is refused",
+    Map73Allowed: "a map of 73 values of u is drawn",
+    Map59Allowed: "a map of 60 values of v is refused",
+    Map61Allowed: "a map of 61 values of v is drawn",
+    MapSpanWithoutOne: "a map's span is the largest less the smallest",
+    MapLimitsExchanged: "a map may span 60 values of u and 72 of v",
+    MapBothTooWide: "a map is refused only if both spans are too wide",
+    MapRefusedFirst: "10 is given before the older numbers",
+    MapExchanged: "u and v are exchanged on the map",
+    MapFromLargest: "the map's lines run from the largest v to the smallest",
+    MapOwnSmallest: "a line of the map begins at its own smallest u",
+    MapLineLost: "a line of the map that no point has is left out",
+    MapEmptyLine: "no points give an empty line",
+    MapLastFilter: "the map has the letter of the last filter",
+    MapLeftAligned: "v is left-aligned",
+    MapSignApart: "the minus sign of v stands apart in the first column",
+    MapNegativeWider: "a negative v takes a column more",
+    MapZeros: "v has leading zeros",
 }

@@ -5,6 +5,8 @@ use super::plane::Vector;
 
 pub const MAX_POINTS: usize = 2048;
 pub const ROW: usize = 28;
+/// A buffer of this length has room for the rows of every sheet.
+pub const ROOM: usize = ROW * MAX_POINTS;
 
 #[derive(Clone, Copy, Debug)]
 pub struct Settings {
@@ -128,7 +130,7 @@ fn points(data: &[u8]) -> Option<Vec<Point>> {
 }
 
 /// The contents of a well-framed file, its points in file order.
-fn framed(file: &[u8], fault: Fault) -> Option<Sheet> {
+pub fn framed(file: &[u8], fault: Fault) -> Option<Sheet> {
     let (first, second, third) = match fields(file, fault)?.as_slice() {
         [(1, first), (3, third)] => (*first, None, *third),
         [(1, first), (2, second), (3, third)] => (*first, Some(*second), *third),

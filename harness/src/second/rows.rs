@@ -4,16 +4,12 @@ use super::board::Board;
 use super::edge::Figures;
 use super::fault::Fault;
 use super::file::ROW;
+use super::filters::{self, Filter, FILTERS};
 use super::validate::Findings;
 use std::fmt::Write;
 
-/// The marks of the four filters, each at the home of its index.
-pub struct Marks<'a> {
-    pub validate: &'a [bool],
-    pub orientation: &'a [bool],
-    pub wrong_label: &'a [bool],
-    pub component: &'a [bool],
-}
+/// The marks of each filter, in the order of the table, at the home of their index.
+pub type Marks<'a> = [&'a [bool]; FILTERS.len()];
 
 /// "Absent is zero; NaN is 0x7FC00000."
 fn bits(float: Option<f32>) -> u32 {
@@ -51,15 +47,10 @@ pub fn rows(board: &Board, findings: &Findings, marks: &Marks, fault: Fault) -> 
     let mut out = Vec::with_capacity(ROW * board.len());
     for k in 0..board.len() {
         let home = board.home[k];
-        let component = if fault == Fault::ComponentByCell {
-            k
-        } else {
-            home
-        };
-        let byte = u8::from(marks.validate[home])
-            | u8::from(marks.orientation[home]) << 1
-            | u8::from(marks.wrong_label[home]) << 2
-            | u8::from(marks.component[component]) << 3;
+        let byte = FILTERS.iter().zip(marks).fold(0, |byte, (filter, marked)| {
+            let by_cell = fault == Fault::ComponentByCell && filter.letter == 'C';
+            byte | u8::from(marked[if by_cell { k } else { home }]) << filter.bit
+        });
         let figures = findings
             .figures
             .as_ref()
@@ -72,14 +63,16 @@ pub fn rows(board: &Board, findings: &Findings, marks: &Marks, fault: Fault) -> 
 /// What the program `sheet` prints for an accepted file.
 pub fn listing(board: &Board, rows: &[u8], components: usize) -> String {
     let mut out = String::new();
-    // kept, validate, orientation, wrong label, component
-    let mut tally = [0; 5];
+    let mut kept = 0;
+    let mut tally = [0; FILTERS.len()];
     writeln!(out, "points {} components {components}", board.len()).unwrap();
     for (p, row) in board.points.iter().zip(rows.chunks(ROW)) {
-        let marked = |k: usize| row[0] >> k & 1 == 1;
-        tally[(0..4).find(|&k| marked(k)).map_or(0, |k| k + 1)] += 1;
-        let letter = |(k, c)| if marked(k) { c } else { '-' };
-        let marks: String = "VOWC".chars().enumerate().map(letter).collect();
+        match filters::first(row[0]) {
+            None => kept += 1,
+            Some(k) => tally[k] += 1,
+        }
+        let letter = |f: &Filter| if f.marks(row[0]) { f.letter } else { '-' };
+        let marks: String = FILTERS.iter().map(letter).collect();
         let reason = match row[1] {
             0 => "-".to_string(),
             number => number.to_string(),
@@ -95,11 +88,10 @@ pub fn listing(board: &Board, rows: &[u8], components: usize) -> String {
         )
         .unwrap();
     }
-    let [kept, validate, orientation, wrong, component] = tally;
-    writeln!(
-        out,
-        "kept {kept} validate {validate} orientation {orientation} wrong {wrong} component {component}"
-    )
-    .unwrap();
+    write!(out, "kept {kept}").unwrap();
+    for (filter, count) in FILTERS.iter().zip(tally) {
+        write!(out, " {} {count}", filter.word).unwrap();
+    }
+    out.push('\n');
     out
 }

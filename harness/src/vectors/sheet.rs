@@ -3,10 +3,12 @@
 //! Numbers are little-endian u32. `stdin` is the count of cases, then each case:
 //!
 //! ```text
-//! file length, buffer length, refusal number (0: accepted), points, components, listing length
+//! file length, buffer length, refusal number (0: accepted), points, components, listing length,
+//! map length
 //! the file's bytes
 //! the rows, 28 bytes a point (none for a refusal)
 //! the listing's bytes, by a buffer with room for every sheet
+//! the map's bytes
 //! ```
 //!
 //! A generated case stands there only if the original agrees with the second program, where it is at
@@ -14,12 +16,9 @@
 
 use super::Vectors;
 use crate::compare::{self, Verdict};
-use crate::generate::{self, Case};
-use crate::second::{self, Answer, Fault};
+use crate::generate::{self, Case, Kind};
+use crate::second::{self, Answer, Fault, Map, ROOM};
 use crate::stars;
-
-/// Room for the rows of every sheet.
-const FULL_BUFFER: usize = 28 * 2048;
 
 fn put(out: &mut Vec<u8>, numbers: &[usize]) {
     for &n in numbers {
@@ -28,8 +27,9 @@ fn put(out: &mut Vec<u8>, numbers: &[usize]) {
 }
 
 /// One case.
-fn encode(file: &[u8], buffer: usize, answer: &Answer) -> Vec<u8> {
-    let listing = second::answer(file, FULL_BUFFER, Fault::None).listing();
+fn encode(file: &[u8], buffer: usize, answer: &Answer, map: &Map) -> Vec<u8> {
+    let listing = second::answer(file, ROOM, Fault::None).listing();
+    let map = second::map_text(map);
     let (number, points, components, rows) = match answer {
         Answer::Refused(number) => (usize::from(*number), 0, 0, &[][..]),
         Answer::Accepted {
@@ -49,19 +49,21 @@ fn encode(file: &[u8], buffer: usize, answer: &Answer) -> Vec<u8> {
             points,
             components,
             listing.len(),
+            map.len(),
         ],
     );
     out.extend(file);
     out.extend(rows);
     out.extend(listing.as_bytes());
+    out.extend(map.as_bytes());
     out
 }
 
 /// The case, if the original and the second program agree on it.
 fn agreed(case: &Case) -> Option<Vec<u8>> {
-    let answer = second::answer(&case.file, case.buffer, Fault::None);
-    match compare::check(case, &answer) {
-        Verdict::Same => Some(encode(&case.file, case.buffer, &answer)),
+    let (answer, map) = second::answer_and_map(&case.file, case.buffer);
+    match compare::check(case, &answer, &map) {
+        Verdict::Same => Some(encode(&case.file, case.buffer, &answer, &map)),
         Verdict::AcosOnly => None,
         Verdict::Different(text) => panic!("{:?} {}: {text}", case.kind, case.seed),
     }
@@ -75,6 +77,10 @@ pub struct Choice {
     pub most: usize,
     /// Cases of the most points.
     pub full: usize,
+    /// Cases made for the map, of at most twice `most` bytes of file each.
+    pub maps: usize,
+    /// Cases of full lines, with some 2,000 points each.
+    pub full_lines: usize,
 }
 
 impl Choice {
@@ -84,30 +90,38 @@ impl Choice {
         seed: 100,
         most: 500,
         full: 20,
+        maps: 56,
+        full_lines: 4,
     };
 }
 
-/// Document 01's sheets and generated ones.
+/// The first generated cases that the original agrees with.
+fn first(cases: impl Iterator<Item = Case>, count: usize) -> Vec<Vec<u8>> {
+    cases.filter_map(|case| agreed(&case)).take(count).collect()
+}
+
+/// Document 01's sheets, maps written out by hand, and generated ones.
 pub fn sheet(choice: &Choice) -> Vectors {
-    let Choice {
-        sheets,
-        seed,
-        most,
-        full,
-    } = *choice;
+    let (seed, most) = (choice.seed, choice.most);
     let named = stars::files().into_iter().map(|file| {
         let buffer = file.len() * 2;
-        encode(&file, buffer, &second::answer(&file, buffer, Fault::None))
+        let (answer, map) = second::answer_and_map(&file, buffer);
+        encode(&file, buffer, &answer, &map)
     });
-    let small = (0..)
-        .map(|i| generate::nth(seed, i))
-        .filter(|case| case.file.len() <= most);
+    let of = |kinds: &'static [_]| (0..).map(move |i| generate::nth(kinds, seed, i));
+    let small = of(Kind::first()).filter(|case| case.file.len() <= most);
     let large = (seed..)
         .map(generate::full)
-        .filter(|case| case.buffer >= FULL_BUFFER);
+        .filter(|case| case.buffer >= ROOM);
+    let maps = of(Kind::for_map()).filter(|case| case.file.len() <= 2 * most);
+    let lines = (seed..)
+        .map(|seed| generate::case(Kind::FullLines, seed))
+        .filter(|case| case.file.len() >= 20 * 2000);
     let mut cases: Vec<Vec<u8>> = named.collect();
-    cases.extend(small.filter_map(|case| agreed(&case)).take(sheets));
-    cases.extend(large.filter_map(|case| agreed(&case)).take(full));
+    cases.extend(first(small, choice.sheets));
+    cases.extend(first(large, choice.full));
+    cases.extend(first(maps, choice.maps));
+    cases.extend(first(lines, choice.full_lines));
     let mut stdin = Vec::new();
     put(&mut stdin, &[cases.len()]);
     stdin.extend(cases.concat());

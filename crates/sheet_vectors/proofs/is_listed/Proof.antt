@@ -2,7 +2,7 @@
 use mathlib.Core.Path.{sym}
 use native.Mathlib.Omega.{arith}
 use lib.Seq.{length-take-le}
-use Rattle.sheet_listing.proofs.Laws.{shown-within}
+use Rattle.text.proofs.Stores.{shown-within}
 use borrow.Author.Needs.{needs}
 use Rattle.sheet_vectors.proofs.is_listed.Statement.{statement}
 use Rattle.sheet_vectors.proofs.is_listed.Tie as tie

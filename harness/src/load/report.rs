@@ -1,0 +1,126 @@
+//! What a run of the load met.
+
+use super::files::{Form, Load};
+use super::runner::{stack_size, Job};
+use crate::library::NO_ROOM;
+use crate::second::{Map, MAX_POINTS};
+use std::time::Duration;
+
+fn micros(time: Duration) -> f64 {
+    time.as_secs_f64() * 1e6
+}
+
+/// All calls of one function, and the longest.
+#[derive(Default)]
+struct Times {
+    all: Duration,
+    longest: Duration,
+    longest_at: Option<(Form, u64)>,
+}
+
+impl Times {
+    fn add(&mut self, form: Form, case: u64, time: Duration) {
+        self.all += time;
+        if time > self.longest {
+            self.longest = time;
+            self.longest_at = Some((form, case));
+        }
+    }
+
+    fn print(&self, name: &str, deepest: Option<usize>) {
+        if let Some((form, case)) = self.longest_at {
+            println!(
+                "{name}: longest call {:.0} µs ({form:?}, --files 1 --seed {case}); all calls {:.1} s",
+                micros(self.longest),
+                self.all.as_secs_f64()
+            );
+        }
+        if let Some(deepest) = deepest {
+            println!("{name}: deepest stack {deepest} bytes of {}", stack_size());
+        }
+    }
+}
+
+#[derive(Default)]
+pub struct Report {
+    /// Files, accepted ones, their points, longest call, by form.
+    forms: [(usize, usize, usize, Duration); Form::ALL.len()],
+    refused: [usize; 10],
+    empty_buffers: usize,
+    full: usize,
+    rows: Times,
+    /// Maps drawn, their lines, maps refused by number.
+    maps: usize,
+    lines: usize,
+    no_maps: [usize; 11],
+    /// Maps asked for with a buffer of length 0, and with one too short.
+    empty_map_buffers: usize,
+    no_room: usize,
+    map: Times,
+    pub failed: usize,
+}
+
+impl Report {
+    /// Counts a call for rows.
+    pub fn add(&mut self, load: &Load, case: u64, returned: u64, time: Duration) {
+        let form = &mut self.forms[load.form as usize];
+        form.0 += 1;
+        form.3 = form.3.max(time);
+        if returned >> 32 == 1 {
+            let points = (returned >> 16 & 0xFFFF) as usize;
+            form.1 += 1;
+            form.2 += points;
+            self.full += usize::from(points == MAX_POINTS);
+        } else {
+            self.refused[(returned as usize).min(9)] += 1;
+        }
+        self.empty_buffers += usize::from(load.buffer == 0);
+        self.rows.add(load.form, case, time);
+    }
+
+    /// Counts a call for the map, which the second program drew or refused.
+    pub fn add_map(&mut self, job: &Job, case: u64, map: &Map, returned: u64, time: Duration) {
+        match map {
+            Ok(text) => {
+                self.maps += 1;
+                self.lines += text.lines().count();
+            }
+            Err(number) => self.no_maps[usize::from(*number)] += 1,
+        }
+        self.empty_map_buffers += usize::from(job.buffer == 0);
+        self.no_room += usize::from(returned == NO_ROOM);
+        self.map.add(job.form, case, time);
+    }
+
+    pub fn print(&self, deepest: Option<[usize; 2]>, whole: Duration) {
+        println!(
+            "| files | number | accepted | points | longest call, µs |\n|---|---|---|---|---|"
+        );
+        let (mut accepted, mut points) = (0, 0);
+        for ((_, name, _), (files, taken, size, longest)) in Form::ALL.iter().zip(self.forms) {
+            println!(
+                "| {name} | {files} | {taken} | {size} | {:.0} |",
+                micros(longest)
+            );
+            accepted += taken;
+            points += size;
+        }
+        println!(
+            "accepted {accepted} sheets with {points} points, {} sheets of {MAX_POINTS}; refused with 1 to 9: {:?}; buffers of length 0: {}",
+            self.full,
+            &self.refused[1..],
+            self.empty_buffers
+        );
+        println!(
+            "maps: {} drawn with {} lines; refused with 1 to 10: {:?}; buffers of length 0: {}, too short for the text: {}",
+            self.maps,
+            self.lines,
+            &self.no_maps[1..],
+            self.empty_map_buffers,
+            self.no_room
+        );
+        self.rows.print("rows", deepest.map(|d| d[0]));
+        self.map.print("map", deepest.map(|d| d[1]));
+        println!("the run {:.0} s", whole.as_secs_f64());
+    }
+}
