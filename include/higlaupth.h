@@ -1,16 +1,17 @@
 /*
  * higlaupth: kept corners of a calibration sheet.
  *
- * One function. It takes the bytes of a sheet file and a buffer for rows, and either refuses the
- * file with a number of 1 to 9 or writes one row of 28 bytes for each point: which filters mark
- * the point, why, its residual and its edge figures.
+ * Two functions. Each takes the bytes of a sheet file and a buffer for its result. higlaupth_keep
+ * either refuses the file with a number of 1 to 9 or writes one row of 28 bytes for each point:
+ * which filters mark the point, why, its residual and its edge figures. higlaupth_map writes text:
+ * a map of the sheet with one character for each cell, or `refused` and a number of 1 to 10.
  *
- * The function is proved: for any bytes and any buffer its number and every byte of the buffer
+ * The functions are proved: for any bytes and any buffer the number and every byte of the buffer
  * are what docs/SPECIFICATION.md says. The rules for callers below are what the proof takes for
  * granted; README.md says what else is assumed.
  * Link with libhiglaupth.a (x86-64; `./install PREFIX` builds and installs it). Of the C library
  * it needs the copying, filling and comparing of memory alone (memcpy, memset and their like).
- * C99, and C++ from C++11 on. examples/c/keep.c is a whole program.
+ * C99, and C++ from C++11 on. examples/c/keep.c and examples/c/map.c are whole programs.
  *
  * The sheet file, little-endian, nothing before, between or after its fields; a field is a
  * one-byte tag, a two-byte length and its data:
@@ -37,17 +38,20 @@ extern "C" {
 /* The version of this header and of the library that is installed with it. A change that breaks a
    caller raises the first number, an addition the second, anything else the third. */
 #define HIGLAUPTH_VERSION_MAJOR 1
-#define HIGLAUPTH_VERSION_MINOR 0
+#define HIGLAUPTH_VERSION_MINOR 1
 #define HIGLAUPTH_VERSION_PATCH 0
-#define HIGLAUPTH_VERSION "1.0.0"
+#define HIGLAUPTH_VERSION "1.1.0"
 
-/* Sizes, in bytes but for the first. */
+/* Sizes, in bytes but for the first three. */
 #define HIGLAUPTH_MOST_POINTS 2048  /* a sheet with more is refused */
+#define HIGLAUPTH_MAP_COLUMNS 72    /* values of u that a map has room for */
+#define HIGLAUPTH_MAP_LINES 60      /* values of v that a map has room for */
 #define HIGLAUPTH_ROW_SIZE 28       /* a row */
 #define HIGLAUPTH_ROWS_SIZE 57344   /* 2,048 rows: a buffer of this size always suffices */
+#define HIGLAUPTH_MAP_SIZE 4860     /* 60 lines of a map: a buffer of this size always suffices */
 #define HIGLAUPTH_FILE_SIZE 41007   /* the longest file that can be accepted */
 #define HIGLAUPTH_READ_SIZE 65568   /* read so much of a file whose length is not known */
-#define HIGLAUPTH_STACK_SIZE 786432 /* stack to have free; the note at the function */
+#define HIGLAUPTH_STACK_SIZE 786432 /* stack to have free; the note at the functions */
 
 /*
  * HIGLAUPTH_READ_SIZE is one byte more than the longest well-framed file has: 3 + 21 bytes of
@@ -68,7 +72,7 @@ extern "C" {
 #define HIGLAUPTH_GATE_CELL_COSINE 0.99026811122894287109375f         /* bits 0x3F7D8236 */
 #define HIGLAUPTH_GATE_CELL_RATIO 1.10f                               /* bits 0x3F8CCCCD */
 
-/* Refusals. A call returns the first number whose condition holds. */
+/* Refusals. A call gives the first number whose condition holds; the map's own is the last. */
 enum higlaupth_refusal {
     HIGLAUPTH_MISFRAMED = 1,       /* The fields, their order, their lengths or the end of the
                                       file differ from the list above. */
@@ -80,7 +84,10 @@ enum higlaupth_refusal {
     HIGLAUPTH_BAD_CELL = 6,        /* A u or v lies outside -8,000 to 8,000. */
     HIGLAUPTH_BAD_POSITION = 7,    /* A position is not finite or exceeds 16,384 in magnitude. */
     HIGLAUPTH_REPEATED_CELL = 8,   /* Two points have the same cell. */
-    HIGLAUPTH_TWO_POSITIONS = 9    /* One index stands at positions with different bits. */
+    HIGLAUPTH_TWO_POSITIONS = 9,   /* One index stands at positions with different bits. */
+    HIGLAUPTH_MAP_TOO_WIDE = 10    /* The points span more than 72 values of u or 60 of v, from
+                                      the smallest to the largest. higlaupth_map alone looks at
+                                      this; higlaupth_keep never returns it. */
 };
 
 /*
@@ -119,7 +126,7 @@ enum higlaupth_offset {
     HIGLAUPTH_CELL_RATIO = 24
 };
 
-/* Bits of byte 0. */
+/* Bits of byte 0. higlaupth_filter_at has letter and word of each. */
 enum higlaupth_mark {
     HIGLAUPTH_MARK_VALIDATE = 1,
     HIGLAUPTH_MARK_ORIENTATION = 2,
@@ -147,22 +154,21 @@ enum higlaupth_present {
 };
 
 /*
- * Judges the sheet file of file_len bytes at `file` and writes its rows to the buffer of
- * rows_len bytes at `rows`. Returns a refusal number, 1 to 9, or 2^32 + 2^16 * points +
- * components; the functions below take the number apart.
+ * The functions, higlaupth_keep and higlaupth_map. Each reads the sheet file of file_len bytes at
+ * `file` and writes to a buffer: rows_len bytes at `rows`, text_len bytes at `text`.
  *
  * What holds of every call, whatever the bytes and the lengths:
  * - It ends.
- * - A refusal writes nothing. An accepted sheet writes 28 bytes for each point from rows[0] on
- *   and nothing beyond them. `file` is only read, and only its file_len bytes.
+ * - It writes what is said at the function, from the buffer's start on, and touches nothing
+ *   beyond that. `file` is only read, and only its file_len bytes.
  * - It is reentrant: it keeps nothing between calls, allocates nothing, and does no input or
- *   output. Any number of threads may call it at once, each with its own rows; they may share a
+ *   output. Any number of threads may call at once, each with its own buffer; they may share a
  *   file.
  *
  * What a caller owes:
- * - `file` points to file_len readable bytes, `rows` to rows_len writable bytes. Either pointer
- *   may be null if its length is 0. No alignment is asked for.
- * - The two do not overlap, and during the call nobody else writes `file` or touches `rows`.
+ * - `file` points to file_len readable bytes, the buffer to as many writable bytes as its length
+ *   says. Either pointer may be null if its length is 0. No alignment is asked for.
+ * - The two do not overlap, and during the call nobody else writes `file` or touches the buffer.
  * - The floating-point mode is the default one: the SSE control register (MXCSR) rounds to
  *   nearest, keeps subnormals (neither flush-to-zero nor denormals-are-zero) and masks
  *   exceptions. The call neither reads nor changes that register's modes; like any arithmetic it
@@ -171,7 +177,12 @@ enum higlaupth_present {
  *   stack: this is the deepest use that was measured, docs/TESTING.md, rounded up. The usual
  *   8 MiB of a main thread and the 2 MiB of a Rust thread suffice. The code touches its stack
  *   page by page, so that a stack too small ends in a fault at its guard page.
- *
+ */
+
+/*
+ * Judges a sheet file and writes its rows: 28 bytes for each point, or nothing if it is refused.
+ * Returns a refusal number, 1 to 9, or 2^32 + 2^16 * points + components; higlaupth_refused,
+ * higlaupth_points and higlaupth_components take this number apart, and no other.
  * Example, of the bytes file[0] to file[file_len - 1]; those below go on from it:
  *
  *     uint8_t rows[HIGLAUPTH_ROWS_SIZE];
@@ -180,7 +191,7 @@ enum higlaupth_present {
 uint64_t higlaupth_keep(const uint8_t *file, size_t file_len, uint8_t *rows, size_t rows_len);
 
 /*
- * Whether the returned number is a refusal, which then is the number itself.
+ * Whether a number that higlaupth_keep returned is a refusal; if so, it is the refusal number.
  * Example:
  *
  *     if (higlaupth_refused(returned)) printf("refused %u\n", (unsigned)returned);
@@ -188,7 +199,7 @@ uint64_t higlaupth_keep(const uint8_t *file, size_t file_len, uint8_t *rows, siz
 static inline int higlaupth_refused(uint64_t returned) { return (returned >> 32) == 0; }
 
 /*
- * What a refusal number says, in one line of text.
+ * What a refusal number, of either function, says in one line of text.
  * Example:
  *
  *     if (higlaupth_refused(returned)) {
@@ -216,13 +227,16 @@ static inline const char *higlaupth_refusal_text(unsigned number) {
         return "two points have the same cell";
     case HIGLAUPTH_TWO_POSITIONS:
         return "one index stands at positions with different bits";
+    case HIGLAUPTH_MAP_TOO_WIDE:
+        return "the points span more than 72 values of u or 60 of v";
     default:
         return "no such refusal";
     }
 }
 
 /*
- * Of a number that is no refusal: how many points, hence rows; 0 to 2,048.
+ * Of a number that higlaupth_keep returned and that is no refusal: how many points, hence rows; 0
+ * to 2,048.
  * Example:
  *
  *     for (unsigned k = 0; k < higlaupth_points(returned); k++) {
@@ -235,8 +249,8 @@ static inline unsigned higlaupth_points(uint64_t returned) {
 }
 
 /*
- * Of a number that is no refusal: how many patches the largest-patch filter saw; 0 with its
- * switch off.
+ * Of a number that higlaupth_keep returned and that is no refusal: how many patches the
+ * largest-patch filter saw; 0 with its switch off.
  * Example:
  *
  *     printf("%u patches\n", higlaupth_components(returned));
@@ -267,6 +281,86 @@ static inline const char *higlaupth_reason_text(unsigned reason) {
     default:
         return "no such reason";
     }
+}
+
+/* A filter. */
+typedef struct {
+    unsigned mark;    /* its bit of byte 0 */
+    char letter;      /* in the lines of a listing and on a map */
+    const char *word; /* in the tally of a listing */
+} higlaupth_filter;
+
+#define HIGLAUPTH_FILTERS 4 /* how many there are */
+
+/*
+ * The filter at a place from 0 to HIGLAUPTH_FILTERS - 1, in the order in which a point is counted:
+ * under the first of them that marks it. At any other place there is none, and its mark is 0.
+ * Example:
+ *
+ *     for (unsigned k = 0; k < higlaupth_points(returned); k++) {
+ *         const uint8_t *row = rows + k * HIGLAUPTH_ROW_SIZE;
+ *         for (unsigned place = 0; place < HIGLAUPTH_FILTERS; place++) {
+ *             higlaupth_filter filter = higlaupth_filter_at(place);
+ *             if (row[HIGLAUPTH_MARKS] & filter.mark)
+ *                 printf("row %u: %c, %s\n", k, filter.letter, filter.word);
+ *         }
+ *     }
+ */
+static inline higlaupth_filter higlaupth_filter_at(unsigned place) {
+    static const higlaupth_filter filters[HIGLAUPTH_FILTERS + 1] = {
+        {HIGLAUPTH_MARK_VALIDATE, 'V', "validate"},
+        {HIGLAUPTH_MARK_ORIENTATION, 'O', "orientation"},
+        {HIGLAUPTH_MARK_WRONG_LABEL, 'W', "wrong"},
+        {HIGLAUPTH_MARK_COMPONENT, 'C', "component"},
+        {0, '-', "no such filter"},
+    };
+    return filters[place < HIGLAUPTH_FILTERS ? place : HIGLAUPTH_FILTERS];
+}
+
+/* What higlaupth_map returns if the buffer is too short. */
+#define HIGLAUPTH_NO_ROOM UINT64_MAX
+
+/*
+ * Draws the map of a sheet file and writes it to the buffer, in ASCII, without a null at its end.
+ * Returns the number of its bytes: 0 for a sheet without points, at most HIGLAUPTH_MAP_SIZE. If
+ * the buffer is shorter it returns HIGLAUPTH_NO_ROOM, and the buffer holds the first text_len of
+ * those bytes.
+ *
+ * A map has a line for each v from the smallest to the largest: v right-aligned in 6 characters, a
+ * space, 72 cells from the smallest u on, a space and a newline. A cell is a full stop without a
+ * point, # with one that is kept, else the letter of the first filter that marks the point.
+ *
+ * Of a sheet that is refused the text is `refused`, a space, the number and a newline; no map
+ * begins with an `r`, and higlaupth_map_refusal finds the number. It is the one that
+ * higlaupth_keep returns with a buffer for all rows, so never 3; or HIGLAUPTH_MAP_TOO_WIDE, of a
+ * sheet that higlaupth_keep accepts.
+ * Example:
+ *
+ *     uint8_t text[HIGLAUPTH_MAP_SIZE];
+ *     uint64_t text_size = higlaupth_map(file, file_len, text, sizeof text);
+ *     fwrite(text, 1, (size_t)text_size, stdout);
+ */
+uint64_t higlaupth_map(const uint8_t *file, size_t file_len, uint8_t *text, size_t text_len);
+
+/*
+ * The refusal number in a text that higlaupth_map wrote, `size` being what it returned; 0 if the
+ * text is a map, or empty, or if the buffer was too short (HIGLAUPTH_NO_ROOM).
+ * Example:
+ *
+ *     unsigned number = higlaupth_map_refusal(text, text_size);
+ *     if (number != 0) printf("no map: %s\n", higlaupth_refusal_text(number));
+ */
+static inline unsigned higlaupth_map_refusal(const uint8_t *text, uint64_t size) {
+    const char *word = "refused ";
+    unsigned number = 0; /* of one digit or two */
+    if (size < 10 || size > 11 || text[8] == '0' || text[size - 1] != '\n') return 0;
+    for (unsigned k = 0; k < 8; k++)
+        if (text[k] != (uint8_t)word[k]) return 0;
+    for (unsigned k = 8; k < size - 1; k++) {
+        if (text[k] < '0' || text[k] > '9') return 0;
+        number = 10 * number + (unsigned)(text[k] - '0');
+    }
+    return number;
 }
 
 #ifdef __cplusplus

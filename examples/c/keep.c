@@ -6,7 +6,7 @@
  *   ./keep [FILE]
  *
  * Without FILE it judges a sheet of five points. Exit status: 0 if the sheet is accepted, 1 if it
- * is refused, 2 if the file cannot be read.
+ * is refused, 2 if the file cannot be read or the answer cannot be written.
  */
 #include <higlaupth.h>
 
@@ -70,13 +70,11 @@ static void read_points(const uint8_t *file, size_t length, point *points, unsig
 }
 
 static void print_row(const point *p, const uint8_t *row) {
-    int marks = row[HIGLAUPTH_MARKS];
+    unsigned marks = row[HIGLAUPTH_MARKS];
     printf("cell %d %d, index %u:", (int)p->u, (int)p->v, (unsigned)p->index);
     if (marks == 0) printf(" kept");
-    if (marks & HIGLAUPTH_MARK_VALIDATE) printf(" validate");
-    if (marks & HIGLAUPTH_MARK_ORIENTATION) printf(" orientation");
-    if (marks & HIGLAUPTH_MARK_WRONG_LABEL) printf(" wrong-label");
-    if (marks & HIGLAUPTH_MARK_COMPONENT) printf(" component");
+    for (unsigned place = 0; place < HIGLAUPTH_FILTERS; place++)
+        if (marks & higlaupth_filter_at(place).mark) printf(" %s", higlaupth_filter_at(place).word);
     if (row[HIGLAUPTH_REASON] != HIGLAUPTH_REASON_NONE)
         printf(", %s", higlaupth_reason_text(row[HIGLAUPTH_REASON]));
     if (row[HIGLAUPTH_DEGREE] > 0)
@@ -87,6 +85,13 @@ static void print_row(const point *p, const uint8_t *row) {
         if (row[HIGLAUPTH_PRESENT] & figures[k].bit)
             printf(", %s %.6f", figures[k].name, (double)read_f32(row + figures[k].offset));
     printf("\n");
+}
+
+/* The exit status: 2 if standard output has not taken everything. */
+static int ended(int status) {
+    if (fflush(stdout) == 0 && !ferror(stdout)) return status;
+    perror("standard output");
+    return 2;
 }
 
 int main(int argc, char **argv) {
@@ -109,11 +114,11 @@ int main(int argc, char **argv) {
     if (higlaupth_refused(returned)) {
         unsigned number = (unsigned)returned;
         printf("refused %u: %s\n", number, higlaupth_refusal_text(number));
-        return 1;
+        return ended(1);
     }
     unsigned count = higlaupth_points(returned);
     read_points(file, length, points, count);
     printf("points %u components %u\n", count, higlaupth_components(returned));
     for (unsigned k = 0; k < count; k++) print_row(&points[k], rows + k * HIGLAUPTH_ROW_SIZE);
-    return 0;
+    return ended(0);
 }

@@ -1,22 +1,24 @@
-//! Prints what the library finds for each point of a sheet file.
+//! Prints what the library finds for each point of a sheet file, or with `--map` the sheet's map.
 //!
 //!     ./install PREFIX
 //!     rustc --edition 2021 -O -L PREFIX/lib -l static=higlaupth examples/rust/main.rs -o keep
-//!     ./keep [FILE]
+//!     ./keep [--map] [FILE]
 //!
 //! Without FILE it judges a sheet of five points. Exit status: 0 if the sheet is accepted, 1 if it
-//! is refused, 2 if the file cannot be read. The numbers, the texts, the form of a row and the
-//! rules for callers are those of higlaupth.h.
+//! is refused, 2 if the file cannot be read or the answer cannot be written. The numbers, the
+//! texts, the form of a row and the rules for callers are those of higlaupth.h.
 
 use std::fs::File;
-use std::io::Read;
+use std::io::{Read, Write};
 use std::process::ExitCode;
 
 const ROW_SIZE: usize = 28;
 const ROWS_SIZE: usize = 57_344;
+const MAP_SIZE: usize = 4_860;
 const READ_SIZE: u64 = 65_568;
 
-const REFUSALS: [&str; 9] = [
+/// The texts of the header's refusals; the tenth is of `higlaupth_map` alone.
+const REFUSALS: [&str; 10] = [
     "the fields, their order, their lengths or the end of the file are wrong",
     "there are more than 2,048 points",
     "the result buffer is shorter than 28 bytes per point",
@@ -26,8 +28,15 @@ const REFUSALS: [&str; 9] = [
     "a position is not finite or exceeds 16,384 in magnitude",
     "two points have the same cell",
     "one index stands at positions with different bits",
+    "the points span more than 72 values of u or 60 of v",
 ];
-const MARKS: [&str; 4] = ["validate", "orientation", "wrong-label", "component"];
+/// Mark and word of each filter, in the header's order.
+const FILTERS: [(u8, &str); 4] = [
+    (1, "validate"),
+    (2, "orientation"),
+    (4, "wrong"),
+    (8, "component"),
+];
 const REASONS: [&str; 3] = [
     "fewer neighbours than the minimum degree",
     "a row or column bends or stretches at the point",
@@ -43,6 +52,7 @@ const FIGURES: [&str; 5] = [
 
 extern "C" {
     fn higlaupth_keep(file: *const u8, file_len: usize, rows: *mut u8, rows_len: usize) -> u64;
+    fn higlaupth_map(file: *const u8, file_len: usize, text: *mut u8, text_len: usize) -> u64;
 }
 
 /// The counts of points and components of an accepted sheet, or the number of a refusal.
@@ -55,6 +65,20 @@ fn keep(file: &[u8], rows: &mut [u8]) -> Result<(usize, usize), usize> {
     match returned >> 32 {
         0 => Err(number(0)),
         _ => Ok((number(16), number(0))),
+    }
+}
+
+/// The map of a sheet, or the number of a refusal.
+fn map(file: &[u8]) -> Result<String, usize> {
+    let mut text = vec![0; MAP_SIZE];
+    // SAFETY: as above.
+    let size = unsafe { higlaupth_map(file.as_ptr(), file.len(), text.as_mut_ptr(), text.len()) };
+    // Every text has room, so the number is that of its bytes.
+    text.truncate(size as usize);
+    let text = String::from_utf8(text).expect("a map is ASCII");
+    match text.strip_prefix("refused ") {
+        Some(number) => Err(number.trim_end().parse().expect("a refusal has a number")),
+        None => Ok(text),
     }
 }
 
@@ -97,28 +121,40 @@ fn points(file: &[u8], count: usize) -> Vec<(i32, i32, u32)> {
     points
 }
 
-fn print_row((u, v, index): (i32, i32, u32), row: &[u8]) {
-    print!("cell {u} {v}, index {index}:");
+/// A line for a point and its row.
+fn line((u, v, index): (i32, i32, u32), row: &[u8]) -> String {
+    let mut line = format!("cell {u} {v}, index {index}:");
     let (marks, reason, present) = (row[0], row[1], row[2]);
     let (degree, boundary, adjacent, valid) = (row[3], row[4], row[5], row[6]);
     if marks == 0 {
-        print!(" kept");
+        line += " kept";
     }
-    for k in (0..4).filter(|k| marks >> k & 1 == 1) {
-        print!(" {}", MARKS[k]);
+    for (_, word) in FILTERS.iter().filter(|(mark, _)| marks & mark != 0) {
+        line += &format!(" {word}");
     }
     if reason > 0 {
-        print!(", {}", REASONS[usize::from(reason) - 1]);
+        line += &format!(", {}", REASONS[usize::from(reason) - 1]);
     }
     if degree > 0 {
         let place = ["inside", "on the boundary"][usize::from(boundary)];
-        print!(", degree {degree}, {place}, {valid} of {adjacent} cells valid");
+        line += &format!(", degree {degree}, {place}, {valid} of {adjacent} cells valid");
     }
     for k in (0..5).filter(|k| present >> k & 1 == 1) {
         let figure = f32::from_le_bytes(four(row, 8 + 4 * k));
-        print!(", {} {figure:.6}", FIGURES[k]);
+        line += &format!(", {} {figure:.6}", FIGURES[k]);
     }
-    println!();
+    line + "\n"
+}
+
+/// A line for each point after one with the counts, or the number of a refusal.
+fn lines(file: &[u8]) -> Result<String, usize> {
+    let mut rows = vec![0; ROWS_SIZE];
+    let (count, components) = keep(file, &mut rows)?;
+    let mut text = format!("points {count} components {components}\n");
+    for (point, row) in points(file, count).into_iter().zip(rows.chunks(ROW_SIZE)) {
+        text += &line(point, row);
+    }
+    Ok(text)
 }
 
 /// The file at a path, read no further than its answer needs.
@@ -128,29 +164,31 @@ fn read(path: &str) -> std::io::Result<Vec<u8>> {
     Ok(file)
 }
 
-fn main() -> ExitCode {
-    let file = match std::env::args().nth(1) {
+/// Does what the arguments ask for: the exit status, or what failed.
+fn run() -> Result<u8, String> {
+    let mut arguments = std::env::args().skip(1).peekable();
+    let of_map = arguments.next_if(|first| first == "--map").is_some();
+    let file = match arguments.next() {
         None => five_points(),
-        Some(path) => match read(&path) {
-            Ok(file) => file,
-            Err(error) => {
-                eprintln!("{path}: {error}");
-                return ExitCode::from(2);
-            }
-        },
+        Some(path) => read(&path).map_err(|error| format!("{path}: {error}"))?,
     };
-    let mut rows = vec![0; ROWS_SIZE];
-    match keep(&file, &mut rows) {
-        Err(number) => {
-            println!("refused {number}: {}", REFUSALS[number - 1]);
-            ExitCode::from(1)
-        }
-        Ok((count, components)) => {
-            println!("points {count} components {components}");
-            for (point, row) in points(&file, count).into_iter().zip(rows.chunks(ROW_SIZE)) {
-                print_row(point, row);
-            }
-            ExitCode::SUCCESS
+    let answer = if of_map { map(&file) } else { lines(&file) };
+    let (status, text) = match answer {
+        Ok(text) => (0, text),
+        Err(number) => (1, format!("refused {number}: {}\n", REFUSALS[number - 1])),
+    };
+    let mut out = std::io::stdout();
+    let written = out.write_all(text.as_bytes()).and_then(|()| out.flush());
+    written.map_err(|error| format!("standard output: {error}"))?;
+    Ok(status)
+}
+
+fn main() -> ExitCode {
+    match run() {
+        Ok(status) => ExitCode::from(status),
+        Err(error) => {
+            eprintln!("{error}");
+            ExitCode::from(2)
         }
     }
 }
