@@ -18,6 +18,7 @@ use Rattle.sheet_file.specs.declared.Settings.{Settings}
 use Rattle.marks.specs.Filters.{validate, orientation, wrong, component}
 use Rattle.marks.specs.Marks.{isSet}
 use Rattle.marks.specs.Byte.{Marking, markedBy, markedByAll}
+use Rattle.marks.specs.Tally.{countsOf}
 use Rattle.marks.proofs.Guards.{set-is}
 use Rattle.marks.proofs.Byte.{by-same, Agree, all-same}
 use Rattle.edge_shape.specs.Figures.{noFigures}
@@ -29,7 +30,7 @@ use Rattle.wrong_label_filters.specs.WrongLabel.{wrongLabelMark, wrongLabelOf}
 use Rattle.components.specs.Components.{filterOf, patchCount}
 use Rattle.patches.specs.Patches.{patchLabels}
 use Rattle.components.specs.declared.ComponentFilter.{ComponentFilter}
-use Rattle.judged.specs.declared.Findings.{Findings}
+use Rattle.judged.specs.declared.Measured.{Measured}
 use Rattle.judged.specs.Columns.{reasonFrom, figuresIn}
 use Rattle.judged.proofs.Columns.{reason-read}
 use Rattle.judged.specs.Judged.{Judged, judgedFrom}
@@ -73,25 +74,26 @@ module _ (s : Settings) (w : View) where
   reasons-read counts measures e h k l =
       sym (reason-read counts measures k (omega arith)) ∙ ap (λ (f : List Figures). getD f k noFigures .reason) e
 
-  pub marks-of : (cell : ℕ → Cell) {v : Findings} → v ≡ validatedOf s w cell → v .marks ≡ validateMarks s w cell
+  pub marks-of : (cell : ℕ → Cell) {v : Measured} → v ≡ validatedOf s w cell → v .marks ≡ validateMarks s w cell
   unfolding validatedOf
-  marks-of cell e = ap (λ (x : Findings). x .marks) e
+  marks-of cell e = ap (λ (x : Measured). x .marks) e
 
   -- as one step
-  measuredBy : List ℕ → Findings → List Figures → Judged
-  measuredBy l x g = record { marks = l; components = x .components; has = x .has; value = x .value; figures = g; boundary = x .boundary }
+  measuredBy : List ℕ → Measured → Measured
+  measuredBy l x = record { marks = l; has = x .has; value = x .value; boundary = x .boundary }
 
-  by-parts : (cell : ℕ → Cell) → measuredBy (pointMarks s w cell) (validatedOf s w cell) (figuresOf s w) ≡ measuredOf s w cell
+  by-parts : (cell : ℕ → Cell) → measuredBy (pointMarks s w cell) (validatedOf s w cell) ≡ measuredOf s w cell
   unfolding measuredOf validatedOf measuredBy
   by-parts cell = refl
 
-  pub measured-is : (cell : ℕ → Cell) (counts : List ℕ) (measures : List Float) {v : Findings} {m : List ℕ}
-      → v ≡ validatedOf s w cell → m ≡ pointMarks s w cell → figuresIn counts measures ≡ gateFigures (s .«edge_shape») w
-      → judgedFrom (record { marks = m; components = v .components; has = v .has; value = v .value; boundary = v .boundary }) counts measures ≡ measuredOf s w cell
-  unfolding measuredBy judgedFrom figuresOf
-  measured-is cell counts measures {v} {m} e f g =
-      ap (λ (x : Findings). measuredBy m x (figuresIn counts measures)) e ∙ ap (λ (l : List ℕ). measuredBy l (validatedOf s w cell) (figuresIn counts measures)) f
-      ∙ ap (measuredBy (pointMarks s w cell) (validatedOf s w cell)) g ∙ by-parts cell
+  pub measured-is : (cell : ℕ → Cell) {v : Measured} {m : List ℕ} → v ≡ validatedOf s w cell → m ≡ pointMarks s w cell
+      → _≡_ {A = Measured} (record { marks = m; has = v .has; value = v .value; boundary = v .boundary }) (measuredOf s w cell)
+  unfolding measuredBy
+  measured-is cell {v} {m} e f = ap (measuredBy m) e ∙ ap (λ (l : List ℕ). measuredBy l (validatedOf s w cell)) f ∙ by-parts cell
+
+  pub figures-are : {figures : List Figures} → figures ≡ gateFigures (s .«edge_shape») w → figures ≡ figuresOf s w
+  unfolding figuresOf
+  figures-are e = e
 
   -- ---- the second step
 
@@ -112,25 +114,28 @@ module _ (s : Settings) (w : View) where
       counted = sym (ap (λ (b : Bool). cond b (filterOf w (sidesOf s) marks .«components_seen») 0) off);
     }
 
-    pub patched-is : {f : ComponentFilter} {m : List ℕ} → Joined s w marks f → m ≡ markedBy (w .count) component (isSet (f .marks)) marks
-        → _≡_ {A = DropSet} (record { marks = m; components = f .«components_seen» }) (patchedOf s w marks)
+    pub patched-is : {f : ComponentFilter} {m t : List ℕ} → Joined s w marks f → m ≡ markedBy (w .count) component (isSet (f .marks)) marks → t ≡ countsOf w m
+        → _≡_ {A = DropSet} (record { marks = m; components = f .«components_seen»; tally = t }) (patchedOf s w marks)
     unfolding patchedOf markedByAll
-    patched-is {f} j e = rw (e ∙ by-same (w .count) component (isSet (f .marks)) (componentMarked s w marks) marks (j .marked), j .counted)
+    patched-is {f} j e h = rw (h, e ∙ by-same (w .count) component (isSet (f .marks)) (componentMarked s w marks) marks (j .marked), j .counted)
 
   -- ---- both
 
-  judgedBy : Judged → DropSet → Judged
-  judgedBy m d = record { marks = d .marks; components = d .components; has = m .has; value = m .value; figures = m .figures; boundary = m .boundary }
+  judgedBy : Measured → List Figures → DropSet → Judged
+  judgedBy m f d = record { marks = d .marks; components = d .components; tally = d .tally; has = m .has; value = m .value; figures = f; boundary = m .boundary }
 
-  both-parts : (cell : ℕ → Cell) → judgedBy (measuredOf s w cell) (patchedOf s w (measuredOf s w cell .marks)) ≡ judgedOf s w cell
+  both-parts : (cell : ℕ → Cell) → judgedBy (measuredOf s w cell) (figuresOf s w) (patchedOf s w (measuredOf s w cell .marks)) ≡ judgedOf s w cell
   unfolding judgedOf judgedBy
   both-parts cell = refl
 
-  pub judged-is : (cell : ℕ → Cell) (counts : List ℕ) (measures : List Float) (m : Findings) {d : DropSet} → judgedFrom m counts measures ≡ measuredOf s w cell → d ≡ patchedOf s w (m .marks)
-      → judgedFrom (record { marks = d .marks; components = d .components; has = m .has; value = m .value; boundary = m .boundary }) counts measures ≡ judgedOf s w cell
+  pub judged-is : (cell : ℕ → Cell) (counts : List ℕ) (measures : List Float) (m : Measured) {d : DropSet} → m ≡ measuredOf s w cell → figuresIn counts measures ≡ figuresOf s w → d ≡ patchedOf s w (m .marks)
+      → judgedFrom (record { marks = d .marks; components = d .components; tally = d .tally; has = m .has; value = m .value; boundary = m .boundary }) counts measures ≡ judgedOf s w cell
   unfolding judgedBy judgedFrom
-  judged-is cell counts measures m e f =
-      ap (judgedBy (judgedFrom m counts measures)) f ∙ ap (λ (x : Judged). judgedBy x (patchedOf s w (x .marks))) e ∙ both-parts cell
+  judged-is cell counts measures m e f g =
+      ap (judgedBy m (figuresIn counts measures)) g
+      ∙ ap (λ (x : List Figures). judgedBy m x (patchedOf s w (m .marks))) f
+      ∙ ap (λ (x : Measured). judgedBy x (figuresOf s w) (patchedOf s w (x .marks))) e
+      ∙ both-parts cell
 
 -- there are at most as many patches as points
 pub components-few : (s : Settings) (w : View) (marks : List ℕ) → componentsIn s w marks ≤ w .count

@@ -9,11 +9,13 @@ use Rattle.sheet_file.specs.declared.Settings.{Settings}
 use Rattle.marks.specs.Filters.{validate, orientation, wrong, component}
 use Rattle.marks.specs.Marks.{isSet}
 use Rattle.marks.specs.Byte.{Marking, markedByAll}
+use Rattle.marks.specs.Tally.{countsOf}
 use Rattle.validate.specs.Validate.{validateMark, residualsOf, figuresOf, boundaryIn}
 use Rattle.orientation.specs.Orientation.{orientationMark}
 use Rattle.wrong_label_filters.specs.WrongLabel.{wrongLabelMark}
 use Rattle.components.specs.Components.{filterOf}
 use Rattle.judged.specs.Judged.{Judged}
+use Rattle.judged.specs.declared.Measured.{Measured}
 use Rattle.drop_set.specs.declared.DropSet.{DropSet}
 
 -- the offsets that join cells to patches, on a sheet with these settings
@@ -53,9 +55,12 @@ module _ (s : Settings) (w : View) where
   unfolding filterOf
   componentsIn marks = cond (s .«apply_largest_component») (filterOf w (sidesOf s) marks .«components_seen») 0
 
+  -- the bytes with their marks too, the count of patches, and the tally
   unfoldable pub patchedOf : List ℕ → DropSet
-  unfolding markedByAll componentsIn filterOf
-  patchedOf marks = record { marks = markedByAll (w .count) patchFilters marks; components = componentsIn marks }
+  unfolding markedByAll componentsIn filterOf countsOf
+  patchedOf marks =
+      let all = markedByAll (w .count) patchFilters marks in
+      record { marks = all; components = componentsIn marks; tally = countsOf w all }
 
 -- ---- the judged sheet
 
@@ -66,22 +71,14 @@ module _ (s : Settings) (w : View) (cell : ℕ → Cell) where
   pointMarks = markedByAll (w .count) (pointFilters s w cell) []
 
   -- what the filters find that go by the points themselves
-  unfoldable pub measuredOf : Judged
-  unfolding pointMarks residualsOf figuresOf boundaryIn
-  measuredOf =
-      record {
-        marks = pointMarks;
-        components = 0;
-        has = residualsOf s w cell .has;
-        value = residualsOf s w cell .value;
-        figures = figuresOf s w;
-        boundary = boundaryIn s w cell;
-      }
+  unfoldable pub measuredOf : Measured
+  unfolding pointMarks residualsOf boundaryIn
+  measuredOf = record { marks = pointMarks; has = residualsOf s w cell .has; value = residualsOf s w cell .value; boundary = boundaryIn s w cell }
 
   -- and with the others: the judged sheet
   unfoldable pub judgedOf : Judged
-  unfolding measuredOf patchedOf
+  unfolding measuredOf patchedOf figuresOf
   judgedOf =
       let m = measuredOf in
       let d = patchedOf s w (m .marks) in
-      record { marks = d .marks; components = d .components; has = m .has; value = m .value; figures = m .figures; boundary = m .boundary }
+      record { marks = d .marks; components = d .components; tally = d .tally; has = m .has; value = m .value; figures = figuresOf s w; boundary = m .boundary }

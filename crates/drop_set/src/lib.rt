@@ -3,8 +3,10 @@ use components::ComponentFilter;
 use edges::EDGES_SIZE;
 use edges::Edges;
 use judged::Findings;
+use judged::Measured;
 use judged::figures::FigureCounts;
 use judged::figures::FigureMeasures;
+use marks::Tally;
 use marks::filters;
 use sheet_file::Settings;
 use view::Floats;
@@ -24,15 +26,17 @@ ghost use Rattle.marks.specs.Filters.{validate as Validate, orientation as Orie
 ghost use Rattle.marks.specs.Marks.{isSet};
 ghost use Rattle.marks.specs.Byte.{markedByAll};
 ghost use Rattle.wrong_label_filters.specs.EdgesReady.{EdgesReady};
-ghost use Rattle.judged.specs.Columns.{Blank};
+ghost use Rattle.judged.specs.Columns.{Blank, figuresIn};
+ghost use Rattle.validate.specs.Validate.{figuresOf};
 ghost use Rattle.judged.specs.Judged.{judgedFrom};
 ghost use Rattle.drop_set.specs.Given.{Celled, Joined};
 ghost use Rattle.drop_set.specs.Filters.{byPoints, wrongMark, patchedOf, measuredOf, judgedOf};
 
-// The bytes of marks and how many patches the survivors have.
+// The bytes of marks, how many patches the survivors have, and the tally.
 pub struct DropSet {
     pub marks: Marks,
     pub components: usize,
+    pub tally: Tally,
 }
 
 // The wrong-label marks; none with the switch off.
@@ -64,7 +68,7 @@ fn point_marks(validate: &Marks, orientation: &Marks, wrong: &Marks, n: usize) -
     marks::marked_by(&second, wrong, filters::WRONG, n)
 }
 
-// What the filters find that go by the points themselves: the judged sheet without the marks and the count of patches.
+// What the filters find that go by the points themselves, the edge figures into empty tables.
 pub fn measure(
     s: Settings,
     ranks: &Ranks,
@@ -74,9 +78,10 @@ pub fn measure(
     n: usize,
     counts: &mut FigureCounts,
     measures: &mut FigureMeasures,
-) -> Findings
+) -> Measured
     requires { ⌜ Celled n (now ranks) (now keys) (now x) (now y) × Blank (now counts) (now measures) ⌝ }
-    ensures { λ r. ⌜ judgedFrom r (now (counts .exit)) (now (measures .exit)) ≡ measuredOf s (viewAt n (now (ranks .entry)) (now (x .entry)) (now (y .entry))) (cellsAt (now (keys .entry))) ⌝ }
+    ensures findings { λ r. ⌜ r ≡ measuredOf s (viewAt n (now (ranks .entry)) (now (x .entry)) (now (y .entry))) (cellsAt (now (keys .entry))) ⌝ }
+    ensures figures { λ r. ⌜ figuresIn (now (counts .exit)) (now (measures .exit)) ≡ figuresOf s (viewAt n (now (ranks .entry)) (now (x .entry)) (now (y .entry))) ⌝ }
 {
     let none = edges::no_edge();
     let mut edges = [none; EDGES_SIZE];
@@ -107,16 +112,18 @@ fn component_marks(s: Settings, ranks: &Ranks, marks: &Marks, n: usize) -> Compo
     }
 }
 
-// The filters that go by the marks before them: the bytes with their marks too, and the count of patches.
+// The filters that go by the marks before them: the bytes with their marks too, the count of patches, and the tally.
 pub fn drop_patches(s: Settings, ranks: &Ranks, marks: &Marks, n: usize) -> DropSet
     requires { ⌜ Ranked n (now ranks) ⌝ }
     ensures { λ r. ⌜ ((xs ys : List Float) → r ≡ patchedOf s (viewAt n (now (ranks .entry)) xs ys) (now (marks .entry))) ⌝ }
 {
     let filter = component_marks(s, ranks, marks, n);
     let mark = filter.marks;
+    let all = marks::marked_by(marks, &mark, filters::COMPONENT, n);
     DropSet {
-        marks: marks::marked_by(marks, &mark, filters::COMPONENT, n),
+        marks: all,
         components: filter.components_seen,
+        tally: marks::tally(ranks, &all, n),
     }
 }
 
@@ -134,11 +141,20 @@ pub fn judge<'a>(
     requires { ⌜ Celled n (now ranks) (now keys) (now x) (now y) × Blank (now counts) (now measures) ⌝ }
     ensures { λ r. ⌜ judgedFrom r (now (counts .exit)) (now (measures .exit)) ≡ judgedOf s (viewAt n (now (ranks .entry)) (now (x .entry)) (now (y .entry))) (cellsAt (now (keys .entry))) ⌝ }
 {
-    let mut j = measure(s, ranks, keys, x, y, n, counts, measures);
-    let measured = j.marks;
+    let m = measure(s, ranks, keys, x, y, n, counts, measures);
+    let measured = m.marks;
     let d = drop_patches(s, ranks, &measured, n);
     let marks = d.marks;
-    j.marks = marks;
-    j.components = d.components;
-    j
+    let tally = d.tally;
+    let has = m.has;
+    let value = m.value;
+    let boundary = m.boundary;
+    Findings {
+        marks,
+        components: d.components,
+        tally,
+        has,
+        value,
+        boundary,
+    }
 }

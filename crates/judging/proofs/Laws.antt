@@ -25,6 +25,7 @@ use Rattle.sheet_file.specs.declared.Settings.{Settings}
 use Rattle.points.specs.Refusals.{offLimit}
 use Rattle.points.specs.Table.{Tabled}
 use Rattle.points.specs.declared.Table.{Table}
+use Rattle.marks.proofs.Counts.{counts-few}
 use Rattle.drop_set.specs.Filters.{judgedOf, measuredOf, patchedOf}
 use Rattle.drop_set.proofs.Laws.{components-few}
 use Rattle.drop_set.specs.Given.{Celled}
@@ -85,3 +86,8 @@ module _ (ps : List Point) (o : CellOrder ps) (limits : (k : ℕ) → k < length
 pub few-components : (s : Settings) (ps : List Point) → judgedFor s ps .components ≤ length ps
 unfolding judgedFor judgedOf patchedOf viewOf
 few-components s ps = components-few s (viewOf ps) (measuredOf s (viewOf ps) (cellsOf ps) .marks)
+
+-- and the tally has no larger count
+pub few-counted : (s : Settings) (ps : List Point) (f : ℕ) → getD (judgedFor s ps .tally) f 0 ≤ length ps
+unfolding judgedFor judgedOf patchedOf viewOf
+few-counted s ps f = counts-few (viewOf ps) (judgedFor s ps .marks) f

@@ -6,14 +6,11 @@ use Prim.Native.Nat.{ℕ}
 use lib.IntN.{pos, negsuc}
 use lib.Ieee.{binary32, ofBits}
 use lib.ListN.{getD}
-use Rattle.folds.specs.Below.{fold, tally, first, firstIn}
-use Rattle.folds.specs.Lists.{listOf, upFrom}
+use Rattle.folds.specs.Below.{fold}
 use Rattle.cells.specs.Cell.{Cell}
 use Rattle.cells.proofs.Edges.{cellAt}
 use Rattle.judged.specs.Shown.{shownAt}
 use Rattle.judged.specs.Judged.{Judged}
-use Rattle.marks.specs.Byte.{firstMark}
-use Rattle.marks.specs.Tally.{countUnder, countsOf}
 use Rattle.text.specs.Text.{bytes, each, digits, decimal, whole, hex}
 use Rattle.listing.specs.Listing.{cellText, marksText, residualText, shownText, lineText, headText, tallyText, listingOf}
 
@@ -24,12 +21,12 @@ cells k = getD (cellAt (pos 0) (pos 0) ∷ cellAt (pos 0) (pos 1) ∷ cellAt (po
 indices : List ℕ
 indices = 10 ∷ 12 ∷ 11 ∷ 13 ∷ 14 ∷ []
 
--- the last has the component mark; no residual and no figures
+-- the last has the component mark, four are kept; no residual and no figures
 judged : Judged
-judged = record { marks = 0 ∷ 0 ∷ 0 ∷ 0 ∷ 8 ∷ []; components = 2; has = []; value = []; figures = []; boundary = [] }
+judged = record { marks = 0 ∷ 0 ∷ 0 ∷ 0 ∷ 8 ∷ []; components = 2; tally = 0 ∷ 0 ∷ 0 ∷ 1 ∷ 4 ∷ []; has = []; value = []; figures = []; boundary = [] }
 
 example : listingOf 5 cells indices judged ≡ bytes "points 5 components 2\n0 0 10 ---- - -\n0 1 12 ---- - -\n1 0 11 ---- - -\n1 1 13 ---- - -\n5 5 14 ---C - -\nkept 4 validate 0 orientation 0 wrong 0 component 1\n"
-unfolding listingOf headText lineText cellText shownText marksText residualText shownAt tallyText countUnder countsOf firstMark listOf upFrom decimal digits whole hex each fold tally first firstIn cells indices judged
+unfolding listingOf headText lineText cellText shownText marksText residualText shownAt tallyText decimal digits whole hex each fold cells indices judged
 example = refl
 
 -- a line with every column in use

@@ -8,12 +8,11 @@ use Prim.Native.Nat.{ℕ, suc, _+_, _-_, _*_, _/_, _%_, _^_, _≤_, _<_}
 use native.Mathlib.Decide.{decLt}
 use native.Mathlib.Omega.{arith}
 use borrow.Author.Tests.{leb-true}
-use lib.Dec.{leb, eqb}
+use lib.Dec.{leb}
 use lib.IntN.{pos, _-ℤ_}
 use lib.ListN.{length, getD, length-append}
 use Rattle.folds.specs.Below.{every}
-use Rattle.folds.proofs.Below.{every-at, tally-le}
-use Rattle.folds.proofs.Lists.{list-at}
+use Rattle.folds.proofs.Below.{every-at}
 use Rattle.view.specs.View.{maxPoints}
 use Rattle.text.specs.Text.{bytes, each, decimal, whole, digit}
 use Rattle.cells.specs.Points.{bias, stride}
@@ -22,8 +21,7 @@ use Rattle.judged.specs.Shown.{Shown, shownAt}
 use Rattle.judged.specs.Judged.{Judged}
 use Rattle.edge_shape.specs.Figures.{reasonNumber}
 use Rattle.marks.specs.Filters.{filterCount, filterAt}
-use Rattle.marks.specs.Byte.{hasMark, firstMark}
-use Rattle.marks.specs.Tally.{countUnder, countsOf}
+use Rattle.marks.specs.Byte.{hasMark}
 use Rattle.listing.specs.Listing.{cellText, markText, marksText, residualText, shownText, lineText, lineOf, headText, countText, tallyText, listingOf, lineSize, listingSize}
 use Rattle.text.proofs.Numbers.{decimal-length, hex-length, whole-below, whole-from}
 use Rattle.text.proofs.Stores.{each-length}
@@ -86,29 +84,26 @@ head-size n components h g =
     join (join (join (join (known (bytes "points ")) (number 3 n (omega arith))) (known (bytes " components "))) (number 19 components (omega arith))) (known (bytes "\n"))
 
 -- a count is at most the number of points
-count-size : (n : ℕ) (marks : List ℕ) (k : ℕ) → n ≤ maxPoints → k < filterCount + 1 → AtMost 4 (decimal (getD (countsOf n marks) k 0))
-unfolding countsOf countUnder
-count-size n marks k h l =
-    rw (list-at (filterCount + 1) (countUnder n marks) k 0 l)
-    (number 3 (countUnder n marks k) (omega (arith, tally-le (λ j. eqb (firstMark (getD marks j 0)) k) n)))
+count-size : (count : ℕ) → count ≤ maxPoints → AtMost 4 (decimal count)
+count-size count h = number 3 count (omega arith)
 
 word-size : (k : ℕ) → k < filterCount → AtMost 13 (bytes " " ++ bytes (filterAt k .word) ++ bytes " ")
 unfolding every
 word-size k l =
     record { within = leb-true (length (bytes " " ++ bytes (filterAt k .word) ++ bytes " ")) 13 (every-at (λ k. leb (length (bytes " " ++ bytes (filterAt k .word) ++ bytes " ")) 13) filterCount refl k l) }
 
-tally-size : (n : ℕ) (marks : List ℕ) → n ≤ maxPoints → AtMost (10 + 17 * filterCount) (tallyText (countsOf n marks))
+tally-size : (counts : List ℕ) → ((f : ℕ) → getD counts f 0 ≤ maxPoints) → AtMost (10 + 17 * filterCount) (tallyText counts)
 unfolding tallyText
-tally-size n marks h =
-    join (join (join (known (bytes "kept ")) (count-size n marks filterCount h (omega arith)))
-    (all (λ k. countText k (getD (countsOf n marks) k 0)) 17 filterCount
-    (λ k l. join (word-size k l) (count-size n marks k h (omega arith)))))
+tally-size counts h =
+    join (join (join (known (bytes "kept ")) (count-size (getD counts filterCount 0) (h filterCount)))
+    (all (λ k. countText k (getD counts k 0)) 17 filterCount
+    (λ k l. join (word-size k l) (count-size (getD counts k 0) (h k)))))
     (known (bytes "\n"))
 
 -- a buffer of listingSize bytes has room for the listing of any sheet
-pub listing-fits : (n : ℕ) (keys idx : List ℕ) (j : Judged) → n ≤ maxPoints → j .components < 2 ^ 64 → ((k : ℕ) → getD keys k 0 < 2 ^ 32) → ((k : ℕ) → getD idx k 0 < 2 ^ 32) → length (listingOf n (cellsAt keys) idx j) ≤ listingSize
+pub listing-fits : (n : ℕ) (keys idx : List ℕ) (j : Judged) → n ≤ maxPoints → j .components < 2 ^ 64 → ((f : ℕ) → getD (j .tally) f 0 ≤ maxPoints) → ((k : ℕ) → getD keys k 0 < 2 ^ 32) → ((k : ℕ) → getD idx k 0 < 2 ^ 32) → length (listingOf n (cellsAt keys) idx j) ≤ listingSize
 unfolding listingOf
-listing-fits n keys idx j h g f e =
+listing-fits n keys idx j h g t f e =
     let lines = all (λ k. lineOf (cellsAt keys k) (getD idx k 0) (shownAt j k)) lineSize n (λ k l. line-size (getD keys k 0) (getD idx k 0) (shownAt j k) (f k) (e k)) in
-    let whole = join (join (head-size n (j .components) h g) lines) (tally-size n (j .marks) h) in
+    let whole = join (join (head-size n (j .components) h g) lines) (tally-size (j .tally) t) in
     omega (arith, whole .within)

@@ -13,7 +13,6 @@ use Rattle.judged.specs.Shown.{Shown, shownAt}
 use Rattle.judged.specs.Judged.{Judged}
 use Rattle.marks.specs.Filters.{filterAt, filterCount}
 use Rattle.marks.specs.Byte.{hasMark}
-use Rattle.marks.specs.Tally.{countsOf}
 use Rattle.text.specs.Text.{bytes, each, digit, decimal, whole, hex}
 
 -- "u, v"
@@ -74,11 +73,11 @@ linesOf cell indices j n = each (λ k. lineOf (cell k) (getD indices k 0) (shown
 
 -- the first line, a line for each rank in cell order, and the tally
 unfoldable pub listingOf : ℕ → (ℕ → Cell) → List ℕ → Judged → List ℕ
-unfolding headText each lineText shownAt tallyText countsOf
+unfolding headText each lineText shownAt tallyText
 listingOf n cell indices j =
     headText n (j .components)
     ++ linesOf cell indices j n
-    ++ tallyText (countsOf n (j .marks))
+    ++ tallyText (j .tally)
 
 -- no line of a point is longer, and no listing: the first line has at most 44 bytes (proved in proofs/Size.antt)
 abbrev pub lineSize : ℕ

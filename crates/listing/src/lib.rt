@@ -3,7 +3,7 @@ mod line;
 
 use judged::Findings;
 use judged::figures::FigureCounts;
-use marks::COUNTS;
+use marks::Tally;
 use marks::filters::FILTERS;
 use text::Written;
 use view::MAX_POINTS;
@@ -75,7 +75,7 @@ fn put_lines(
     to
 }
 
-fn put_counts(counts: &[usize; COUNTS], out: &mut [u8], at: usize) -> usize
+fn put_counts(counts: &Tally, out: &mut [u8], at: usize) -> usize
     ensures { λ r. ⌜ Stored (now (out .entry)) at (each (λ f. countText f (getD (now (counts .entry)) f 0)) filterCount) (now (out .exit)) r ⌝ }
 {
     let mut to = at;
@@ -89,7 +89,7 @@ fn put_counts(counts: &[usize; COUNTS], out: &mut [u8], at: usize) -> usize
     to
 }
 
-fn put_tally(counts: &[usize; COUNTS], out: &mut [u8], at: usize) -> usize
+fn put_tally(counts: &Tally, out: &mut [u8], at: usize) -> usize
     ensures { λ r. ⌜ Stored (now (out .entry)) at (tallyText (now (counts .entry))) (now (out .exit)) r ⌝ }
 {
     let a = text::put_text(b"kept ", out, at);
@@ -113,8 +113,7 @@ pub fn write_listing(
 {
     let a = put_head(n, j.components, out, 0);
     let b = put_lines(n, keys, idx, j, counts, out, a);
-    let marks = j.marks;
-    let counts = marks::tally(&marks, n);
-    let c = put_tally(&counts, out, b);
+    let tally = j.tally;
+    let c = put_tally(&tally, out, b);
     text::answer(c, out.len())
 }

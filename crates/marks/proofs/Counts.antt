@@ -1,49 +1,59 @@
--- The tally's counts, one point after the other. Assumes nothing.
-use mathlib.Core.Path.{_≡_, refl, _∙_}
-use mathlib.Core.Bool.{Bool, true}
+-- The tally's counts, one rank after the other. Assumes nothing.
+use mathlib.Core.Path.{_≡_, _∙_}
 use mathlib.Core.List.{List}
 use Prim.Native.Nat.{ℕ, _+_, _≤_, _<_}
+use Prim.{yes, no}
+use native.Mathlib.Decide.{decLt}
 use native.Mathlib.Omega.{arith}
-use lib.Dec.{eqb}
 use lib.ListN.{getD, set, replicate, getD-replicate}
-use Rattle.folds.proofs.Below.{and-true, tally-ext}
-use Rattle.folds.proofs.Lists.{is-list}
+use borrow.Author.Tests.{eq-eqb, ne-eqb}
+use Rattle.folds.proofs.Below.{tally-le}
+use Rattle.folds.proofs.Lists.{is-list, list-at, list-over}
 use Rattle.folds.specs.Scattered.{Scattered, counts, oneMore}
-use Rattle.folds.proofs.Scattered.{scattered-none, scattered-put, fold-tally, counted-le}
+use Rattle.folds.proofs.Scattered.{scattered-none, scattered-skip, scattered-put, fold-tally, counted-le}
+use Rattle.view.specs.View.{View}
 use Rattle.marks.specs.Filters.{filterCount}
 use Rattle.marks.specs.Byte.{firstMark}
-use Rattle.marks.specs.Tally.{countUnder, countsOf}
+use Rattle.marks.specs.Tally.{isPlace, countUnder, countsOf}
 
--- the filter that point j counts under
+-- the filter that rank j counts under
 abbrev under : List ℕ → ℕ → ℕ
 under marks j = firstMark (getD marks j 0)
-
-abbrev always : ℕ → Bool
-always j = true
 
 abbrev none : List ℕ
 none = replicate (filterCount + 1) 0
 
--- the counts of the first k points
-abbrev pub Counted : List ℕ → ℕ → List ℕ → Type 0
-Counted marks k a = Scattered 0 (under marks) always oneMore none k a
+module _ (w : View) (marks : List ℕ) where
+  -- the counts of the first k ranks
+  abbrev pub Counted : ℕ → List ℕ → Type 0
+  Counted k a = Scattered 0 (under marks) (isPlace w) oneMore none k a
 
-pub counted-start : (marks : List ℕ) → Counted marks 0 none
-counted-start marks = scattered-none 0 (under marks) always oneMore none
+  pub counted-start : Counted 0 none
+  counted-start = scattered-none 0 (under marks) (isPlace w) oneMore none
 
-pub counted-more : (marks : List ℕ) (k f : ℕ) (a : List ℕ) → f ≡ under marks k → f ≤ filterCount → Counted marks k a → Counted marks (k + 1) (set a f (getD a f 0 + 1))
-counted-more marks k f a e h t = scattered-put 0 (under marks) always oneMore none k f a (omega arith) e refl t
+  pub counted-skip : (k : ℕ) (a : List ℕ) → (w .byIdx k ≡ k → ⊥) → Counted k a → Counted (k + 1) a
+  counted-skip k a e t = scattered-skip 0 (under marks) (isPlace w) oneMore none k a (ne-eqb (w .byIdx k) k e) t
 
-pub counted-small : (marks : List ℕ) (k f : ℕ) (a : List ℕ) → f ≤ filterCount → Counted marks k a → getD a f 0 ≤ k
-counted-small marks k f a h t = omega (arith, counted-le (under marks) always none k f a (omega arith) t, getD-replicate {A = ℕ} (filterCount + 1) f 0 0 (omega arith))
+  pub counted-more : (k f : ℕ) (a : List ℕ) → w .byIdx k ≡ k → f ≡ under marks k → f ≤ filterCount → Counted k a → Counted (k + 1) (set a f (getD a f 0 + 1))
+  counted-more k f a q e h t = scattered-put 0 (under marks) (isPlace w) oneMore none k f a (omega arith) e (eq-eqb (w .byIdx k) k q) t
 
-pub counted : (marks : List ℕ) (n : ℕ) (a : List ℕ) → Counted marks n a → a ≡ countsOf n marks
-unfolding countsOf countUnder
-counted marks n a t = is-list 0 (filterCount + 1) (countUnder n marks) a (t .size) at
-  where
-    at : (f : ℕ) → f < filterCount + 1 → getD a f 0 ≡ countUnder n marks f
-    at f l =
-        t .at f l
-        ∙ fold-tally (counts (under marks) always f) (getD none f 0) n
-        ∙ rw (getD-replicate {A = ℕ} (filterCount + 1) f 0 0 l, tally-ext (counts (under marks) always f) (λ j. eqb (under marks j) f) n (λ j m. and-true (eqb (under marks j) f)))
-        (omega arith)
+  pub counted-small : (k f : ℕ) (a : List ℕ) → f ≤ filterCount → Counted k a → getD a f 0 ≤ k
+  counted-small k f a h t = omega (arith, counted-le (under marks) (isPlace w) none k f a (omega arith) t, getD-replicate {A = ℕ} (filterCount + 1) f 0 0 (omega arith))
+
+  pub counted : (a : List ℕ) → Counted (w .count) a → a ≡ countsOf w marks
+  unfolding countsOf countUnder
+  counted a t = is-list 0 (filterCount + 1) (countUnder w marks) a (t .size) at
+    where
+      at : (f : ℕ) → f < filterCount + 1 → getD a f 0 ≡ countUnder w marks f
+      at f l =
+          t .at f l
+          ∙ fold-tally (counts (under marks) (isPlace w) f) (getD none f 0) (w .count)
+          ∙ rw (getD-replicate {A = ℕ} (filterCount + 1) f 0 0 l) (omega arith)
+
+  -- no count is larger than the number of points
+  pub counts-few : (f : ℕ) → getD (countsOf w marks) f 0 ≤ w .count
+  unfolding countsOf countUnder
+  counts-few f = elim (decLt f (filterCount + 1)) [
+    | yes l ↦ rw (list-at (filterCount + 1) (countUnder w marks) f 0 l) (tally-le (counts (under marks) (isPlace w) f) (w .count))
+    | no l ↦ rw (list-over (filterCount + 1) (countUnder w marks) f 0 (omega (arith, l))) (omega arith)
+  ]

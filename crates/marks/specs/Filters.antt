@@ -1,4 +1,4 @@
--- The filters: bit, letter and word of each, in the order in which they run and in which a point is counted. Assumes nothing.
+-- The filters: bit, letter and word of each, in the order in which they run and in which an index is counted. Assumes nothing.
 use mathlib.Core.List.{List, [], _∷_}
 use Prim.Native.Nat.{ℕ}
 use Prim.Native.String.{String}

@@ -99,20 +99,25 @@ pub fn marked_by(marks: &Marks, mark: &Marks, f: usize, n: usize) -> Marks
     out
 }
 
-// One count for each filter, and one for the points kept.
+// One count for each filter, and one for the indices kept.
 pub const COUNTS: usize = filters::FILTERS + 1;
 
-// How many points each filter is the first to mark, and how many are kept.
-pub fn tally(marks: &Marks, n: usize) -> [usize; COUNTS]
+pub type Tally = [usize; COUNTS];
+
+// How many indices each filter is the first to mark, and how many are kept. An index is counted at its place, the last of its ranks.
+pub fn tally(ranks: &Ranks, marks: &Marks, n: usize) -> Tally
     requires { ⌜ n ≤ maxPoints ⌝ }
-    ensures { λ r. ⌜ r ≡ countsOf n (now (marks .entry)) ⌝ }
+    ensures { λ r. ⌜ ((xs ys : List Float) → r ≡ countsOf (viewAt n (now (ranks .entry)) xs ys) (now (marks .entry))) ⌝ }
 {
     let mut counts = [0usize; COUNTS];
     let mut k = 0;
     while k < n {
-        let f = filters::first_mark(marks[k]);
-        counts[f] += 1;
+        let at = k;
         k += 1;
+        if view::index_of(ranks, at) == at {
+            let f = filters::first_mark(marks[at]);
+            counts[f] += 1;
+        }
     }
     counts
 }

@@ -25,7 +25,7 @@ use Rattle.text.proofs.Stores.{refusal-length}
 use Rattle.listing.specs.Listing.{listingSize}
 use Rattle.listing.proofs.Size.{listing-fits}
 use Rattle.judging.specs.Judging.{judgedFor}
-use Rattle.judging.proofs.Laws.{few-components}
+use Rattle.judging.proofs.Laws.{few-components, few-counted}
 use Rattle.sheet_listing.specs.Text.{textBy, textOf}
 use Rattle.sheet_listing.proofs.Laws.{text-is}
 
@@ -53,7 +53,7 @@ module _ (file : List ℕ) (b : Bytes file) (s : Settings) (ps : List Point) (e 
   listed-fits =
       let o = accepted-order file rowsSize s ps b e in
       rw (← cells-are ps (o .inside))
-      (listing-fits (length ps) (keysOf ps) (indicesOf ps) (judgedFor s ps) (o .few) (omega (arith, o .few, few-components s ps)) keys-small indices-small)
+      (listing-fits (length ps) (keysOf ps) (indicesOf ps) (judgedFor s ps) (o .few) (omega (arith, o .few, few-components s ps)) (λ f. omega (arith, o .few, few-counted s ps f)) keys-small indices-small)
 
 pub text-fits : (file : List ℕ) → Bytes file → length (textOf file) ≤ listingSize
 text-fits file b = rw (text-is file) (go (rulingOf file rowsSize) refl)

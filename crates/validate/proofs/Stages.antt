@@ -27,7 +27,7 @@ use Rattle.edge_shape.specs.declared.Figures.{Figures}
 use Rattle.edge_shape.specs.declared.Reason.{Reason}
 use Rattle.patches.specs.Boxes.{boundaryOf}
 use Rattle.validate.specs.declared.ByRules.{ByRules}
-use Rattle.judged.specs.declared.Findings.{Findings}
+use Rattle.judged.specs.declared.Measured.{Measured}
 use Rattle.judged.specs.Columns.{Blank, reasonFrom, figuresIn}
 use Rattle.judged.proofs.Columns.{blank-in}
 use Rattle.validate.specs.Validate.{stepsOf, scalesOf, flagsOf, residualsOf, deviationsOf, evidenceOf, gateFigures, gateBoundary, figuresOf, boundaryIn, isReason, validateMark, validateMarks}
@@ -55,7 +55,7 @@ module _ (s : Settings) (w : View) (cell : ℕ → Cell) where
   pub all-are : (counts : List ℕ) {r : ByRules} {boundary marks : List ℕ} → r ≡ byRulesOf s w cell
       → ((k : ℕ) → k < w .count → reasonFrom counts k ≡ getD (figuresOf s w) k noFigures .reason) → boundary ≡ gateBoundary (s .«edge_shape») w cell
       → marks ≡ column maxPoints 0 (w .count) (λ (k : ℕ). bit (isSet (r .marks) k || isReason (reasonFrom counts k)))
-      → _≡_ {A = Findings} (record { marks = marks; components = 0; has = r .has; value = r .value; boundary = boundary }) (validatedOf s w cell)
+      → _≡_ {A = Measured} (record { marks = marks; has = r .has; value = r .value; boundary = boundary }) (validatedOf s w cell)
   unfolding validatedOf validateMarks validateMark boundaryIn
   all-are counts e f g h =
       rw (

@@ -12,7 +12,7 @@ use Rattle.sheet_file.specs.declared.Settings.{Settings}
 use Rattle.validate.specs.declared.ByRules.{ByRules}
 use Rattle.edge_shape.specs.Figures.{noFigures}
 use Rattle.judged.specs.Columns.{reasonFrom}
-use Rattle.judged.specs.declared.Findings.{Findings}
+use Rattle.judged.specs.declared.Measured.{Measured}
 use Rattle.validate.specs.Validate.{residualsOf, evidenceOf, figuresOf, boundaryIn, validateMarks}
 
 -- the arrays of an accepted sheet: its ranks and positions, the keys of its cells, and the edge reasons
@@ -26,6 +26,6 @@ abbrev pub byRulesOf : Settings → View → (ℕ → Cell) → ByRules
 byRulesOf s w cell = record { marks = blameMarks w (evidenceOf s w cell); has = residualsOf s w cell .has; value = residualsOf s w cell .value }
 
 -- with rule 5, and the boundary
-unfoldable pub validatedOf : Settings → View → (ℕ → Cell) → Findings
+unfoldable pub validatedOf : Settings → View → (ℕ → Cell) → Measured
 validatedOf s w cell =
-    record { marks = validateMarks s w cell; components = 0; has = residualsOf s w cell .has; value = residualsOf s w cell .value; boundary = boundaryIn s w cell }
+    record { marks = validateMarks s w cell; has = residualsOf s w cell .has; value = residualsOf s w cell .value; boundary = boundaryIn s w cell }

@@ -1,7 +1,7 @@
 // The validate mark of each index, its residual and its edge figures: rules 1 to 5 over lines, residuals, steps and edge shapes.
 use edge_shape::Reason;
 use edges::Edges;
-use judged::Findings;
+use judged::Measured;
 use judged::figures::FigureCounts;
 use judged::figures::FigureMeasures;
 use sheet_file::EdgeGate;
@@ -127,7 +127,7 @@ pub fn validate(
     y: &Floats,
     n: usize,
     counts: &FigureCounts,
-) -> Findings
+) -> Measured
     requires { ⌜ Prepared s n (now ranks) (now keys) (now x) (now y) (now counts) ⌝ }
     ensures { λ r. ⌜ r ≡ validatedOf s (viewAt n (now (ranks .entry)) (now (x .entry)) (now (y .entry))) (cellsAt (now (keys .entry))) ⌝ }
 {
@@ -136,9 +136,8 @@ pub fn validate(
     let ruled = r.marks;
     let has = r.has;
     let value = r.value;
-    Findings {
+    Measured {
         marks: with_reasons(&ruled, counts, n),
-        components: 0,
         has,
         value,
         boundary: boundary_by(gate, ranks, keys, n),

@@ -8,10 +8,10 @@ use Rattle.drop_set.proofs.judge.Tie as tie
 
 returns : tie.Need-returns
 returns c =
-    let d = c .before in
+    let d = c .before .before .before .before .before in
     let m = d .before .before .before in
     let a = m .before .before .before .args in
-    judged-is (a .s) (viewAt (a .n) (a .ranks .now) (a .x .now) (a .y .now)) (cellsAt (a .keys .now)) _ _ _ (m .measure .ensures) (d .drop-patches .ensures (a .x .now) (a .y .now))
+    judged-is (a .s) (viewAt (a .n) (a .ranks .now) (a .x .now) (a .y .now)) (cellsAt (a .keys .now)) _ _ _ (m .measure .ensures .0) (m .measure .ensures .1) (d .drop-patches .ensures (a .x .now) (a .y .now))
 
 pub judge-spec : {M : Type 1} → statement M
 judge-spec = tie.close

@@ -4,7 +4,7 @@ use lib.ListN.{replicate}
 use Rattle.view.specs.View.{View, viewAt}
 use Rattle.edges.specs.Edges.{edgesSize}
 use Rattle.cells.specs.Cell.{cellsAt}
-use Rattle.drop_set.proofs.Laws.{marks-of, reasons-read, points-are, measured-is}
+use Rattle.drop_set.proofs.Laws.{marks-of, reasons-read, points-are, measured-is, figures-are}
 use borrow.Author.Needs.{needs}
 use Rattle.drop_set.proofs.measure.Statement.{statement}
 use Rattle.drop_set.proofs.measure.Tie as tie
@@ -54,8 +54,8 @@ returns c =
     let view : View = viewAt (a .n) (a .ranks .now) (a .x .now) (a .y .now) in
     let cell = cellsAt (a .keys .now) in
     let v = valid .validate .ensures in
-    measured-is (a .s) view cell _ _ v (points-are (a .s) view cell (marks-of (a .s) view cell v) (turned .lattice-orientation-drops .ensures) (wrong .wrong-marks .ensures) (c .point-marks .ensures))
-    (g .edge-figures .ensures)
+    let marks = points-are (a .s) view cell (marks-of (a .s) view cell v) (turned .lattice-orientation-drops .ensures) (wrong .wrong-marks .ensures) (c .point-marks .ensures) in
+    (measured-is (a .s) view cell v marks, figures-are (a .s) view (g .edge-figures .ensures))
 
 pub measure-spec : {M : Type 1} → statement M
 measure-spec =
