@@ -1,6 +1,6 @@
 -- The returned numbers, for every file and buffer. Assumes nothing.
 use mathlib.Core.Path.{_≡_, refl, ap}
-use mathlib.Core.Bool.{Bool, cond}
+use mathlib.Core.Bool.{Bool, true, false, cond}
 use mathlib.Core.List.{List}
 use mathlib.Core.Logic.{_⊎_, inl, inr}
 use Prim.{Dec, yes, no}
@@ -11,14 +11,17 @@ use borrow.Author.Tests.{le-leb, lt-leb}
 use lib.ListN.{length}
 use Rattle.view.specs.View.{maxPoints}
 use Rattle.sheet_file.specs.Bytes.{Bytes}
+use Rattle.runs.specs.Run.{full}
+use Rattle.runs.specs.declared.Run.{Run}
 use Rattle.kept.specs.Answer.{answerOf}
 use Rattle.kept.specs.declared.Answer.{Answer}
 use Rattle.kept.specs.declared.Answer.the-variants.{Refused, Accepted}
 use Rattle.kept.proofs.Bounds.{counts-bounded, refusal-bounded}
+use Rattle.kept_in_run.specs.InRun.{answerInRun}
 use Rattle.map_lines.specs.Map.{mapSize}
 use Rattle.sheet_map.specs.Text.{mapTextOf}
 use Rattle.sheet_map.proofs.Whole.{text-fits}
-use Rattle.higlaupth.specs.Number.{numberOf, Returned, refusal, counts, textNumber, MapReturned}
+use Rattle.higlaupth.specs.Number.{numberOf, Countable, Returned, refusal, counts, InRunReturned, run-full, as-sheet, textNumber, MapReturned}
 
 -- ---- of higlaupth_keep
 
@@ -29,6 +32,13 @@ returned file room b = go (answerOf file room) refl
     go (Refused k) e = let r = refusal-bounded file room e in refusal k (r .0) (r .1)
     go (Accepted c) e = let r = counts-bounded file room b e in counts (c .points) (c .components) (r .0) (r .1)
 
+pub countable : (file : List ℕ) (room : ℕ) → Bytes file → Countable (answerOf file room)
+countable file room b = go (answerOf file room) refl
+  where
+    go : (a : Answer) → answerOf file room ≡ a → Countable a
+    go (Refused k) e = tt
+    go (Accepted c) e = counts-bounded file room b e
+
 -- taken apart: above the low 32 bits a refusal has 0, and the counts have 1, 16 bits of points below it, and 16 bits of components
 pub refusal-apart : (number : ℕ) → number ≤ 9 → number / 2 ^ 32 ≡ 0
 refusal-apart k h = omega arith
@@ -36,6 +46,24 @@ refusal-apart k h = omega arith
 pub counts-apart : (points components : ℕ) → components ≤ points → points ≤ maxPoints
     → let n = 2 ^ 32 + 2 ^ 16 * points + components in (n / 2 ^ 32 ≡ 1) × (n / 2 ^ 16 % 2 ^ 16 ≡ points) × (n % 2 ^ 16 ≡ components)
 counts-apart p c h l = (omega arith, omega arith, omega arith)
+
+-- ---- of higlaupth_keep_in_run
+
+module _ (r : Run) (file : List ℕ) (room : ℕ) where
+  -- a full record refuses with 11; one that is not leaves the call its answer
+  in-run : (P : Answer → Type 0) → P (Refused 11) → P (answerOf file room) → P (answerInRun r file room)
+  unfolding answerInRun
+  in-run P a b = go (full r)
+    where
+      go : (f : Bool) → P (cond f (Refused 11) (answerOf file room))
+      go true = a
+      go false = b
+
+  pub countable-in-run : Bytes file → Countable (answerInRun r file room)
+  countable-in-run b = in-run Countable tt (countable file room b)
+
+  pub returned-in-run : Bytes file → InRunReturned (numberOf (answerInRun r file room))
+  returned-in-run b = in-run (λ (a : Answer). InRunReturned (numberOf a)) run-full (as-sheet (returned file room b))
 
 -- ---- of higlaupth_map
 

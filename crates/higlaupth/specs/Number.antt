@@ -14,11 +14,21 @@ abbrev pub numberOf : Answer → ℕ
 numberOf (Refused number) = number
 numberOf (Accepted counts) = 2 ^ 32 + 2 ^ 16 * counts .points + counts .components
 
+-- an answer whose counts are those of a sheet: no more components than points, no more points than the most of a sheet
+abbrev pub Countable : Answer → Type 0
+Countable (Refused number) = Unit {0}
+Countable (Accepted counts) = (counts .components ≤ counts .points) × (counts .points ≤ maxPoints)
+
 -- what the number that higlaupth_keep returns is: a refusal, 1 to 9, or 2^32 + 2^16 · points + components, no more components than points, no
 -- more points than the most of a sheet
 pub data Returned : ℕ → Type 0 where
   refusal : (number : ℕ) → 1 ≤ number → number ≤ 9 → Returned number
   counts : (points components : ℕ) → components ≤ points → points ≤ maxPoints → Returned (2 ^ 32 + 2 ^ 16 * points + components)
+
+-- what the number that higlaupth_keep_in_run returns is: the same, or 11
+pub data InRunReturned : ℕ → Type 0 where
+  run-full : InRunReturned 11
+  as-sheet : {number : ℕ} → Returned number → InRunReturned number
 
 -- of a text of `size` bytes for a buffer of `room`: its size, or 2^64 − 1 where the buffer is too short
 abbrev pub textNumber : ℕ → ℕ → ℕ

@@ -1,17 +1,19 @@
 -- How large the numbers of an answer are, for every file and buffer. Assumes nothing.
 use mathlib.Core.Path.{_≡_, refl, sym}
 use mathlib.Core.List.{List}
-use Prim.Native.Nat.{ℕ, _≤_}
+use Prim.Native.Nat.{ℕ, _+_, _≤_}
 use native.Mathlib.Omega.{arith}
-use lib.ListN.{length}
+use lib.ListN.{length, getD}
+use Rattle.folds.proofs.Column.{replicate-at}
 use Rattle.view.specs.View.{maxPoints}
+use Rattle.marks.specs.Filters.{filterCount}
 use Rattle.sheet_file.specs.Bytes.{Bytes}
 use Rattle.ruling.specs.Ruling.{Ruling, refused, accepted, rulingOf}
 use Rattle.ruling.proofs.Given.{is-given}
-use Rattle.ruling.proofs.Standing.{accepted-order}
+use Rattle.ruling.proofs.Standing.{accepted-file, accepted-order}
 use Rattle.judging.specs.Judging.{judgedFor}
-use Rattle.judging.proofs.Laws.{few-components}
-use Rattle.kept.specs.Answer.{answerBy, answerOf}
+use Rattle.judging.proofs.Laws.{few-components, few-counted}
+use Rattle.kept.specs.Answer.{answerBy, tallyBy, answerOf, tallyOf, countsIn}
 use Rattle.kept.specs.declared.Answer.the-variants.{Refused, Accepted}
 use Rattle.kept.specs.declared.Counts.{Counts}
 
@@ -41,3 +43,12 @@ module _ (file : List ℕ) (room : ℕ) where
           let g = is-given file room j q in
           rw (← p) (g .low, g .high)
       go (accepted s ps) q e = absurd (other (sym e))
+
+  -- no number of the tally is above the most points of a sheet
+  pub tally-bounded : (f : ℕ) → getD (countsIn (tallyOf file room)) f 0 ≤ maxPoints
+  unfolding tallyOf
+  tally-bounded f = go (rulingOf file room) refl
+    where
+      go : (r : Ruling) → rulingOf file room ≡ r → getD (countsIn (tallyBy r)) f 0 ≤ maxPoints
+      go (refused k) q = rw (replicate-at {A = ℕ} (filterCount + 1) 0 f) (omega arith)
+      go (accepted s ps) q = let k = accepted-file file room s ps q in omega (arith, few-counted s ps f, k .few, k .size)

@@ -28,11 +28,11 @@ write-rows-requires c κs =
 returns : tie.Need-returns
 unfolding judgedFrom
 returns c =
-    let j = c .before .before .before .before .before .before in
+    let j = c .before .before .before .before .before .before .before in
     let t = j .before .before .before in
     let k = t .before .before .before .before in
     let a = k .before .args in
-    done (a .file .now) (a .rows .now) (λ i. k .shared-slice-known .given i .fits) (a .sheet) (k .before .pre) (t .if1 .taken) (j .judge .ensures) (c .before .before .write-rows .ensures)
+    done (a .file .now) (a .rows .now) (λ i. k .shared-slice-known .given i .fits) (a .sheet) (k .before .pre) (t .if1 .taken) (j .judge .ensures) (c .before .before .before .write-rows .ensures)
 
 returns-2 : tie.Need-returns-2
 returns-2 c =

@@ -1,0 +1,2 @@
+pub mod InRun
+pub mod Through

@@ -1,0 +1,4 @@
+pub mod Full
+pub mod Adding
+pub mod Theorems
+pub mod Examples
