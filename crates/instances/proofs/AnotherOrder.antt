@@ -33,11 +33,11 @@ file-is = refl
 abbrev pub turned : List ℕ
 turned = shortFile 0x42C8_0000 (ten ∷ fourteen ∷ twelve ∷ eleven ∷ thirteen ∷ [])
 
-framed : framingOf file ≡ Framed (layoutOf file)
+pub framed : framingOf file ≡ Framed (layoutOf file)
 unfolding file-computes
 framed = refl
 
-is-relisted : Relisted file turned (layoutOf file)
+pub is-relisted : Relisted file turned (layoutOf file)
 unfolding file-computes recordsIn every
 is-relisted = record {
   rest = record { size = refl; head = λ k h. eqb-true (getD turned k 0) (getD file k 0) (every-at (λ (k : ℕ). eqb (getD turned k 0) (getD file k 0)) 10 refl k h) };

@@ -5,3 +5,5 @@ pub mod Offset
 pub mod Switches
 pub mod Map
 pub mod MovedMap
+pub mod Tally
+pub mod Runs

@@ -1,5 +1,5 @@
 -- The bytes of small sheet files; the sheet of five points; settings with cell size 0; the marks of points, and the component count of an
--- answer. Assumes nothing.
+-- answer; a repeated index; a file cut short. Assumes nothing.
 use mathlib.Core.List.{List, [], _∷_, _++_}
 use Prim.Native.Nat.{ℕ}
 use lib.ListN.{length, take}
@@ -13,6 +13,7 @@ use Rattle.judging.specs.Judging.{judgedFor}
 use Rattle.kept.specs.declared.Answer.{Answer}
 use Rattle.kept.specs.declared.Answer.the-variants.{Refused, Accepted}
 use Rattle.rows.specs.Rows.{littleEndian}
+use Rattle.stars.specs.Listed.{file}
 
 -- a point: the patterns of its cell, its index, and the patterns of its position
 abbrev pub point : ℕ → ℕ → ℕ → ℕ → ℕ → Point
@@ -79,3 +80,15 @@ marksOf s ps = take (length ps) (judgedFor s ps .marks)
 abbrev pub answeredComponents : Answer → ℕ
 answeredComponents (Refused k) = 0
 answeredComponents (Accepted c) = c .components
+
+-- ---- one index at two cells, and at one position
+
+abbrev pub doubled : List Point
+doubled = point 0 0 7 0 0 ∷ point 1 0 7 0 0 ∷ []
+
+abbrev pub doubledFile : List ℕ
+doubledFile = shortFile 0 doubled
+
+-- the first 109 bytes of the file of five points: refused with 1
+abbrev pub cutFile : List ℕ
+cutFile = take 109 file

@@ -25,10 +25,10 @@ use Rattle.judging.specs.Judging.{judgedFor}
 use Rattle.promises.specs.Words.{otherMark, survivor, keptRank}
 
 module _ (s : Settings) (w : View) (cell : ℕ → Cell) where
-  abbrev all : List Marking
+  abbrev pub all : List Marking
   all = pointFilters s w cell ++ patchFilters s w
 
-  marks-are : judgedOf s w cell .marks ≡ markedByAll (w .count) all []
+  pub marks-are : judgedOf s w cell .marks ≡ markedByAll (w .count) all []
   unfolding judgedOf measuredOf patchedOf pointMarks
   marks-are = sym (in-two (w .count) (pointFilters s w cell) (patchFilters s w) [])
 

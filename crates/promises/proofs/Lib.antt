@@ -1,4 +1,8 @@
 pub mod Bits
+pub mod Different
+pub mod Shared
+pub mod Tallied
+pub mod Running
 pub mod Patch
 pub mod RowMarks
 pub mod Moving

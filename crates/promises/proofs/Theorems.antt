@@ -35,7 +35,7 @@ use Rattle.components.proofs.Whole.{smallest}
 use Rattle.marks.specs.Filters.{validate, orientation, wrong}
 use Rattle.marks.specs.Byte.{hasMark}
 use Rattle.judging.specs.Judging.{judgedFor}
-use Rattle.kept.specs.Answer.{answerBy, rowsBy, answerOf, rowsAfter}
+use Rattle.kept.specs.Answer.{answerBy, rowsBy, tallyBy, answerOf, rowsAfter, tallyOf}
 use Rattle.kept.specs.declared.Answer.the-variants.{Accepted}
 use Rattle.sheet_listing.specs.Text.{textBy, textOf}
 use Rattle.map_lines.specs.Map.{pointCharacter, lineCharacters, mapOf}
@@ -47,13 +47,15 @@ use Rattle.sheet_map.specs.Text.{mapRuling, mapBy, mapRulingOf, mapTextOf}
 use Rattle.sheet_map.proofs.Laws.{text-is, older-first, ten-given, none-given, is-wide, is-drawn, number-given, never-ten, never-three-drawn}
 use Rattle.sheet_map.proofs.Texts.{number-printed, drawn-printed, number-read}
 use Rattle.sheet_map.proofs.Whole.{v-within, text-fits}
-use Rattle.promises.specs.Words.{marksIn, tallyBy, tallyOf}
+use Rattle.promises.specs.Words.{marksIn}
 use Rattle.promises.proofs.Patch.{none-kept, all-marked, reached-below, largest-kept, roots, patchOf, all-counted, count-on, count-off}
+use Rattle.promises.proofs.Tallied.{counts-indices}
 use Rattle.promises.proofs.Unswitched.{validate-stays}
 use Rattle.promises.proofs.RowMarks.{row-marks, kept-rows}
 use Rattle.promises.proofs.Moving.{validate-in, orientation-in, orientation-stays, wrong-stays, marks-stay, kept-stays, through, rows-stay}
 use Rattle.promises.proofs.MovingMap.{ten-moved, ten-before, map-stays}
 use Rattle.promises.proofs.OnMap.{cells-apart, kept-shown, only-kept-shown}
+use Rattle.promises.specs.Tally.{TallyPromise}
 use Rattle.promises.specs.Map.{onMap, MapLinesPromise, MapPointsPromise, MapSizePromise, MapNumbersPromise, MapTextsPromise, TenAlonePromise, OffsetMapPromise, MovedFileMapPromise}
 use Rattle.promises.specs.Promises.{RanksAreCells, KeptByRows, KeptPatchPromise, ComponentCountPromise, NoCountPromise, AnotherOrderPromise, OffsetPromise, OffsetRowsPromise, MovedFilePromise, MovedFileRowsPromise, SwitchesPromise, SwitchedRowsPromise}
 
@@ -93,6 +95,12 @@ component-count file room s ps b e on =
 
 pub no-count : NoCountPromise
 no-count file room s ps e off = answer-is file room s ps e ∙ ap (λ (c : ℕ). Accepted (record { points = length ps; components = c })) (count-off s ps off)
+
+-- ---- the tally
+
+pub tally-by-index : TallyPromise
+unfolding tallyOf
+tally-by-index file room s ps e = record { tally = ap tallyBy e; counts = counts-indices s ps }
 
 pub another-order : AnotherOrderPromise
 unfolding answerOf rowsAfter tallyOf textOf mapTextOf mapRulingOf

@@ -1,3 +1,5 @@
 pub mod Words
 pub mod Promises
 pub mod Map
+pub mod Tally
+pub mod Runs

@@ -23,11 +23,11 @@ use Rattle.ruling.specs.Switches.{Switched}
 use Rattle.ruling.specs.Offset.{Offset, MovedAlong, movedFile, StaysInRange}
 use Rattle.marks.specs.Filters.{validate, orientation, wrong}
 use Rattle.marks.specs.Byte.{hasMark}
-use Rattle.kept.specs.Answer.{answerOf, rowsAfter}
+use Rattle.kept.specs.Answer.{answerOf, rowsAfter, tallyOf}
 use Rattle.kept.specs.declared.Answer.the-variants.{Accepted}
 use Rattle.sheet_listing.specs.Text.{textOf}
 use Rattle.sheet_map.specs.Text.{mapTextOf}
-use Rattle.promises.specs.Words.{DistinctIndices, marksIn, hasOther, survivor, joined, keptRank, marksByte, tallyOf}
+use Rattle.promises.specs.Words.{DistinctIndices, marksIn, hasOther, survivor, joined, keptRank, marksByte}
 
 -- ---- ranks, and the rows
 

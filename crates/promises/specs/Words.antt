@@ -1,7 +1,7 @@
 -- "The words of demand 3", of points ps in cell order with settings s: a point is named by its rank. Assumes nothing.
 use mathlib.Core.Path.{_≡_}
 use mathlib.Core.Bool.{Bool, not, _&&_}
-use mathlib.Core.List.{List, []}
+use mathlib.Core.List.{List}
 use Prim.Native.Nat.{ℕ, _*_, _<_}
 use lib.Dec.{eqb, ltb}
 use lib.ListN.{length, getD}
@@ -11,8 +11,6 @@ use Rattle.cells.specs.Cell.{cellOf, joinedBy}
 use Rattle.sheet_file.specs.declared.Settings.{Settings}
 use Rattle.marks.specs.Filters.{filterCount, component}
 use Rattle.marks.specs.Byte.{hasMark}
-use Rattle.marks.specs.Tally.{countsOf}
-use Rattle.ruling.specs.Ruling.{Ruling, refused, accepted, rulingOf}
 use Rattle.drop_set.specs.Filters.{sidesOf}
 use Rattle.judging.specs.Judging.{judgedFor}
 use Rattle.rows.specs.Rows.{rowSize}
@@ -49,13 +47,3 @@ module _ (s : Settings) (ps : List Point) where
 -- the first of the bytes of row k: "Byte 0: marks"
 abbrev pub marksByte : List ℕ → List ℕ → ℕ → ℕ
 marksByte file buffer k = getD (rowsAfter file buffer) (rowSize * k) 0
-
--- "The counts are those of the listing's first line and of its tally": of an accepted file, how many points are counted under each filter, and
--- how many are kept
-abbrev pub tallyBy : Ruling → List ℕ
-tallyBy (refused k) = []
-tallyBy (accepted s ps) = countsOf (length ps) (judgedFor s ps .marks)
-
-unfoldable pub tallyOf : List ℕ → ℕ → List ℕ
-unfolding rulingOf countsOf judgedFor
-tallyOf file room = tallyBy (rulingOf file room)
