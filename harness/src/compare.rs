@@ -3,9 +3,9 @@
 use crate::angles;
 use crate::generate::{self, Case, Expected, Kind};
 use crate::library;
-use crate::limits::Met;
+use crate::limits::{map::Seen, Met};
 use crate::run_original::{Held, Prepared};
-use crate::second::{self, Answer, Fault, Map, ROW};
+use crate::second::{self, Answer, Fault, InRun, Map, Record, ROW};
 use crate::sheet::Sheet;
 use crate::text;
 
@@ -79,6 +79,21 @@ fn map_difference(case: &Case, map: &Map) -> Option<String> {
     library::map_difference(&case.file, &second::map_text(map))
 }
 
+/// What the library's call in a run that starts now, where its tally shows, says otherwise of an answer.
+fn run_difference(case: &Case, answer: &Answer) -> Option<String> {
+    let before = Record::new();
+    let record = match answer {
+        Answer::Accepted { tally, .. } => before.after(tally, Fault::None),
+        Answer::Refused(_) => before,
+    };
+    let handed = InRun {
+        answer: answer.clone(),
+        written: answer.rows().to_vec(),
+        record,
+    };
+    library::run_difference(&case.file, case.buffer, &before, &handed)
+}
+
 /// Compares one case with its answer and its map.
 pub fn check(case: &Case, answer: &Answer, map: &Map) -> Verdict {
     let refusal = match answer {
@@ -89,6 +104,7 @@ pub fn check(case: &Case, answer: &Answer, map: &Map) -> Verdict {
         return Verdict::Different(text);
     }
     let library = library::difference(&case.file, case.buffer, answer);
+    let library = library.or_else(|| run_difference(case, answer));
     if let Some(text) = library.or_else(|| map_difference(case, map)) {
         return Verdict::Different(text);
     }
@@ -124,6 +140,8 @@ pub struct Report {
     pub acos: usize,
     by_kind: Vec<[usize; 4]>,
     refused: [usize; 10],
+    /// Sheets with an index at several cells.
+    repeated: usize,
     points: usize,
     marks: [usize; 4],
     reasons: [usize; 4],
@@ -134,7 +152,7 @@ pub struct Report {
     maps: usize,
     lines: usize,
     no_maps: [usize; 11],
-    pub met: Met,
+    pub met: Met<Seen>,
     smallest_acos: Option<(usize, Case)>,
 }
 
@@ -151,6 +169,13 @@ impl Report {
             self.not_a_number += usize::from(residual.is_nan());
             self.infinite += usize::from(residual.is_infinite());
         }
+    }
+
+    fn count_sheet(&mut self, sheet: &Sheet, rows: &[u8]) {
+        self.count_rows(rows);
+        self.repeated += usize::from(sheet.repeats_index());
+        let seen = Seen::new(sheet, rows);
+        seen.iter().for_each(|seen| self.met.add(seen));
     }
 
     fn count_map(&mut self, map: &Map) {
@@ -197,9 +222,23 @@ impl Report {
             }
         }
         if let Answer::Accepted { rows, .. } = &answer {
-            self.count_rows(rows);
-            self.met.add(&Sheet::from_file(&case.file).unwrap(), rows);
+            self.count_sheet(&Sheet::from_file(&case.file).unwrap(), rows);
         }
+    }
+
+    fn print_sheets(&self) {
+        println!("refused with 1 to 9: {:?}", &self.refused[1..]);
+        println!(
+            "points {} marks VOWC {:?} reasons 1 to 3 {:?}; sheets with a repeated index {}",
+            self.points,
+            self.marks,
+            &self.reasons[1..],
+            self.repeated
+        );
+        println!(
+            "residuals: none {} NaN {} infinite {}",
+            self.without_fit, self.not_a_number, self.infinite
+        );
     }
 
     fn print_maps(&self) {
@@ -223,17 +262,7 @@ impl Report {
                 format!("{kind:?}")
             );
         }
-        println!("refused with 1 to 9: {:?}", &self.refused[1..]);
-        println!(
-            "points {} marks VOWC {:?} reasons 1 to 3 {:?}",
-            self.points,
-            self.marks,
-            &self.reasons[1..]
-        );
-        println!(
-            "residuals: none {} NaN {} infinite {}",
-            self.without_fit, self.not_a_number, self.infinite
-        );
+        self.print_sheets();
         self.print_maps();
         if let Some((_, case)) = &self.smallest_acos {
             println!(

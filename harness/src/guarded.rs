@@ -1,5 +1,6 @@
 //! Memory between two pages that may not be touched, and calls on a stack of a given size.
 
+use crate::library::{Call, Run, RunCall};
 use std::ffi::c_void;
 
 const PAGE: usize = 4096;
@@ -73,8 +74,29 @@ impl Area {
     }
 }
 
-/// The C function's form.
-pub type Call = unsafe extern "C" fn(*const u8, usize, *mut u8, usize) -> u64;
+/// A C function, with the record that it takes, if it does.
+#[derive(Clone, Copy)]
+pub enum Callee {
+    Plain(Call),
+    InRun(RunCall, *mut Run),
+}
+
+impl Callee {
+    /// # Safety
+    /// As the function's own.
+    pub unsafe fn call(
+        self,
+        file: *const u8,
+        file_len: usize,
+        buffer: *mut u8,
+        buffer_len: usize,
+    ) -> u64 {
+        match self {
+            Callee::Plain(f) => f(file, file_len, buffer, buffer_len),
+            Callee::InRun(f, run) => f(file, file_len, buffer, buffer_len, run),
+        }
+    }
+}
 
 /// A painted stack with a guard page below it.
 pub struct Stack {
@@ -102,13 +124,18 @@ impl Stack {
     #[cfg(target_arch = "x86_64")]
     pub unsafe fn call(
         &mut self,
-        f: Call,
+        callee: Callee,
         file: *const u8,
         file_len: usize,
-        rows: *mut u8,
-        rows_len: usize,
+        buffer: *mut u8,
+        buffer_len: usize,
     ) -> u64 {
         let top = self.area.at(self.area.size());
+        // A function of four parameters does not look at the register of the fifth.
+        let (f, run) = match callee {
+            Callee::Plain(f) => (f as *const c_void, std::ptr::null_mut()),
+            Callee::InRun(f, run) => (f as *const c_void, run),
+        };
         let returned: u64;
         // The stack pointer is kept in r12, which a C function hands back as it found it.
         std::arch::asm!(
@@ -120,8 +147,9 @@ impl Stack {
             f = in(reg) f,
             in("rdi") file,
             in("rsi") file_len,
-            in("rdx") rows,
-            in("rcx") rows_len,
+            in("rdx") buffer,
+            in("rcx") buffer_len,
+            in("r8") run,
             lateout("rax") returned,
             out("r12") _,
             clobber_abi("C"),
@@ -133,13 +161,13 @@ impl Stack {
     #[cfg(not(target_arch = "x86_64"))]
     pub unsafe fn call(
         &mut self,
-        f: Call,
+        callee: Callee,
         file: *const u8,
         file_len: usize,
-        rows: *mut u8,
-        rows_len: usize,
+        buffer: *mut u8,
+        buffer_len: usize,
     ) -> u64 {
-        f(file, file_len, rows, rows_len)
+        callee.call(file, file_len, buffer, buffer_len)
     }
 
     /// Looks how far up the paint still stands.

@@ -1,17 +1,59 @@
 //! The static library in the same process.
 //!
 //! With the feature `library`, `libhiglaupth.a` is linked from the folder that HIGLAUPTH_LIBRARY
-//! names, and the functions here reach it; without it they say that there is none. The C functions
-//! and the meaning of what they return (include/higlaupth.h) stand here alone.
+//! names, and the functions here reach it; without it they say that there is none. The C functions,
+//! the record's layout and the meaning of what they return (include/higlaupth.h) stand here alone.
 
-use crate::guarded::Call;
-use crate::second::Answer;
+use crate::generate::Start;
+use crate::second::{Answer, Fault, InRun, Record, NUMBERS, OLD};
 
-/// The two C functions, from a file to its rows and from a file to its map.
+/// A function from a file to a buffer.
+pub type Call = unsafe extern "C" fn(*const u8, usize, *mut u8, usize) -> u64;
+
+/// One that takes and hands back the record of a run beside them.
+pub type RunCall = unsafe extern "C" fn(*const u8, usize, *mut u8, usize, *mut Run) -> u64;
+
+/// The old sums, kept first.
+pub type OldSums = [u32; OLD];
+
+/// The record of a run: 44 bytes.
+#[repr(C)]
+#[derive(Clone, Copy, Debug, PartialEq)]
+pub struct Run {
+    pub old_sums: OldSums,
+    pub sheets: u32,
+    pub new_sums: [u32; NUMBERS - OLD - 1],
+}
+
+impl From<Record> for Run {
+    fn from(record: Record) -> Run {
+        Run {
+            old_sums: record.old_sums,
+            sheets: record.sheets,
+            new_sums: record.new_sums,
+        }
+    }
+}
+
+impl From<Run> for Record {
+    fn from(run: Run) -> Record {
+        Record {
+            old_sums: run.old_sums,
+            sheets: run.sheets,
+            new_sums: run.new_sums,
+        }
+    }
+}
+
+/// The C functions: from a file to its rows, to its map, to its rows in a run; and the two that begin
+/// a record.
 #[derive(Clone, Copy)]
 pub struct Calls {
     pub keep: Call,
     pub map: Call,
+    pub keep_in_run: RunCall,
+    pub run_new: unsafe extern "C" fn(*mut Run),
+    pub run_from_old_sums: unsafe extern "C" fn(*const OldSums, *mut Run),
 }
 
 /// The C functions themselves; none without the library.
@@ -20,10 +62,22 @@ pub fn functions() -> Option<Calls> {
     extern "C" {
         fn higlaupth_keep(file: *const u8, file_len: usize, rows: *mut u8, rows_len: usize) -> u64;
         fn higlaupth_map(file: *const u8, file_len: usize, text: *mut u8, text_len: usize) -> u64;
+        fn higlaupth_keep_in_run(
+            file: *const u8,
+            file_len: usize,
+            rows: *mut u8,
+            rows_len: usize,
+            run: *mut Run,
+        ) -> u64;
+        fn higlaupth_run_new(run: *mut Run);
+        fn higlaupth_run_from_old_sums(old_sums: *const OldSums, run: *mut Run);
     }
     Some(Calls {
         keep: higlaupth_keep,
         map: higlaupth_map,
+        keep_in_run: higlaupth_keep_in_run,
+        run_new: higlaupth_run_new,
+        run_from_old_sums: higlaupth_run_from_old_sums,
     })
 }
 
@@ -37,10 +91,21 @@ fn on(call: Call, file: &[u8], buffer: &mut [u8]) -> u64 {
     unsafe { call(file.as_ptr(), file.len(), buffer.as_mut_ptr(), buffer.len()) }
 }
 
+fn on_run(call: RunCall, file: &[u8], buffer: &mut [u8], run: &mut Run) -> u64 {
+    let (rows, length) = (buffer.as_mut_ptr(), buffer.len());
+    // It writes `run` too, which overlaps neither.
+    unsafe { call(file.as_ptr(), file.len(), rows, length, run) }
+}
+
 /// What the library returned for rows: a refusal number of 1 to 9, or 2^32 + 2^16 * points +
 /// components; none without the library.
 pub fn call(file: &[u8], rows: &mut [u8]) -> Option<u64> {
     functions().map(|calls| on(calls.keep, file, rows))
+}
+
+/// What it returned for rows in a run: the same, or 11; none without the library.
+pub fn call_in_run(file: &[u8], rows: &mut [u8], run: &mut Run) -> Option<u64> {
+    functions().map(|calls| on_run(calls.keep_in_run, file, rows, run))
 }
 
 /// What the library returned for a map: the length of its text, or `NO_ROOM`; none without the
@@ -85,12 +150,16 @@ const GUARD: usize = 64;
 
 /// The first place where a call with a buffer of some length differs from what it should return and
 /// write: the number, a byte written, or a byte beyond those that it changed.
-fn differs(call: Call, file: &[u8], buffer: usize, expected: (u64, &[u8])) -> Option<String> {
+fn differs(
+    call: impl FnOnce(&mut [u8]) -> u64,
+    buffer: usize,
+    expected: (u64, &[u8]),
+) -> Option<String> {
     let whole: Vec<u8> = (0..buffer + 2 * GUARD)
         .map(|k| (k * 7 + 165) as u8)
         .collect();
     let mut left = whole.clone();
-    let returned = on(call, file, &mut left[GUARD..GUARD + buffer]);
+    let returned = call(&mut left[GUARD..GUARD + buffer]);
     let (number, written) = expected;
     if returned != number {
         return Some(format!("returned {returned:#x}, expected {number:#x}"));
@@ -103,7 +172,8 @@ fn differs(call: Call, file: &[u8], buffer: usize, expected: (u64, &[u8])) -> Op
 
 /// The first place where the library's rows differ from an answer.
 pub fn difference(file: &[u8], buffer: usize, answer: &Answer) -> Option<String> {
-    let text = differs(functions()?.keep, file, buffer, expected(answer))?;
+    let call = functions()?.keep;
+    let text = differs(|rows| on(call, file, rows), buffer, expected(answer))?;
     Some(format!("library: {text}"))
 }
 
@@ -117,7 +187,69 @@ pub fn map_buffers(length: usize) -> [usize; 5] {
 pub fn map_difference(file: &[u8], text: &str) -> Option<String> {
     let call = functions()?.map;
     map_buffers(text.len()).into_iter().find_map(|buffer| {
-        let text = differs(call, file, buffer, expected_map(text, buffer))?;
+        let expected = expected_map(text, buffer);
+        let text = differs(|text| on(call, file, text), buffer, expected)?;
         Some(format!("library's map, buffer of {buffer}: {text}"))
     })
+}
+
+/// A record between numbers that the library must leave alone.
+#[repr(C)]
+#[derive(Clone, Copy, Debug, PartialEq)]
+struct Fenced {
+    before: [u32; 8],
+    run: Run,
+    after: [u32; 8],
+}
+
+impl Fenced {
+    fn new(run: Run) -> Fenced {
+        Fenced {
+            before: [0xA5A5_A5A5; 8],
+            run,
+            after: [0x5A5A_5A5A; 8],
+        }
+    }
+
+    /// What is wrong if it should hold this record.
+    fn differs(&self, right: Record) -> Option<String> {
+        if *self != Fenced::new(self.run) {
+            return Some("a byte beside the record".into());
+        }
+        let (now, right) = (Record::from(self.run).numbers(), right.numbers());
+        (now != right).then(|| format!("record {now:?}, expected {right:?}"))
+    }
+}
+
+/// The first place where the library's call in a run differs from what the second program hands back.
+pub fn run_difference(
+    file: &[u8],
+    buffer: usize,
+    before: &Record,
+    handed: &InRun,
+) -> Option<String> {
+    let call = functions()?.keep_in_run;
+    let mut record = Fenced::new((*before).into());
+    let number = expected(&handed.answer).0;
+    let call = |rows: &mut [u8]| on_run(call, file, rows, &mut record.run);
+    let text = differs(call, buffer, (number, &handed.written));
+    let text = text.or_else(|| record.differs(handed.record))?;
+    Some(format!("library's run: {text}"))
+}
+
+/// The first record that the library begins otherwise than the second program.
+pub fn start_difference(start: &Start) -> Option<String> {
+    let calls = functions()?;
+    // What stands there before must not matter.
+    let mut record = Fenced::new(Record::from_numbers([0x1234_5678; NUMBERS]).into());
+    // The library writes the record alone.
+    unsafe {
+        match start {
+            Start::New => (calls.run_new)(&mut record.run),
+            Start::FromOldSums(sums) => (calls.run_from_old_sums)(sums, &mut record.run),
+            Start::Given(_) => return None,
+        }
+    }
+    let text = record.differs(start.record(Fault::None))?;
+    Some(format!("library's {start:?}: {text}"))
 }

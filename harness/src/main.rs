@@ -20,10 +20,12 @@ mod random;
 mod run_original;
 #[cfg(original_at_hand)]
 mod run_original;
+mod runs;
 mod second;
 mod shapes;
 mod sheet;
 mod stars;
+mod tally_reader;
 mod text;
 mod vectors;
 
@@ -38,17 +40,21 @@ harness quick                         the checks of the gate
 harness compare [--sheets N] [--seed S] [--kind KIND | --maps]
                                       original against second program; --maps: sheets made for
                                       the map
-harness mutants [--sheets N] [--seed S] [--maps]
+harness compare --runs [--runs-of N] [--sheets N] [--seed S]
+                                      runs of N sheets each, from records of every kind: library
+                                      against second program
+harness mutants [--sheets N] [--seed S] [--maps | --runs]
                                       how many sheets show each deliberate fault of the answers,
-                                      or of the maps
+                                      or of the maps, or how many runs each of the run
 harness acos [COSINE ..]              what the Rust's acos makes of 30 degrees and of least cosines
 harness generate KIND SEED            a sheet file to standard output
 harness kinds                         the kinds of generated sheets
 harness second [BUFFER]               listing of the sheet file on standard input
 harness map                           map of the sheet file on standard input
 harness original                      rows of the original for the sheet file on standard input
-harness vectors float|sheet_file|sheet FOLDER [--sheets N] [--seed S] [--most BYTES] [--full N]
-                [--maps N] [--full-lines N]
+harness vectors float|sheet_file|run FOLDER
+harness vectors sheet FOLDER [--sheets N] [--seed S] [--most BYTES] [--full N] [--maps N]
+                [--full-lines N]
                                       the recorded files of a vector crate, stdin and stdout
 harness roots [--step N]              the machine's root against whole numbers
 harness float-check [time]            the static library of float_c against Rust's own functions
@@ -69,6 +75,11 @@ fn option(args: &[String], name: &str, default: u64) -> u64 {
         Some(Some(Ok(value))) => value,
         _ => fail(&format!("{name} takes a number")),
     }
+}
+
+/// Whether a word stands among the arguments.
+fn has(args: &[String], word: &str) -> bool {
+    args.iter().any(|a| a == word)
 }
 
 fn fail(message: &str) -> ! {
@@ -109,8 +120,20 @@ fn say_left_out() {
     }
 }
 
+/// Runs of generated sheets.
+fn compare_runs(args: &[String]) -> bool {
+    let sheets = option(args, "--sheets", 12_000) as usize;
+    let each = option(args, "--runs-of", generate::RUN_OF as u64).max(1) as usize;
+    let report = runs::run(sheets / each, each, option(args, "--seed", 0));
+    report.print();
+    report.failed == 0
+}
+
 fn compare(args: &[String]) -> bool {
     say_left_out();
+    if has(args, "--runs") {
+        return compare_runs(args);
+    }
     let kind = args
         .iter()
         .position(|a| a == "--kind")
@@ -119,7 +142,7 @@ fn compare(args: &[String]) -> bool {
         |name: &String| Kind::from_name(name).unwrap_or_else(|| fail(&format!("no kind {name}")));
     let kinds = match kind {
         Some(name) => vec![(named(name), "")],
-        None if args.iter().any(|a| a == "--maps") => Kind::for_map().to_vec(),
+        None if has(args, "--maps") => Kind::for_map().to_vec(),
         None => Kind::first().to_vec(),
     };
     let sheets = option(args, "--sheets", 2300) as usize;
@@ -128,18 +151,20 @@ fn compare(args: &[String]) -> bool {
     report.failed == 0
 }
 
-/// How many sheets show each fault of one part; whether all are seen that can be.
-fn shown<T: PartialEq>(part: &mutants::Part<T>, sheets: usize, seed: u64) -> bool {
-    let shown = mutants::run(part, sheets, seed, false);
-    mutants::print(part.faults, sheets, &shown);
+/// How many cases show each fault of one part; whether all are seen that can be.
+fn shown<C, T: PartialEq>(part: &mutants::Part<C, T>, cases: usize, seed: u64) -> bool {
+    let shown = mutants::run(part, cases, seed, false);
+    mutants::print(part, cases, &shown);
     mutants::unseen(part.faults, &shown) == 0
 }
 
 fn mutants(args: &[String]) -> bool {
     let sheets = option(args, "--sheets", 2700) as usize;
     let seed = option(args, "--seed", 0);
-    if args.iter().any(|a| a == "--maps") {
+    if has(args, "--maps") {
         shown(&mutants::maps(), sheets, seed)
+    } else if has(args, "--runs") {
+        shown(&mutants::runs(), sheets / generate::RUN_OF, seed)
     } else {
         shown(&mutants::answers(), sheets, seed)
     }
@@ -152,7 +177,7 @@ fn load(args: &[String]) -> bool {
     if threads > 1 {
         return load::threads(threads, files, seed);
     }
-    let heap = args.iter().any(|a| a == "--heap");
+    let heap = has(args, "--heap");
     let wrong = option(args, "--wrong", u64::MAX);
     let wrong = (wrong != u64::MAX).then_some(wrong as usize);
     load::run(files, seed, heap, wrong)
@@ -210,6 +235,7 @@ fn vectors(crate_of: &str, folder: &str, args: &[String]) {
     let made = match crate_of {
         "float" => vectors::float(),
         "sheet_file" => vectors::sheet_file(),
+        "run" => vectors::run(),
         "sheet" => {
             say_without_original();
             let recorded = vectors::Choice::RECORDED;
@@ -222,7 +248,7 @@ fn vectors(crate_of: &str, folder: &str, args: &[String]) {
                 full_lines: option(args, "--full-lines", recorded.full_lines as u64) as usize,
             })
         }
-        _ => fail("vectors takes float, sheet_file or sheet, and a folder"),
+        _ => fail("vectors takes float, sheet_file, sheet or run, and a folder"),
     };
     save(&format!("{folder}/stdin"), &made.stdin);
     save(&format!("{folder}/stdout"), &made.stdout);

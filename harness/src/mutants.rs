@@ -1,7 +1,7 @@
-//! Deliberate faults of the second program, and how many sheets show each.
+//! Deliberate faults of the second program, and how many sheets or runs show each.
 
-use crate::generate::{self, Case, Kind};
-use crate::second::{self, Answer, Fault, Map};
+use crate::generate::{self, Case, Kind, Run};
+use crate::second::{self, Answer, Fault, InRun, Map};
 
 /// The faults that no sheet shows, with why none can.
 pub const NONE_CAN_SHOW: &[(Fault, &str)] = &[(
@@ -13,64 +13,86 @@ pub const NONE_CAN_SHOW: &[(Fault, &str)] = &[(
 /// A list of faults, each with what is wrong.
 type Faults = &'static [(Fault, &'static str)];
 
-/// A fault's count of sheets that show it, and the first kind and seed that does.
-type Shown = Vec<(usize, Option<(Kind, u64)>)>;
+/// A fault's count of cases that show it, and the name of the first that does.
+type Shown = Vec<(usize, Option<String>)>;
 
-/// Faults of one part of the second program, the kinds of sheets that should show them, and what is
-/// looked at.
-pub struct Part<T> {
+/// Faults of one part of the second program, the cases that should show them, and what is looked at.
+pub struct Part<C, T> {
     pub faults: Faults,
-    pub kinds: &'static [(Kind, &'static str)],
-    outcome: fn(&Case, Fault) -> T,
+    /// What a case is.
+    pub case: &'static str,
+    /// Case i from a seed on.
+    nth: fn(u64, usize) -> C,
+    name: fn(&C) -> String,
+    outcome: fn(&C, Fault) -> T,
+}
+
+fn sheet_name(case: &Case) -> String {
+    format!("{:?} {}", case.kind, case.seed)
 }
 
 /// The answer to a file.
-pub fn answers() -> Part<Answer> {
+pub fn answers() -> Part<Case, Answer> {
     Part {
         faults: Fault::ALL,
-        kinds: Kind::first(),
+        case: "sheet",
+        nth: |seed, i| generate::nth(Kind::first(), seed, i),
+        name: sheet_name,
         outcome: |case, fault| second::answer(&case.file, case.buffer, fault),
     }
 }
 
 /// The map.
-pub fn maps() -> Part<Map> {
+pub fn maps() -> Part<Case, Map> {
     Part {
         faults: Fault::MAP,
-        kinds: Kind::for_map(),
+        case: "sheet",
+        nth: |seed, i| generate::nth(Kind::for_map(), seed, i),
+        name: sheet_name,
         outcome: |case, fault| second::map(&case.file, fault),
     }
 }
 
-/// Whether a sheet could show a fault.
+/// What the calls of a run hand back, one after the other.
+pub fn runs() -> Part<Run, Vec<InRun>> {
+    Part {
+        faults: Fault::RUN,
+        case: "run",
+        nth: |seed, i| generate::run(seed + i as u64, generate::RUN_OF),
+        name: |run| run.seed.to_string(),
+        outcome: Run::through,
+    }
+}
+
+/// Whether a case could show a fault.
 pub fn can_show(fault: Fault) -> bool {
     NONE_CAN_SHOW.iter().all(|(f, _)| *f != fault)
 }
 
-/// How many of the sheets show each fault, in the order of the part's list. With `once` a fault is
-/// left alone after the first sheet that shows it, and the run ends when all are seen.
-pub fn run<T: PartialEq>(part: &Part<T>, sheets: usize, seed: u64, once: bool) -> Shown {
+/// How many of the cases show each fault, in the order of the part's list. With `once` a fault is
+/// left alone after the first case that shows it, and the search ends when all are seen.
+pub fn run<C, T: PartialEq>(part: &Part<C, T>, cases: usize, seed: u64, once: bool) -> Shown {
     let mut shown: Shown = vec![(0, None); part.faults.len()];
-    for i in 0..sheets {
+    for i in 0..cases {
         let faults = part.faults.iter().enumerate();
         let open = faults.filter(|(k, _)| !once || shown[*k].0 == 0);
         let open: Vec<(usize, Fault)> = open.map(|(k, &(fault, _))| (k, fault)).collect();
         if once && open.iter().all(|&(_, fault)| !can_show(fault)) {
             break;
         }
-        let case = generate::nth(part.kinds, seed, i);
+        let case = (part.nth)(seed, i);
         let right = (part.outcome)(&case, Fault::None);
         for (k, fault) in open {
             if (part.outcome)(&case, fault) != right {
                 shown[k].0 += 1;
-                shown[k].1.get_or_insert((case.kind, case.seed));
+                shown[k].1.get_or_insert_with(|| (part.name)(&case));
             }
         }
     }
     shown
 }
 
-/// How many faults went unseen that a sheet could show.
+/// How many faults went unseen that a case could show.
 pub fn unseen(faults: Faults, shown: &Shown) -> usize {
     let faults = faults.iter().zip(shown);
     faults
@@ -78,12 +100,12 @@ pub fn unseen(faults: Faults, shown: &Shown) -> usize {
         .count()
 }
 
-pub fn print(faults: Faults, sheets: usize, shown: &Shown) {
-    println!("of {sheets} sheets, those that show the fault:");
-    for (&(fault, text), (count, first)) in faults.iter().zip(shown) {
+pub fn print<C, T>(part: &Part<C, T>, cases: usize, shown: &Shown) {
+    println!("of {cases} {}s, those that show the fault:", part.case);
+    for (&(fault, text), (count, first)) in part.faults.iter().zip(shown) {
         let argued = NONE_CAN_SHOW.iter().find(|(f, _)| *f == fault);
         let note = match (first, argued) {
-            (Some((kind, seed)), _) => format!("first {kind:?} {seed}"),
+            (Some(name), _) => format!("first {name}"),
             (None, Some((_, why))) => format!("none can: {why}"),
             (None, None) => "UNSEEN".into(),
         };

@@ -5,6 +5,7 @@ use crate::map_reader;
 use crate::random::Random;
 use crate::second::{self, Answer, Fault, Map, ROOM, ROW};
 use crate::sheet::{Rest, Sheet};
+use crate::tally_reader;
 
 fn answer(sheet: &Sheet, buffer: usize) -> Answer {
     second::answer(&sheet.to_file(), buffer, Fault::None)
@@ -185,4 +186,44 @@ pub fn first_unread(sheets: usize, seed: u64) -> (Option<String>, usize) {
         }
     }
     (None, noticed)
+}
+
+/// What is wrong with the tally of an accepted sheet, if anything: its numbers add up to the number of
+/// different indices, they are those of its listing's points, and "From now on the tally counts
+/// indices" changes nothing where no index repeats.
+fn tally_fault(sheet: &Sheet, case: &Case, right: &Answer) -> Option<String> {
+    let Answer::Accepted { tally, .. } = right else {
+        return None;
+    };
+    let sum: u32 = tally.each().map(|(_, number)| number).sum();
+    if sum as usize != sheet.indices() {
+        return Some(format!("{sum} counted of {} indices", sheet.indices()));
+    }
+    let by_cell = second::answer(&case.file, case.buffer, Fault::TallyByCell);
+    if (by_cell != *right) != sheet.repeats_index() {
+        return Some("beside the tally by cell".into());
+    }
+    tally_reader::fault(&right.listing())
+}
+
+/// The first of the cases whose tally is wrong, and how many had a repeated index.
+pub fn first_tally_failure(
+    kinds: &[(Kind, &str)],
+    sheets: usize,
+    seed: u64,
+) -> (Option<String>, usize) {
+    let mut repeated = 0;
+    for i in 0..sheets {
+        let case = generate::nth(kinds, seed, i);
+        let right = second::answer(&case.file, case.buffer, Fault::None);
+        let Some(sheet) = Sheet::from_file(&case.file) else {
+            continue;
+        };
+        if let Some(text) = tally_fault(&sheet, &case, &right) {
+            return (Some(format!("{:?} {}: {text}", case.kind, case.seed)), 0);
+        }
+        let accepted = matches!(right, Answer::Accepted { .. });
+        repeated += usize::from(accepted && sheet.repeats_index());
+    }
+    (None, repeated)
 }

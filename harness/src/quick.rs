@@ -7,6 +7,7 @@ use crate::generate::{self, Kind};
 use crate::mutants::{self, Part};
 use crate::properties;
 use crate::run_original;
+use crate::runs;
 use crate::sheet::Sheet;
 use crate::stars;
 use crate::text;
@@ -55,13 +56,41 @@ fn comparisons() -> Vec<(String, bool)> {
     checks
 }
 
-/// Whether some generated sheet shows each fault of a part that one can show.
-fn faults<T: PartialEq>(part: &Part<T>) -> Vec<(String, bool)> {
+/// Runs from records of every kind, which must meet each limit of a run.
+fn runs() -> Vec<(String, bool)> {
+    let report = runs::run(900, generate::RUN_OF, 1);
+    report.print();
+    let name = "runs: sums, another order, another listing";
+    let mut checks = vec![(name.to_string(), report.failed == 0)];
+    let met = report.met.each();
+    checks.extend(met.map(|(name, calls)| (format!("a call with {name}"), calls > 0)));
+    let (unnoticed, noticed) = runs::first_unnoticed(60, 2);
+    println!("{noticed} wrong runs, which the book notices");
+    checks.push((
+        format!("the book notices every wrong run: {unnoticed:?}"),
+        unnoticed.is_none() && noticed > 0,
+    ));
+    checks
+}
+
+/// Whether some generated case shows each fault of a part that one can show.
+fn faults<C, T: PartialEq>(part: &Part<C, T>) -> Vec<(String, bool)> {
     let shown = mutants::run(part, 27_000, 0, true);
     let faults = part.faults.iter().zip(shown);
     let can = faults.filter(|((fault, _), _)| mutants::can_show(*fault));
-    can.map(|((_, text), (seen, _))| (format!("a sheet shows the fault: {text}"), seen > 0))
+    can.map(|((_, text), (seen, _))| (format!("a {} shows the fault: {text}", part.case), seen > 0))
         .collect()
+}
+
+/// What holds of every tally.
+fn tallies(kinds: &[(Kind, &str)]) -> (String, bool) {
+    let (failure, repeated) = properties::first_tally_failure(kinds, 810, 2);
+    println!("of 810 tallies {repeated} with a repeated index");
+    let holds = failure.is_none() && repeated > 0;
+    (
+        format!("tallies: indices, cells, listing: {failure:?}"),
+        holds,
+    )
 }
 
 /// What holds of every sheet and every map.
@@ -83,7 +112,9 @@ fn properties() -> Vec<(String, bool)> {
         format!("the reader notices every wrong map: {unread:?}"),
         unread.is_none() && noticed > 0,
     );
-    vec![sheets, maps(Kind::first()), maps(Kind::for_map()), reader]
+    let mut checks = vec![sheets, maps(Kind::first()), maps(Kind::for_map()), reader];
+    checks.extend([Kind::first(), Kind::for_map()].map(tallies));
+    checks
 }
 
 /// Whether the recorded files of the vector crates are those that are made here. The sheets are
@@ -96,6 +127,7 @@ fn recorded() -> Vec<(String, bool)> {
     let mut checks = vec![
         check("float_vectors", vectors::float()),
         check("sheet_file_vectors", vectors::sheet_file()),
+        check("run_vectors", vectors::run()),
     ];
     if cfg!(original_at_hand) {
         let made = vectors::sheet(&Choice::RECORDED);
@@ -108,8 +140,10 @@ fn recorded() -> Vec<(String, bool)> {
 pub fn run() -> bool {
     let mut checks = stars::checks();
     checks.extend(comparisons());
+    checks.extend(runs());
     checks.extend(faults(&mutants::answers()));
     checks.extend(faults(&mutants::maps()));
+    checks.extend(faults(&mutants::runs()));
     checks.extend(properties());
     checks.push(("text and back".into(), text_and_back()));
     checks.push((

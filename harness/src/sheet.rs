@@ -1,5 +1,7 @@
 //! A sheet as data, its file and back. The second program has a reader of its own.
 
+use std::collections::HashSet;
+
 #[derive(Clone, Debug, PartialEq)]
 pub struct Settings {
     pub cell_size: f32,
@@ -109,6 +111,17 @@ impl Sheet {
             self.points_field(),
         ]
         .concat()
+    }
+
+    /// How many different indices it has.
+    pub fn indices(&self) -> usize {
+        let indices: HashSet<u32> = self.points.iter().map(|p| p.index).collect();
+        indices.len()
+    }
+
+    /// Whether some index stands at several cells.
+    pub fn repeats_index(&self) -> bool {
+        self.indices() < self.points.len()
     }
 
     /// The sheet of a well-framed file, whatever its numbers.

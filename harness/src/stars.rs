@@ -1,8 +1,16 @@
 //! The sheets that document 01 names, with what it says of them, one on which the Rust's acos
-//! differs, and maps written out from document 02, A.1.
+//! differs, and maps, tallies and calls in a run written out from document 02, A.1 and A.2.
+
+mod runs;
 
 use crate::second::{self, over_30_degrees, Answer, Fault};
 use crate::text;
+
+/// Document 01's sheet of five points, its index 7 twice, and the same torn.
+const FIVE: &str =
+    "cell 100\n5 5 14 500 500\n0 0 10 0 0\n1 0 11 100 0\n0 1 12 0 100\n1 1 13 100 100";
+const TWICE: &str = "cell 100\n0 0 7 3 3\n1 0 7 3 3";
+const TORN: &str = "cell 100\n0 0 7 3 3\n1 0 7 3 4";
 
 /// What a sheet must come out as: its whole listing, or the marks of its points in cell
 /// order.
@@ -21,7 +29,7 @@ const SHEETS: &[(&str, &str, Says)] = &[
     ),
     (
         "the sheet of five points",
-        "cell 100\n5 5 14 500 500\n0 0 10 0 0\n1 0 11 100 0\n0 1 12 0 100\n1 1 13 100 100",
+        FIVE,
         Says::Listing(
             "points 5 components 2\n0 0 10 ---- - -\n0 1 12 ---- - -\n1 0 11 ---- - -\n\
              1 1 13 ---- - -\n5 5 14 ---C - -\n\
@@ -32,12 +40,18 @@ const SHEETS: &[(&str, &str, Says)] = &[
     (
         "a repeated index: survivors, yet nothing is kept",
         "settings 100 0.15 3 0.2 0 0 0 1\n0 0 7 0 0\n5 5 7 0 0",
-        Says::Marks(&["---C", "---C"]),
+        Says::Listing(
+            "points 2 components 2\n0 0 7 ---C - -\n5 5 7 ---C - -\n\
+             kept 0 validate 0 orientation 0 wrong 0 component 1\n",
+        ),
     ),
     (
         "a repeated index: what is kept lies in pieces",
         "settings 100 0.15 3 0.2 0 0 0 1\n0 0 1 0 0\n1 0 2 100 0\n2 0 3 200 0\n9 9 2 100 0",
-        Says::Marks(&["----", "---C", "----", "---C"]),
+        Says::Listing(
+            "points 4 components 2\n0 0 1 ---- - -\n1 0 2 ---C - -\n2 0 3 ---- - -\n\
+             9 9 2 ---C - -\nkept 2 validate 0 orientation 0 wrong 0 component 1\n",
+        ),
     ),
     // .. and what it says of a whole move, for the same validate marks: moved by (1, 0), this sheet
     // loses one.
@@ -95,8 +109,11 @@ const SHEETS: &[(&str, &str, Says)] = &[
     ),
     (
         "index 7 twice",
-        "cell 100\n0 0 7 3 3\n1 0 7 3 3",
-        Says::Marks(&["--W-", "--W-"]),
+        TWICE,
+        Says::Listing(
+            "points 2 components 0\n0 0 7 --W- - -\n1 0 7 --W- - -\n\
+             kept 0 validate 0 orientation 0 wrong 1 component 0\n",
+        ),
     ),
     // The Rust gives no reason here: its acos cannot tell the cosine from the least one.
     (
@@ -114,7 +131,7 @@ const SHEETS: &[(&str, &str, Says)] = &[
 const MAPS: &[(&str, &str, &[&str])] = &[
     (
         "the map of five points",
-        "cell 100\n5 5 14 500 500\n0 0 10 0 0\n1 0 11 100 0\n0 1 12 0 100\n1 1 13 100 100",
+        FIVE,
         &[
             "     0 ##",
             "     1 ##",
@@ -174,8 +191,7 @@ fn marks(listing: &str) -> Vec<&str> {
 }
 
 fn listing_of(sheet: &str) -> String {
-    let file = text::from_text(sheet).unwrap().to_file();
-    second::answer(&file, 1 << 16, Fault::None).listing()
+    second::answer(&file(sheet), 1 << 16, Fault::None).listing()
 }
 
 /// The whole text that the beginnings of a map's lines stand for.
@@ -188,8 +204,7 @@ fn whole_map(lines: &[&str]) -> String {
 }
 
 fn map_of(sheet: &str) -> String {
-    let file = text::from_text(sheet).unwrap().to_file();
-    second::map_text(&second::map(&file, Fault::None))
+    second::map_text(&second::map(&file(sheet), Fault::None))
 }
 
 /// A row of n points, the settings on top.
@@ -199,9 +214,20 @@ fn row(n: usize) -> String {
     })
 }
 
+fn file(sheet: &str) -> Vec<u8> {
+    text::from_text(sheet).unwrap().to_file()
+}
+
+/// The files of the small sheets, a few refused ones and those of the tallies after them.
+pub fn small_files() -> Vec<Vec<u8>> {
+    let mut out: Vec<Vec<u8>> = SHEETS.iter().map(|(_, sheet, _)| file(sheet)).collect();
+    out.extend([file(TORN), file(REPEATED_AND_INFINITE), Vec::new()]);
+    out.extend(runs::files());
+    out
+}
+
 /// The files of the named sheets.
 pub fn files() -> Vec<Vec<u8>> {
-    let file = |sheet: &str| text::from_text(sheet).unwrap().to_file();
     let mut out: Vec<Vec<u8>> = SHEETS.iter().map(|(_, sheet, _)| file(sheet)).collect();
     out.extend([
         file(&row(2048)),
@@ -243,6 +269,8 @@ pub fn checks() -> Vec<(String, bool)> {
         out.push((name.to_string(), holds));
     }
     out.extend(maps());
+    out.extend(runs::tallies());
+    out.extend(runs::calls());
     let mut also = |name: &str, holds: bool| out.push((name.to_string(), holds));
     also("2,049 points", listing_of(&row(2049)) == "refused 2\n");
     also(

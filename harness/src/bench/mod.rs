@@ -7,7 +7,7 @@ pub use hard::worst;
 use crate::clock::processor;
 use crate::library;
 use crate::run_original::Prepared;
-use crate::second::{self, Fault, MAX_POINTS};
+use crate::second::{self, Fault, Record, MAX_POINTS};
 use crate::shapes::{Cells, Shape};
 use crate::sheet::Sheet;
 use hard::{hard_shapes, DEAREST};
@@ -90,6 +90,15 @@ fn our_map(rounds: &Rounds, sheet: &Sheet) -> Option<f64> {
     let mut text = [0; library::MAP_SIZE];
     library::call_map(&file, &mut text)?;
     Some(rounds.least(|| library::call_map(&file, &mut text)))
+}
+
+/// The call on a sheet in a run that starts now; nothing without the library.
+fn our_run(rounds: &Rounds, sheet: &Sheet) -> Option<f64> {
+    let file = sheet.to_file();
+    let mut rows = vec![0; second::ROW * sheet.points.len()];
+    let mut call = || library::call_in_run(&file, &mut rows, &mut Record::new().into());
+    call()?;
+    Some(rounds.least(call))
 }
 
 /// The original's `drop_set` on a sheet made ready; nothing without the original.
@@ -225,11 +234,11 @@ fn growth(out: &mut Text, rounds: &Rounds) {
     }
 }
 
-/// The call for the map beside that for the rows.
-fn maps(out: &mut Text, rounds: &Rounds) {
-    out.line("\nThe map beside the rows, step flag and edge gate on; µs:\n");
-    out.line("| sheet | points | lines | rows | map | map / rows | the second program's map |");
-    out.line("|---|---|---|---|---|---|---|");
+/// The calls in a run and for the map beside that for the rows.
+fn others(out: &mut Text, rounds: &Rounds) {
+    out.line("\nA run and the map beside the rows, step flag and edge gate on; µs:\n");
+    out.line("| sheet | points | lines | rows | in a run | run / rows | map | map / rows | the second program's map |");
+    out.line("|---|---|---|---|---|---|---|---|---|");
     let sheets = [
         ("no points", Cells::Board(1), 0),
         ("10 by 10 board", Cells::Board(10), 100),
@@ -244,9 +253,12 @@ fn maps(out: &mut Text, rounds: &Rounds) {
         let file = sheet.to_file();
         let lines = second::map(&file, Fault::None).map_or(0, |text| text.lines().count());
         let (rows, map) = (ours(rounds, &sheet), our_map(rounds, &sheet));
+        let in_run = our_run(rounds, &sheet);
         let second = rounds.least(|| second::map(&file, Fault::None));
         let times = [
             whole(rows),
+            whole(in_run),
+            one_place(ratio(in_run, rows)),
             whole(map),
             one_place(ratio(map, rows)),
             whole(Some(second)),
@@ -282,7 +294,7 @@ pub fn run(runs: usize, count: usize, file: Option<&str>) {
         sizes(&mut out, &rounds);
         hard(&mut out, &rounds);
         growth(&mut out, &rounds);
-        maps(&mut out, &rounds);
+        others(&mut out, &rounds);
     }
     print!("{}", out.0);
     let Some(file) = file else { return };

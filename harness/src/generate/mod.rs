@@ -4,8 +4,11 @@ mod boards;
 mod changes;
 mod damage;
 mod pages;
+mod runs;
 mod settings;
 mod small;
+
+pub use runs::{few_indices, run, start, Run, Start, Step, RUN_OF};
 
 use crate::random::Random;
 use crate::second::ROW;

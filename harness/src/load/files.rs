@@ -228,6 +228,8 @@ pub fn nth(seed: u64) -> Load {
             random_bytes(r, length)
         }
         Form::Framed => framed(r).to_file(),
+        // Drawn apart: the other files of this form are those that they were without it.
+        Form::Whole if Random::new(!seed).one_in(12) => generate::few_indices(r).to_file(),
         Form::Whole => generated(r),
         Form::Flipped => flipped(r),
         Form::Resized => resized(r),

@@ -1,17 +1,18 @@
-//! Files of all forms through the C boundary: file and buffer at the edge of memory that may not
-//! be touched, on a stack of the size that the header asks for. Each goes through both functions.
+//! Files of all forms through the C boundary: file, buffer and record at the edge of memory that may
+//! not be touched, on a stack of the size that the header asks for. Each goes through every function.
 
 mod files;
 mod report;
 mod runner;
 mod wrong;
 
+use crate::generate;
 use crate::library;
 use crate::random::Random;
-use crate::second;
+use crate::second::{self, Answer, Fault, Map, Record};
 use files::Load;
 use report::Report;
-use runner::{Function, Job, Runner};
+use runner::{Function, Job, Runner, FUNCTIONS};
 use std::ops::Range;
 use std::sync::atomic::{AtomicUsize, Ordering};
 use std::time::{Duration, Instant};
@@ -39,34 +40,55 @@ fn report_faults() {
     unsafe { signal(SEGMENT_VIOLATION, on_fault) };
 }
 
-/// One file through both functions; what is wrong with each call, if anything.
-fn one(runner: &mut Runner, report: &mut Report, case: u64, load: &Load) -> [Option<String>; 2] {
-    let (answer, map) = second::answer_and_map(&load.file, load.buffer);
-    let mut r = Random::new(!case);
-    let (number, written) = library::expected(&answer);
-    let rows = Job {
-        function: Function::Keep,
-        form: load.form,
-        file: &load.file,
-        buffer: load.buffer,
-        number,
-        written,
-    };
-    let (returned, time, wrong_rows) = runner.run(&rows, &mut r);
-    report.add(load, case, returned, time);
-    let text = second::map_text(&map);
-    let buffer = files::map_buffer(&mut r, text.len());
-    let (number, written) = library::expected_map(&text, buffer);
-    let drawn = Job {
-        function: Function::Map,
-        buffer,
-        number,
-        written,
-        ..rows
-    };
-    let (returned, time, wrong_map) = runner.run(&drawn, &mut r);
-    report.add_map(&drawn, case, &map, returned, time);
-    [wrong_rows, wrong_map.map(|text| format!("map: {text}"))]
+/// One file, its seed, and what it goes through.
+struct One<'a> {
+    runner: &'a mut Runner,
+    report: &'a mut Report,
+    case: u64,
+    load: &'a Load,
+    r: Random,
+}
+
+impl One<'_> {
+    /// Through every function; what is wrong with each call, if anything.
+    fn run(mut self) -> [Option<String>; FUNCTIONS] {
+        let (answer, map) = second::answer_and_map(&self.load.file, self.load.buffer);
+        [self.rows(&answer), self.map(&map), self.in_run()]
+    }
+
+    fn rows(&mut self, answer: &Answer) -> Option<String> {
+        let (number, written) = library::expected(answer);
+        let records = [Record::new(); 2];
+        let job = Job::new(self.load, Function::Keep, number, written, records);
+        let (returned, time, wrong) = self.runner.run(&job, &mut self.r);
+        self.report.add(self.load, self.case, returned, time);
+        wrong
+    }
+
+    fn map(&mut self, map: &Map) -> Option<String> {
+        let text = second::map_text(map);
+        let buffer = files::map_buffer(&mut self.r, text.len());
+        let (number, written) = library::expected_map(&text, buffer);
+        let records = [Record::new(); 2];
+        let mut job = Job::new(self.load, Function::Map, number, written, records);
+        job.buffer = buffer;
+        let (returned, time, wrong) = self.runner.run(&job, &mut self.r);
+        self.report.add_map(&job, self.case, map, returned, time);
+        wrong.map(|text| format!("map: {text}"))
+    }
+
+    /// With a record that a run may begin with.
+    fn in_run(&mut self) -> Option<String> {
+        let Load { file, buffer, .. } = self.load;
+        let before = generate::start(&mut self.r).record(Fault::None);
+        let handed = second::keep_in_run(file, *buffer, &before, Fault::None);
+        let number = library::expected(&handed.answer).0;
+        let (written, records) = (&handed.written, [before, handed.record]);
+        let job = Job::new(self.load, Function::KeepInRun, number, written, records);
+        let (returned, time, wrong) = self.runner.run(&job, &mut self.r);
+        self.report.add_run(&job, self.case, returned, time);
+        wrong.map(|text| format!("run: {text}"))
+    }
 }
 
 /// Runs the files of some seeds; ends at the first failure if `short`.
@@ -75,8 +97,14 @@ fn pass(runner: &mut Runner, seeds: Range<u64>, short: bool) -> Report {
     for case in seeds {
         CASE.store(case as usize, Ordering::Relaxed);
         let load = files::nth(case);
-        let wrong = one(runner, &mut report, case, &load);
-        for text in wrong.into_iter().flatten() {
+        let one = One {
+            runner,
+            report: &mut report,
+            case,
+            load: &load,
+            r: Random::new(!case),
+        };
+        for text in one.run().into_iter().flatten() {
             report.failed += 1;
             if report.failed <= 20 {
                 println!("failed: {:?}, --files 1 --seed {case}: {text}", load.form);

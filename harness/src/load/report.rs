@@ -1,9 +1,9 @@
 //! What a run of the load met.
 
 use super::files::{Form, Load};
-use super::runner::{stack_size, Job};
+use super::runner::{stack_size, Job, FUNCTIONS};
 use crate::library::NO_ROOM;
-use crate::second::{Map, MAX_POINTS};
+use crate::second::{Map, FULL, MAX_POINTS};
 use std::time::Duration;
 
 fn micros(time: Duration) -> f64 {
@@ -57,6 +57,10 @@ pub struct Report {
     empty_map_buffers: usize,
     no_room: usize,
     map: Times,
+    /// Sheets that a run took, and those that it refused by number.
+    taken: usize,
+    not_taken: [usize; FULL as usize + 1],
+    run: Times,
     pub failed: usize,
 }
 
@@ -92,7 +96,17 @@ impl Report {
         self.map.add(job.form, case, time);
     }
 
-    pub fn print(&self, deepest: Option<[usize; 2]>, whole: Duration) {
+    /// Counts a call in a run.
+    pub fn add_run(&mut self, job: &Job, case: u64, returned: u64, time: Duration) {
+        if returned >> 32 == 1 {
+            self.taken += 1;
+        } else {
+            self.not_taken[(returned as usize).min(FULL.into())] += 1;
+        }
+        self.run.add(job.form, case, time);
+    }
+
+    pub fn print(&self, deepest: Option<[usize; FUNCTIONS]>, whole: Duration) {
         println!(
             "| files | number | accepted | points | longest call, µs |\n|---|---|---|---|---|"
         );
@@ -119,8 +133,14 @@ impl Report {
             self.empty_map_buffers,
             self.no_room
         );
+        println!(
+            "runs: {} sheets taken; refused with 1 to 11: {:?}",
+            self.taken,
+            &self.not_taken[1..]
+        );
         self.rows.print("rows", deepest.map(|d| d[0]));
         self.map.print("map", deepest.map(|d| d[1]));
+        self.run.print("run", deepest.map(|d| d[2]));
         println!("the run {:.0} s", whole.as_secs_f64());
     }
 }

@@ -1,16 +1,21 @@
 //! One call at the C boundary, with what is wrong with it.
 
-use super::files::{Form, LONGEST_BUFFER, LONGEST_FILE};
+use super::files::{Form, Load, LONGEST_BUFFER, LONGEST_FILE};
 use super::LIMIT;
 use crate::clock::processor;
-use crate::guarded::{Area, Call, Stack};
-use crate::library::{Calls, MAP_SIZE, NO_ROOM};
+use crate::guarded::{Area, Callee, Stack};
+use crate::library::{Calls, Run, MAP_SIZE, NO_ROOM};
 use crate::random::Random;
-use crate::second::MAX_POINTS;
+use crate::second::{Record, FULL, MAX_POINTS, NUMBERS};
+use std::ops::Range;
 use std::time::Duration;
 
-/// Painted bytes about the buffer, as far as they are not guard pages.
+/// Painted bytes about the buffer and about the record, as far as they are not guard pages.
 const MARGIN: usize = 64;
+
+/// The bytes of a record.
+const RECORD: usize = 4 * NUMBERS;
+const _: () = assert!(size_of::<Run>() == RECORD);
 
 /// The stack that the header asks for.
 pub fn stack_size() -> usize {
@@ -20,14 +25,18 @@ pub fn stack_size() -> usize {
     rest.split_whitespace().next().unwrap().parse().unwrap()
 }
 
-/// Which of the two functions is called.
+/// Which of the functions is called.
 #[derive(Clone, Copy, Debug, PartialEq)]
 pub enum Function {
     Keep,
     Map,
+    KeepInRun,
 }
 
-/// A call with what it should return and write.
+/// How many there are.
+pub const FUNCTIONS: usize = 3;
+
+/// A call with what it should return, write, and leave as its record.
 pub struct Job<'a> {
     pub function: Function,
     pub form: Form,
@@ -35,16 +44,37 @@ pub struct Job<'a> {
     pub buffer: usize,
     pub number: u64,
     pub written: &'a [u8],
+    /// The record before and after, of the call that takes one; else no matter what.
+    pub records: [Record; 2],
 }
 
-/// Where file and buffer lie.
+impl<'a> Job<'a> {
+    /// The call on a file with its own buffer.
+    pub fn new(
+        load: &'a Load,
+        function: Function,
+        number: u64,
+        written: &'a [u8],
+        records: [Record; 2],
+    ) -> Job<'a> {
+        Job {
+            function,
+            form: load.form,
+            file: &load.file,
+            buffer: load.buffer,
+            number,
+            written,
+            records,
+        }
+    }
+}
+
+/// What a call returned, its processor time, and what is wrong with it.
+pub type Outcome = (u64, Duration, Option<String>);
+
+/// Where file, buffer and record lie.
 enum Memory {
-    /// Beside guard pages; calls run on stacks of their own, one for each function.
-    Guarded {
-        file: Area,
-        buffer: Area,
-        stacks: [Stack; 2],
-    },
+    Guarded(Box<Guarded>),
     /// In heap blocks of exactly their lengths, for a tool that watches those.
     Heap,
 }
@@ -52,8 +82,6 @@ enum Memory {
 pub struct Runner {
     calls: Calls,
     memory: Memory,
-    /// The longest call so far, by function and form.
-    longest: [[Duration; Form::ALL.len()]; 2],
     /// What a buffer holds before a call, from any place on.
     paint: Vec<u8>,
 }
@@ -62,32 +90,137 @@ pub struct Runner {
 fn possible(function: Function, returned: u64) -> bool {
     let (points, components) = ((returned >> 16 & 0xFFFF) as usize, returned & 0xFFFF);
     let success = returned >> 32 == 1 && points <= MAX_POINTS && components <= points as u64;
+    let of_sheet = success || (1..=9).contains(&returned);
     match function {
-        Function::Keep => success || (1..=9).contains(&returned),
+        Function::Keep => of_sheet,
         Function::Map => returned <= MAP_SIZE as u64 || returned == NO_ROOM,
+        Function::KeepInRun => of_sheet || returned == u64::from(FULL),
     }
 }
 
-/// What is wrong with a call, if anything: its number, what it wrote, or a byte that it should have
-/// left alone. `now` is what was `painted`, and the buffer begins after `head` bytes of it.
-fn judge(returned: u64, job: &Job, now: &[u8], painted: &[u8], head: usize) -> Option<String> {
+/// What is wrong with the number of a call, if anything.
+fn wrong_number(returned: u64, job: &Job) -> Option<String> {
     if !possible(job.function, returned) {
         return Some(format!("returned {returned:#x}"));
     }
-    if returned != job.number {
-        return Some(format!(
-            "returned {returned:#x}, the second program {:#x}",
-            job.number
-        ));
-    }
-    let end = head + job.written.len();
-    if now[head..end] != *job.written {
-        return Some("a byte differs from the second program's".into());
+    let second = job.number;
+    (returned != second).then(|| format!("returned {returned:#x}, the second program {second:#x}"))
+}
+
+/// What is wrong with bytes that a call was lent, if anything: one of those that it should have
+/// written, or one that it should have left alone. `now` is what was `painted`, and what should be
+/// `written` begins after `head` bytes of it.
+fn wrong_bytes(now: &[u8], painted: &[u8], head: usize, written: &[u8]) -> Option<&'static str> {
+    let end = head + written.len();
+    if now[head..end] != *written {
+        return Some("a byte differs from the second program's");
     }
     if now[..head] != painted[..head] || now[end..] != painted[end..] {
-        return Some("wrote beyond what it should".into());
+        return Some("wrote beyond what it should");
     }
     None
+}
+
+fn record_bytes(record: &Record) -> Vec<u8> {
+    let words = record.numbers();
+    words.iter().flat_map(|word| word.to_le_bytes()).collect()
+}
+
+fn callee(calls: &Calls, function: Function, run: *mut Run) -> Callee {
+    match function {
+        Function::Keep => Callee::Plain(calls.keep),
+        Function::Map => Callee::Plain(calls.map),
+        Function::KeepInRun => Callee::InRun(calls.keep_in_run, run),
+    }
+}
+
+impl Runner {
+    pub fn new(calls: Calls, heap: bool) -> Runner {
+        let mut r = Random::new(0);
+        let paint = (0..LONGEST_BUFFER + 1024).map(|_| r.bits() as u8).collect();
+        let memory = if heap {
+            Memory::Heap
+        } else {
+            Memory::Guarded(Box::new(Guarded::new()))
+        };
+        Runner {
+            calls,
+            memory,
+            paint,
+        }
+    }
+
+    /// The most bytes of stack that a call of each function has used; none in heap blocks.
+    pub fn deepest(&self) -> Option<[usize; FUNCTIONS]> {
+        match &self.memory {
+            Memory::Guarded(places) => Some(places.stacks.each_ref().map(Stack::deepest)),
+            Memory::Heap => None,
+        }
+    }
+
+    /// One call.
+    pub fn run(&mut self, job: &Job, r: &mut Random) -> Outcome {
+        let paint = &self.paint[r.below(512)..];
+        match &mut self.memory {
+            Memory::Heap => in_heap(&self.calls, job, paint),
+            Memory::Guarded(places) => places.run(&self.calls, job, paint, r),
+        }
+    }
+}
+
+/// A call in heap blocks of exactly the lengths.
+fn in_heap(calls: &Calls, job: &Job, paint: &[u8]) -> Outcome {
+    let file = job.file.to_vec().into_boxed_slice();
+    let mut buffer = paint[..job.buffer].to_vec().into_boxed_slice();
+    let mut record = Box::new(Run::from(job.records[0]));
+    let callee = callee(calls, job.function, &mut *record);
+    let start = processor();
+    // The blocks are ours and apart.
+    let returned =
+        unsafe { callee.call(file.as_ptr(), file.len(), buffer.as_mut_ptr(), job.buffer) };
+    let time = processor() - start;
+    let bytes = wrong_bytes(&buffer, &paint[..job.buffer], 0, job.written);
+    let changed = (*file != *job.file).then_some("changed the file");
+    let other = (*record != job.records[1].into()).then_some("another record");
+    let bytes = bytes.or(changed).or(other).map(String::from);
+    (returned, time, wrong_number(returned, job).or(bytes))
+}
+
+/// Bytes at one end of an area, with painted ones about them.
+struct Lent<'a> {
+    begin: usize,
+    part: Range<usize>,
+    painted: &'a [u8],
+}
+
+impl<'a> Lent<'a> {
+    /// Lends bytes that hold what the paint has.
+    fn new(area: &mut Area, length: usize, paint: &'a [u8], at_end: bool) -> Lent<'a> {
+        let begin = area.place(length, at_end);
+        let part = begin.saturating_sub(MARGIN)..(begin + length + MARGIN).min(area.size());
+        let painted = &paint[..part.len()];
+        area.bytes()[part.clone()].copy_from_slice(painted);
+        Lent {
+            begin,
+            part,
+            painted,
+        }
+    }
+
+    fn wrong(&self, area: &mut Area, written: &[u8]) -> Option<&'static str> {
+        let head = self.begin - self.part.start;
+        wrong_bytes(
+            &area.bytes()[self.part.clone()],
+            self.painted,
+            head,
+            written,
+        )
+    }
+}
+
+/// Puts bytes to a place of an area.
+fn put(area: &mut Area, at: usize, bytes: &[u8]) {
+    area.bytes()[at..at + bytes.len()].copy_from_slice(bytes);
 }
 
 /// The pointer, or null for some of length 0.
@@ -99,115 +232,78 @@ fn or_null(at: *mut u8, length: usize, r: &mut Random) -> *mut u8 {
     }
 }
 
-impl Runner {
-    pub fn new(calls: Calls, heap: bool) -> Runner {
-        let mut r = Random::new(0);
-        let paint = (0..LONGEST_BUFFER + 1024).map(|_| r.bits() as u8).collect();
-        let memory = if heap {
-            Memory::Heap
-        } else {
-            Memory::Guarded {
-                file: Area::new(LONGEST_FILE),
-                buffer: Area::new(LONGEST_BUFFER),
-                stacks: [(); 2].map(|()| Stack::new(stack_size())),
-            }
-        };
-        Runner {
-            calls,
-            memory,
+/// Memory beside guard pages; calls run on stacks of their own, one for each function.
+struct Guarded {
+    file: Area,
+    buffer: Area,
+    record: Area,
+    stacks: [Stack; FUNCTIONS],
+    /// The longest call so far, by function and form.
+    longest: [[Duration; Form::ALL.len()]; FUNCTIONS],
+}
+
+impl Guarded {
+    fn new() -> Guarded {
+        Guarded {
+            file: Area::new(LONGEST_FILE),
+            buffer: Area::new(LONGEST_BUFFER),
+            record: Area::new(RECORD),
+            stacks: [(); FUNCTIONS].map(|()| Stack::new(stack_size())),
             longest: Default::default(),
-            paint,
         }
     }
 
-    /// The most bytes of stack that a call of each function has used; none in heap blocks.
-    pub fn deepest(&self) -> Option<[usize; 2]> {
-        match &self.memory {
-            Memory::Guarded { stacks, .. } => Some(stacks.each_ref().map(Stack::deepest)),
-            Memory::Heap => None,
-        }
-    }
-
-    /// One call: what it returned, its processor time, and what is wrong with it.
-    pub fn run(&mut self, job: &Job, r: &mut Random) -> (u64, Duration, Option<String>) {
-        let call = match job.function {
-            Function::Keep => self.calls.keep,
-            Function::Map => self.calls.map,
+    fn run(&mut self, calls: &Calls, job: &Job, paint: &[u8], r: &mut Random) -> Outcome {
+        let length = job.file.len();
+        let at = self.file.place(length, r.one_in(2));
+        put(&mut self.file, at, job.file);
+        let buffer = Lent::new(&mut self.buffer, job.buffer, paint, r.one_in(2));
+        let file_at = or_null(self.file.at(at), length, r);
+        let buffer_at = or_null(self.buffer.at(buffer.begin), job.buffer, r);
+        let at_end = job.function == Function::KeepInRun && r.one_in(2);
+        let record = Lent::new(&mut self.record, RECORD, paint, at_end);
+        let [before, after] = job.records.each_ref().map(record_bytes);
+        let once = |places: &mut Guarded| {
+            put(&mut places.record, record.begin, &before);
+            let run = places.record.at(record.begin).cast();
+            let callee = callee(calls, job.function, run);
+            let stack = &mut places.stacks[job.function as usize];
+            let start = processor();
+            // The areas are ours and apart.
+            let returned = unsafe { stack.call(callee, file_at, length, buffer_at, job.buffer) };
+            (returned, processor() - start)
         };
-        let paint = &self.paint[r.below(512)..];
-        match &mut self.memory {
-            Memory::Heap => in_heap(call, job, paint),
-            Memory::Guarded {
-                file,
-                buffer,
-                stacks,
-            } => {
-                let stack = &mut stacks[job.function as usize];
-                let longest = &mut self.longest[job.function as usize][job.form as usize];
-                guarded(call, job, paint, (file, buffer, stack), longest, r)
+        let (returned, time) = once(self);
+        let bytes = buffer.wrong(&mut self.buffer, job.written);
+        let record = record.wrong(&mut self.record, &after);
+        let mut fault = wrong_number(returned, job)
+            .or(bytes.map(String::from))
+            .or(record.map(|text| format!("record: {text}")));
+        if self.file.bytes()[at..at + length] != *job.file {
+            fault = Some("changed the file".into());
+        }
+        let time = self.least(job, time, once);
+        if time > LIMIT {
+            fault = Some(format!("took {time:?}"));
+        }
+        (returned, time, fault)
+    }
+
+    /// The time of a call; if it is the longest so far, the least of three, since a busy machine may
+    /// disturb a call, hardly three.
+    fn least(
+        &mut self,
+        job: &Job,
+        mut time: Duration,
+        once: impl Fn(&mut Guarded) -> (u64, Duration),
+    ) -> Duration {
+        let longest = self.longest[job.function as usize][job.form as usize];
+        for _ in 0..2 {
+            if time > longest {
+                time = time.min(once(self).1);
             }
         }
+        self.longest[job.function as usize][job.form as usize] = time.max(longest);
+        time
     }
-}
-
-/// A call in heap blocks of exactly the lengths.
-fn in_heap(call: Call, job: &Job, paint: &[u8]) -> (u64, Duration, Option<String>) {
-    let file = job.file.to_vec().into_boxed_slice();
-    let mut buffer = paint[..job.buffer].to_vec().into_boxed_slice();
-    let start = processor();
-    // Both blocks are ours and apart.
-    let returned = unsafe { call(file.as_ptr(), file.len(), buffer.as_mut_ptr(), job.buffer) };
-    let time = processor() - start;
-    let fault = judge(returned, job, &buffer, &paint[..job.buffer], 0);
-    let changed = *file != *job.file;
-    let fault = fault.or(changed.then(|| "changed the file".into()));
-    (returned, time, fault)
-}
-
-/// Puts bytes to one end of an area; where they begin.
-fn put(area: &mut Area, bytes: &[u8], r: &mut Random) -> usize {
-    let at = area.place(bytes.len(), r.one_in(2));
-    area.bytes()[at..at + bytes.len()].copy_from_slice(bytes);
-    at
-}
-
-/// A call beside guard pages, on a stack of its own.
-fn guarded(
-    call: Call,
-    job: &Job,
-    paint: &[u8],
-    (file, buffer, stack): (&mut Area, &mut Area, &mut Stack),
-    longest: &mut Duration,
-    r: &mut Random,
-) -> (u64, Duration, Option<String>) {
-    let length = job.file.len();
-    let at = put(file, job.file, r);
-    let begin = buffer.place(job.buffer, r.one_in(2));
-    let part = begin.saturating_sub(MARGIN)..(begin + job.buffer + MARGIN).min(buffer.size());
-    let (head, paint) = (begin - part.start, &paint[..part.len()]);
-    buffer.bytes()[part.clone()].copy_from_slice(paint);
-    let file_at = or_null(file.at(at), length, r);
-    let buffer_at = or_null(buffer.at(begin), job.buffer, r);
-    let mut once = || {
-        let start = processor();
-        // Both areas are ours and apart.
-        let returned = unsafe { stack.call(call, file_at, length, buffer_at, job.buffer) };
-        (returned, processor() - start)
-    };
-    let (returned, mut time) = once();
-    let mut fault = judge(returned, job, &buffer.bytes()[part], paint, head);
-    if file.bytes()[at..at + length] != *job.file {
-        fault = Some("changed the file".into());
-    }
-    // A busy machine may disturb a call, hardly three.
-    for _ in 0..2 {
-        if time > *longest {
-            time = time.min(once().1);
-        }
-    }
-    *longest = time.max(*longest);
-    if time > LIMIT {
-        fault = Some(format!("took {time:?}"));
-    }
-    (returned, time, fault)
 }

@@ -1,7 +1,12 @@
 //! Deliberate faults of the second program: what the generated sheets must bring to light.
 
 macro_rules! faults {
-    ($($name:ident: $text:literal,)* ; $($of_map:ident: $what:literal,)*) => {
+    (
+        $($name:ident: $text:literal,)* ;
+        $($of_tally:ident: $counted:literal,)* ;
+        $($of_map:ident: $what:literal,)* ;
+        $($of_run:ident: $wrong:literal,)*
+    ) => {
         #[derive(Clone, Copy, Debug, PartialEq, Eq)]
         pub enum Fault {
             /// No fault: the program as documents 01 and 02 have it.
@@ -9,15 +14,26 @@ macro_rules! faults {
             /// Angles judged by the Rust's acos, to explain a difference.
             AnglesByAcos,
             $($name,)*
+            $($of_tally,)*
             $($of_map,)*
+            $($of_run,)*
         }
 
         impl Fault {
-            /// Every deliberate fault of the answer to a file, with what is wrong.
-            pub const ALL: &'static [(Fault, &'static str)] = &[$((Fault::$name, $text),)*];
+            /// Every deliberate fault of the answer to a file, its tally's last, with what is wrong.
+            pub const ALL: &'static [(Fault, &'static str)] = &[
+                $((Fault::$name, $text),)*
+                $((Fault::$of_tally, $counted),)*
+            ];
 
             /// Every deliberate fault of the map.
             pub const MAP: &'static [(Fault, &'static str)] = &[$((Fault::$of_map, $what),)*];
+
+            /// Every deliberate fault that a run shows: those of the tally, then its own.
+            pub const RUN: &'static [(Fault, &'static str)] = &[
+                $((Fault::$of_tally, $counted),)*
+                $((Fault::$of_run, $wrong),)*
+            ];
 
             /// a above b; under the fault `wrong` also where they are equal.
             pub fn above(self, a: f32, b: f32, wrong: Fault) -> bool {
@@ -94,6 +110,12 @@ faults! {
     CellsBeforePositions: "refusal 8 is given before 7",
     FlagsAfterFloats: "refusal 5 is given before 4",
     TailTaken: "bytes after the last field are taken",
+    // Those of the tally.
+    ;
+    TallyByCell: "the tally counts cells",
+    TallyKeptByCell: "kept counts cells, the filters' numbers indices",
+    TallyMarkedByCell: "kept counts indices, the filters' numbers cells",
+    TallyLastFilter: "an index is counted under the last filter that marks it",
     // Those of the map.
     ;
     MapColumnShort: "a line of the map has 71 cell characters",
@@ -117,4 +139,28 @@ faults! {
     MapSignApart: "the minus sign of v stands apart in the first column",
     MapNegativeWider: "a negative v takes a column more",
     MapZeros: "v has leading zeros",
+    // Those of a run.
+    ;
+    RunOldLost: "a run that started under the old count begins without its old sums",
+    RunOldIntoNew: "a run that started under the old count has its old sums in the new ones",
+    RunOldToo: "a tally is added to the old sums too",
+    RunOldInstead: "a tally is added to the old sums instead of the new ones",
+    RunKeptLast: "kept is added to the last sum, each other number to the sum before its own",
+    RunSheetNotCounted: "an accepted sheet is not counted",
+    RunEmptyNotCounted: "an accepted sheet without points is not counted",
+    RunCountsRefused: "a sheet refused with 1 to 9 is counted",
+    RunAddsRefused: "the tally of a sheet refused with 3 is added",
+    RunCountsFull: "a sheet refused with 11 is counted",
+    RunClearedByRefusal: "a refusal hands back a new record",
+    RunFullLate: "11 is given after the file's own numbers",
+    RunTakes65535: "a record of 65,535 sheets takes one more",
+    RunRefuses65534: "a record of 65,534 sheets takes none",
+    RunTakesLimit: "a new sum of 2^31 takes more",
+    RunRefusesBelow: "a new sum of 2^31 - 1 takes no more",
+    RunLooksAhead: "a sheet that would take the record to a limit is refused with 11",
+    RunOldTested: "an old sum of 2^31 or more is refused with 11",
+    RunBothLimits: "11 is given only if sheets and sums are both at their limits",
+    RunLastUntested: "the last new sum is not tested",
+    RunKeptAlone: "of the new sums only kept is tested",
+    RunWritesFull: "rows are written on 11",
 }

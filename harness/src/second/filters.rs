@@ -31,3 +31,8 @@ impl Filter {
 pub fn first(byte: u8) -> Option<usize> {
     FILTERS.iter().position(|filter| filter.marks(byte))
 }
+
+/// That of the last, for a fault.
+pub fn last(byte: u8) -> Option<usize> {
+    FILTERS.iter().rposition(|filter| filter.marks(byte))
+}

@@ -49,7 +49,7 @@ pub fn too_wide(points: &[Point], fault: Fault) -> bool {
 /// "# a kept one, else the letter of the first filter"
 fn letter(byte: u8, fault: Fault) -> char {
     let place = match fault {
-        Fault::MapLastFilter => FILTERS.iter().rposition(|f| f.marks(byte)),
+        Fault::MapLastFilter => filters::last(byte),
         _ => filters::first(byte),
     };
     place.map_or('#', |k| FILTERS[k].letter)

@@ -15,12 +15,16 @@ mod map;
 mod plane;
 mod root;
 mod rows;
+mod run;
+mod tally;
 mod validate;
 
 pub use fault::Fault;
 pub use file::{MAX_POINTS, ROOM, ROW};
 pub use plane::over_30_degrees;
 pub use root::root;
+pub use run::{keep_in_run, InRun, Record, FULL, MOST_SHEETS, NUMBERS, OLD, SUMMED, SUM_LIMIT};
+pub use tally::Tally;
 
 use board::Board;
 
@@ -33,6 +37,7 @@ pub enum Answer {
         components: usize,
         /// 28 bytes a point, in cell order.
         rows: Vec<u8>,
+        tally: Tally,
         listing: String,
     },
 }
@@ -43,6 +48,14 @@ impl Answer {
         match self {
             Answer::Refused(number) => format!("refused {number}\n"),
             Answer::Accepted { listing, .. } => listing.clone(),
+        }
+    }
+
+    /// The rows; none for a refusal.
+    pub fn rows(&self) -> &[u8] {
+        match self {
+            Answer::Refused(_) => &[],
+            Answer::Accepted { rows, .. } => rows,
         }
     }
 }
@@ -63,6 +76,7 @@ struct Judged {
     board: Board,
     components: usize,
     rows: Vec<u8>,
+    tally: Tally,
 }
 
 impl Judged {
@@ -86,10 +100,12 @@ impl Judged {
         if fault == Fault::SameRows {
             rows.fill(0);
         }
+        let tally = Tally::new(&board, &rows, fault);
         Judged {
             board,
             components,
             rows,
+            tally,
         }
     }
 
@@ -98,7 +114,8 @@ impl Judged {
             points: self.board.len(),
             components: self.components,
             rows: self.rows.clone(),
-            listing: rows::listing(&self.board, &self.rows, self.components),
+            tally: self.tally,
+            listing: rows::listing(&self.board, &self.rows, self.components, &self.tally),
         }
     }
 

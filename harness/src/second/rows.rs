@@ -4,7 +4,8 @@ use super::board::Board;
 use super::edge::Figures;
 use super::fault::Fault;
 use super::file::ROW;
-use super::filters::{self, Filter, FILTERS};
+use super::filters::{Filter, FILTERS};
+use super::tally::Tally;
 use super::validate::Findings;
 use std::fmt::Write;
 
@@ -61,16 +62,10 @@ pub fn rows(board: &Board, findings: &Findings, marks: &Marks, fault: Fault) -> 
 }
 
 /// What the program `sheet` prints for an accepted file.
-pub fn listing(board: &Board, rows: &[u8], components: usize) -> String {
+pub fn listing(board: &Board, rows: &[u8], components: usize, tally: &Tally) -> String {
     let mut out = String::new();
-    let mut kept = 0;
-    let mut tally = [0; FILTERS.len()];
     writeln!(out, "points {} components {components}", board.len()).unwrap();
     for (p, row) in board.points.iter().zip(rows.chunks(ROW)) {
-        match filters::first(row[0]) {
-            None => kept += 1,
-            Some(k) => tally[k] += 1,
-        }
         let letter = |f: &Filter| if f.marks(row[0]) { f.letter } else { '-' };
         let marks: String = FILTERS.iter().map(letter).collect();
         let reason = match row[1] {
@@ -88,10 +83,10 @@ pub fn listing(board: &Board, rows: &[u8], components: usize) -> String {
         )
         .unwrap();
     }
-    write!(out, "kept {kept}").unwrap();
-    for (filter, count) in FILTERS.iter().zip(tally) {
-        write!(out, " {} {count}", filter.word).unwrap();
-    }
-    out.push('\n');
+    let numbers: Vec<String> = tally
+        .each()
+        .map(|(word, n)| format!("{word} {n}"))
+        .collect();
+    writeln!(out, "{}", numbers.join(" ")).unwrap();
     out
 }

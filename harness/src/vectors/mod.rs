@@ -1,10 +1,12 @@
 //! The recorded files of the vector crates: what each program reads and what it must write.
 
 mod float;
+mod run;
 mod sheet;
 mod sheet_file;
 
 pub use float::float;
+pub use run::run;
 pub use sheet::{sheet, Choice};
 pub use sheet_file::sheet_file;
 

@@ -12,7 +12,7 @@ const LIMIT: u32 = 0x4680_0000;
 const INFINITE: u32 = 0x7F80_0000;
 
 /// A sheet with all settings and the gate.
-fn long(points: u32) -> Sheet {
+pub fn long(points: u32) -> Sheet {
     let point = |k: u32| Point {
         u: k as i32 / 7,
         v: k as i32 % 7,
@@ -37,7 +37,7 @@ fn long(points: u32) -> Sheet {
 }
 
 /// A sheet with the short settings and no gate.
-fn short(points: u32) -> Sheet {
+pub fn short(points: u32) -> Sheet {
     let mut sheet = long(points);
     sheet.settings.rest = None;
     sheet.gate = None;
@@ -141,7 +141,7 @@ fn framing(cases: &mut Cases) {
 }
 
 /// A file and a buffer length for which the conditions of these numbers hold, of 1 and 3 to 9.
-fn spoilt(mut sheet: Sheet, numbers: &[u32]) -> (Vec<u8>, usize) {
+pub fn spoilt(mut sheet: Sheet, numbers: &[u32]) -> (Vec<u8>, usize) {
     for &number in numbers {
         spoil(&mut sheet, number);
     }
