@@ -1,17 +1,20 @@
 /*
  * higlaupth: kept corners of a calibration sheet.
  *
- * Two functions. Each takes the bytes of a sheet file and a buffer for its result. higlaupth_keep
- * either refuses the file with a number of 1 to 9 or writes one row of 28 bytes for each point:
- * which filters mark the point, why, its residual and its edge figures. higlaupth_map writes text:
- * a map of the sheet with one character for each cell, or `refused` and a number of 1 to 10.
+ * Three functions take the bytes of a sheet file and a buffer for the result. higlaupth_keep either
+ * refuses the file with a number of 1 to 9 or writes one row of 28 bytes for each point: which
+ * filters mark the point, why, its residual and its edge figures. higlaupth_map writes text: a map
+ * of the sheet with one character for each cell, or `refused` and a number of 1 to 10.
+ * higlaupth_keep_in_run is the second form of higlaupth_keep: it also adds an accepted sheet to the
+ * record of a run, or refuses with 11. Two functions start such a record: higlaupth_run_new and
+ * higlaupth_run_from_old_sums.
  *
- * The functions are proved: for any bytes and any buffer the number and every byte of the buffer
- * are what docs/SPECIFICATION.md says. The rules for callers below are what the proof takes for
- * granted; README.md says what else is assumed.
+ * The functions are proved: for any bytes, any buffer and any record the number, every byte of the
+ * buffer and every number of the record are what docs/SPECIFICATION.md says. The rules for callers
+ * below are what the proof takes for granted; README.md says what else is assumed.
  * Link with libhiglaupth.a (x86-64; `./install PREFIX` builds and installs it). Of the C library
  * it needs the copying, filling and comparing of memory alone (memcpy, memset and their like).
- * C99, and C++ from C++11 on. examples/c/keep.c and examples/c/map.c are whole programs.
+ * C99, and C++ from C++11 on. keep.c, map.c and run.c in examples/c are whole programs.
  *
  * The sheet file, little-endian, nothing before, between or after its fields; a field is a
  * one-byte tag, a two-byte length and its data:
@@ -37,10 +40,10 @@ extern "C" {
 
 /* The version of this header and of the library that is installed with it. A change that breaks a
    caller raises the first number, an addition the second, anything else the third. */
-#define HIGLAUPTH_VERSION_MAJOR 1
-#define HIGLAUPTH_VERSION_MINOR 1
+#define HIGLAUPTH_VERSION_MAJOR 2
+#define HIGLAUPTH_VERSION_MINOR 0
 #define HIGLAUPTH_VERSION_PATCH 0
-#define HIGLAUPTH_VERSION "1.1.0"
+#define HIGLAUPTH_VERSION "2.0.0"
 
 /* Sizes, in bytes but for the first three. */
 #define HIGLAUPTH_MOST_POINTS 2048  /* a sheet with more is refused */
@@ -52,6 +55,10 @@ extern "C" {
 #define HIGLAUPTH_FILE_SIZE 41007   /* the longest file that can be accepted */
 #define HIGLAUPTH_READ_SIZE 65568   /* read so much of a file whose length is not known */
 #define HIGLAUPTH_STACK_SIZE 786432 /* stack to have free; the note at the functions */
+
+/* Limits of a run: a record that has reached one, or is over it, takes no more sheets. */
+#define HIGLAUPTH_MOST_SHEETS 65535     /* accepted sheets that it counts */
+#define HIGLAUPTH_SUM_LIMIT 2147483648u /* each of its new sums; 2^31 */
 
 /*
  * HIGLAUPTH_READ_SIZE is one byte more than the longest well-framed file has: 3 + 21 bytes of
@@ -72,7 +79,8 @@ extern "C" {
 #define HIGLAUPTH_GATE_CELL_COSINE 0.99026811122894287109375f         /* bits 0x3F7D8236 */
 #define HIGLAUPTH_GATE_CELL_RATIO 1.10f                               /* bits 0x3F8CCCCD */
 
-/* Refusals. A call gives the first number whose condition holds; the map's own is the last. */
+/* Refusals. A call gives the first number whose condition holds. higlaupth_keep looks for 1 to 9 in
+   this order, higlaupth_map for 10 after them, higlaupth_keep_in_run for 11 before them. */
 enum higlaupth_refusal {
     HIGLAUPTH_MISFRAMED = 1,       /* The fields, their order, their lengths or the end of the
                                       file differ from the list above. */
@@ -85,9 +93,12 @@ enum higlaupth_refusal {
     HIGLAUPTH_BAD_POSITION = 7,    /* A position is not finite or exceeds 16,384 in magnitude. */
     HIGLAUPTH_REPEATED_CELL = 8,   /* Two points have the same cell. */
     HIGLAUPTH_TWO_POSITIONS = 9,   /* One index stands at positions with different bits. */
-    HIGLAUPTH_MAP_TOO_WIDE = 10    /* The points span more than 72 values of u or 60 of v, from
-                                      the smallest to the largest. higlaupth_map alone looks at
-                                      this; higlaupth_keep never returns it. */
+    HIGLAUPTH_MAP_TOO_WIDE = 10,   /* The points span more than 72 values of u or 60 of v, from
+                                      the smallest to the largest. higlaupth_map alone looks for
+                                      this. */
+    HIGLAUPTH_RUN_FULL = 11        /* The run counts 65,535 or more accepted sheets or has a new
+                                      sum of 2^31 or more. higlaupth_keep_in_run alone looks for
+                                      this, before it reads the file. */
 };
 
 /*
@@ -154,21 +165,26 @@ enum higlaupth_present {
 };
 
 /*
- * The functions, higlaupth_keep and higlaupth_map. Each reads the sheet file of file_len bytes at
- * `file` and writes to a buffer: rows_len bytes at `rows`, text_len bytes at `text`.
+ * The functions. Three read the sheet file of file_len bytes at `file` and write to a buffer:
+ * higlaupth_keep and higlaupth_keep_in_run to rows_len bytes at `rows`, higlaupth_map to text_len
+ * bytes at `text`. Three write the record at `run`: higlaupth_keep_in_run, which reads it too, and
+ * higlaupth_run_new and higlaupth_run_from_old_sums, for which its memory may hold anything before.
  *
- * What holds of every call, whatever the bytes and the lengths:
+ * What holds of every call, whatever the bytes, the lengths and the numbers of a record:
  * - It ends.
- * - It writes what is said at the function, from the buffer's start on, and touches nothing
- *   beyond that. `file` is only read, and only its file_len bytes.
+ * - It writes what is said at the function, in a buffer from its start on, and touches nothing
+ *   beyond that. `file`, and of it only its file_len bytes, and `old_sums` are only read.
  * - It is reentrant: it keeps nothing between calls, allocates nothing, and does no input or
- *   output. Any number of threads may call at once, each with its own buffer; they may share a
- *   file.
+ *   output. Any number of threads may call at once, each with its own buffer and record; they may
+ *   share a file and old sums.
  *
  * What a caller owes:
  * - `file` points to file_len readable bytes, the buffer to as many writable bytes as its length
  *   says. Either pointer may be null if its length is 0. No alignment is asked for.
- * - The two do not overlap, and during the call nobody else writes `file` or touches the buffer.
+ * - `run` points to the 44 bytes of a record, readable and writable, `old_sums` to its 20 readable
+ *   bytes. Neither is null; both are aligned for uint32_t, as any variable of their types is.
+ * - No two of these overlap, and during the call nobody else writes `file` or `old_sums` or touches
+ *   the buffer or the record.
  * - The floating-point mode is the default one: the SSE control register (MXCSR) rounds to
  *   nearest, keeps subnormals (neither flush-to-zero nor denormals-are-zero) and masks
  *   exceptions. The call neither reads nor changes that register's modes; like any arithmetic it
@@ -182,7 +198,8 @@ enum higlaupth_present {
 /*
  * Judges a sheet file and writes its rows: 28 bytes for each point, or nothing if it is refused.
  * Returns a refusal number, 1 to 9, or 2^32 + 2^16 * points + components; higlaupth_refused,
- * higlaupth_points and higlaupth_components take this number apart, and no other.
+ * higlaupth_points and higlaupth_components take this number apart, and that of
+ * higlaupth_keep_in_run, and no other.
  * Example, of the bytes file[0] to file[file_len - 1]; those below go on from it:
  *
  *     uint8_t rows[HIGLAUPTH_ROWS_SIZE];
@@ -191,7 +208,8 @@ enum higlaupth_present {
 uint64_t higlaupth_keep(const uint8_t *file, size_t file_len, uint8_t *rows, size_t rows_len);
 
 /*
- * Whether a number that higlaupth_keep returned is a refusal; if so, it is the refusal number.
+ * Whether a number that higlaupth_keep or higlaupth_keep_in_run returned is a refusal; if so, it is
+ * the refusal number.
  * Example:
  *
  *     if (higlaupth_refused(returned)) printf("refused %u\n", (unsigned)returned);
@@ -199,7 +217,7 @@ uint64_t higlaupth_keep(const uint8_t *file, size_t file_len, uint8_t *rows, siz
 static inline int higlaupth_refused(uint64_t returned) { return (returned >> 32) == 0; }
 
 /*
- * What a refusal number, of either function, says in one line of text.
+ * What a refusal number, of any of the functions, says in one line of text.
  * Example:
  *
  *     if (higlaupth_refused(returned)) {
@@ -229,14 +247,16 @@ static inline const char *higlaupth_refusal_text(unsigned number) {
         return "one index stands at positions with different bits";
     case HIGLAUPTH_MAP_TOO_WIDE:
         return "the points span more than 72 values of u or 60 of v";
+    case HIGLAUPTH_RUN_FULL:
+        return "the run counts 65,535 or more accepted sheets or has a new sum of 2^31 or more";
     default:
         return "no such refusal";
     }
 }
 
 /*
- * Of a number that higlaupth_keep returned and that is no refusal: how many points, hence rows; 0
- * to 2,048.
+ * Of a number that higlaupth_keep or higlaupth_keep_in_run returned and that is no refusal: how
+ * many points, hence rows; 0 to 2,048.
  * Example:
  *
  *     for (unsigned k = 0; k < higlaupth_points(returned); k++) {
@@ -249,8 +269,8 @@ static inline unsigned higlaupth_points(uint64_t returned) {
 }
 
 /*
- * Of a number that higlaupth_keep returned and that is no refusal: how many patches the
- * largest-patch filter saw; 0 with its switch off.
+ * Of a number that higlaupth_keep or higlaupth_keep_in_run returned and that is no refusal: how
+ * many patches the largest-patch filter saw; 0 with its switch off.
  * Example:
  *
  *     printf("%u patches\n", higlaupth_components(returned));
@@ -293,7 +313,7 @@ typedef struct {
 #define HIGLAUPTH_FILTERS 4 /* how many there are */
 
 /*
- * The filter at a place from 0 to HIGLAUPTH_FILTERS - 1, in the order in which a point is counted:
+ * The filter at a place from 0 to HIGLAUPTH_FILTERS - 1, in the order in which an index is counted:
  * under the first of them that marks it. At any other place there is none, and its mark is 0.
  * Example:
  *
@@ -362,6 +382,73 @@ static inline unsigned higlaupth_map_refusal(const uint8_t *text, uint64_t size)
     }
     return number;
 }
+
+/*
+ * A run is a number of sheets, one after the other, with sums of their tallies. The tally of an
+ * accepted sheet, the last line of its listing, counts each index once, however many cells it
+ * stands at: as kept, or under the first filter that marks it. (Its cells share their marks.) Up to
+ * version 1.1.0 the tally counted cells: that is the old count.
+ */
+
+/* The old sums: those of the sheets that a run had under the old count, as they were handed in when
+   its record was started; zeros if it had none. No call changes or tests them: they stand in the
+   record for ever, whatever numbers they are. */
+typedef struct {
+    uint32_t kept, validate, orientation, wrong, component;
+} higlaupth_old_sums;
+
+/* The new sums: those of the tallies, which count indices, of the accepted sheets that the record
+   counts. The old sums are no part of them. */
+typedef struct {
+    uint32_t kept, validate, orientation, wrong, component;
+} higlaupth_new_sums;
+
+/* The record of a run: 11 u32s, 44 bytes, in this order. It can be copied, stored and handed in
+   again. */
+typedef struct {
+    higlaupth_old_sums old_sums;
+    uint32_t sheets; /* how many accepted sheets were added to the new sums */
+    higlaupth_new_sums new_sums;
+} higlaupth_run;
+
+/*
+ * Starts the record of a run that starts now: zeros throughout.
+ * Example:
+ *
+ *     higlaupth_run run;
+ *     higlaupth_run_new(&run);
+ */
+void higlaupth_run_new(higlaupth_run *run);
+
+/*
+ * Starts the record of a run that started under the old count: these old sums; sheets and new sums
+ * are 0. The old sums must not be those of the record itself.
+ * Example:
+ *
+ *     higlaupth_old_sums old_sums = {812, 40, 3, 25, 120};
+ *     higlaupth_run older_run;
+ *     higlaupth_run_from_old_sums(&old_sums, &older_run);
+ */
+void higlaupth_run_from_old_sums(const higlaupth_old_sums *old_sums, higlaupth_run *run);
+
+/*
+ * The second form of higlaupth_keep: judges a sheet file as the next sheet of a run. First it looks
+ * at the record: if that counts HIGLAUPTH_MOST_SHEETS or more sheets or has a new sum of
+ * HIGLAUPTH_SUM_LIMIT or more, it returns HIGLAUPTH_RUN_FULL and does not read the file. Else it
+ * returns what higlaupth_keep returns and writes the same rows; if the sheet is accepted, the
+ * record then counts one sheet more, and each new sum has grown by its number of the sheet's tally.
+ * A refusal leaves buffer and record as they were.
+ *
+ * Any record may be handed in, and no sum wraps. A run that one of the two functions above started
+ * stays far below HIGLAUPTH_SUM_LIMIT: 65,535 sheets of 2,048 indices make 134,215,680.
+ * Example:
+ *
+ *     returned = higlaupth_keep_in_run(file, file_len, rows, sizeof rows, &older_run);
+ *     if (higlaupth_refused(returned)) printf("not added: refused %u\n", (unsigned)returned);
+ *     printf("sheets %u kept %u\n", older_run.sheets, older_run.new_sums.kept);
+ */
+uint64_t higlaupth_keep_in_run(const uint8_t *file, size_t file_len, uint8_t *rows, size_t rows_len,
+                               higlaupth_run *run);
 
 #ifdef __cplusplus
 }

@@ -1,16 +1,26 @@
 /*
  * What include/higlaupth.h says, held against the header's own numbers and texts and against the
  * compiled functions: boundary VERSION FILE MAP, where FILE is the sheet of five points and MAP its
- * map. C99 and C++11. Prints each check that fails; the exit status is 0 only if none does. File
- * and buffer of each call lie in heap blocks of exactly their lengths, for valgrind.
+ * map. C99 and C++11. Prints each check that fails; the exit status is 0 only if none does. File,
+ * buffer and record of each call lie in heap blocks that end where they do, for valgrind.
  */
+#define _DEFAULT_SOURCE /* mmap in C99 */
 #include <higlaupth.h>
 
 #include <stdio.h>
 #include <stdlib.h>
 #include <string.h>
+#include <sys/mman.h>
 
 enum { PAINT = 0xA5, MOST_RECORDS = 65535 / 20, LINE_SIZE = 6 + 1 + HIGLAUPTH_MAP_COLUMNS + 1 + 1 };
+/* The record of a run as an array: how many numbers, and where those after the old sums stand. */
+enum { NUMBERS = 11, SHEETS = 5, NEW_SUMS = 6, SUMS = 5 };
+
+typedef struct {
+    int u, v;
+    unsigned index;
+    float x, y;
+} point;
 
 static int failed;
 static uint8_t file[HIGLAUPTH_READ_SIZE + 5000];
@@ -46,6 +56,37 @@ static uint64_t map(size_t file_len, size_t text_len) {
     return call(higlaupth_map, file_len, text_len);
 }
 
+/* The record that a call is lent, with a painted number before it, so that its place is a multiple
+   of 4 and not of 8, as a uint32_t's may be. */
+static higlaupth_run *lent;
+
+static void lend(const uint32_t *numbers) {
+    uint32_t *block = (uint32_t *)malloc((1 + NUMBERS) * sizeof *block);
+    if (!block) abort();
+    block[0] = PAINT;
+    memcpy(block + 1, numbers, sizeof *lent);
+    lent = (higlaupth_run *)(block + 1);
+}
+
+static void take_back(uint32_t *numbers) {
+    uint32_t *block = (uint32_t *)lent - 1;
+    CHECK(block[0] == PAINT);
+    memcpy(numbers, lent, sizeof *lent);
+    free(block);
+}
+
+static uint64_t keep_in_lent(const uint8_t *bytes, size_t length, uint8_t *rows, size_t room) {
+    return higlaupth_keep_in_run(bytes, length, rows, room, lent);
+}
+
+/* The numbers are the record before the call, and then the one after it. */
+static uint64_t keep_in_run(size_t file_len, size_t rows_len, uint32_t *numbers) {
+    lend(numbers);
+    uint64_t returned = call(keep_in_lent, file_len, rows_len);
+    take_back(numbers);
+    return returned;
+}
+
 /* Whether the bytes of `after` from one place to another still have their paint. */
 static int painted(size_t from, size_t to) {
     for (; from < to; from++)
@@ -62,6 +103,14 @@ static uint32_t bits(float number) {
 static uint8_t *write_number(uint8_t *at, uint32_t number, int size) {
     for (int k = 0; k < size; k++) at[k] = (uint8_t)(number >> 8 * k);
     return at + size;
+}
+
+static uint8_t *write_point(uint8_t *at, point p) {
+    at = write_number(at, (uint32_t)p.u, 4);
+    at = write_number(at, (uint32_t)p.v, 4);
+    at = write_number(at, p.index, 4);
+    at = write_number(at, bits(p.x), 4);
+    return write_number(at, bits(p.y), 4);
 }
 
 /* Writes into `file` tag 1 of length 21, tag 2 with the original's values, and tag 3 with so many
@@ -86,30 +135,61 @@ static size_t write_sheet(unsigned points) {
     at = write_number(at, 3, 1);
     at = write_number(at, 20 * points, 2);
     for (unsigned k = 0; k < points; k++) {
-        at = write_number(at, k / 46, 4);
-        at = write_number(at, k % 46, 4);
-        at = write_number(at, k, 4);
-        at = write_number(at, bits((float)(100 * (k / 46))), 4);
-        at = write_number(at, bits((float)(100 * (k % 46))), 4);
+        int u = (int)(k / 46), v = (int)(k % 46);
+        point p = {u, v, k, (float)(100 * u), (float)(100 * v)};
+        at = write_point(at, p);
     }
+    return (size_t)(at - file);
+}
+
+/* Writes into `file` tag 1 with the cell size alone, and tag 3 with these points. Returns the
+   length. */
+static size_t write_points(float cell_size, const point *points, unsigned count) {
+    uint8_t *at = write_number(file, 1, 1);
+    at = write_number(at, 4, 2);
+    at = write_number(at, bits(cell_size), 4);
+    at = write_number(at, 3, 1);
+    at = write_number(at, 20 * count, 2);
+    for (unsigned k = 0; k < count; k++) at = write_point(at, points[k]);
     return (size_t)(at - file);
 }
 
 /* Writes into `file` a sheet of two points, at cell (0, 0) and at the one that is given. Returns the
    length. */
 static size_t write_two(int u, int v) {
-    uint8_t *at = write_number(file, 1, 1);
-    at = write_number(at, 4, 2);
-    at = write_number(at, bits(100), 4);
-    at = write_number(at, 3, 1);
-    at = write_number(at, 40, 2);
-    memset(at, 0, 20);
-    at = write_number(at + 20, (uint32_t)u, 4);
-    at = write_number(at, (uint32_t)v, 4);
-    at = write_number(at, 1, 4);
-    at = write_number(at, bits(500), 4);
-    at = write_number(at, bits(0), 4);
-    return (size_t)(at - file);
+    const point points[] = {{0, 0, 0, 0, 0}, {u, v, 1, 500, 0}};
+    return write_points(100, points, 2);
+}
+
+/* Writes into `file` a sheet that higlaupth_keep refuses with this number; with 3, if the buffer is
+   shorter than two rows. Returns the length. */
+static size_t write_refused(unsigned number) {
+    const point two_positions[] = {{0, 0, 7, 0, 0}, {1, 0, 7, 100, 0}};
+    size_t length = write_two(1, 0);
+    switch (number) {
+    case HIGLAUPTH_MISFRAMED:
+        return length - 1;
+    case HIGLAUPTH_TOO_MANY_POINTS:
+        return write_sheet(HIGLAUPTH_MOST_POINTS + 1);
+    case HIGLAUPTH_BAD_SWITCH:
+        length = write_sheet(2);
+        file[3 + 14] = 2; /* the step flag */
+        return length;
+    case HIGLAUPTH_BAD_SETTING:
+        write_number(file + 3, 0x7FC00000, 4); /* the cell size */
+        return length;
+    case HIGLAUPTH_BAD_CELL:
+        return write_two(8001, 0);
+    case HIGLAUPTH_BAD_POSITION:
+        write_number(file + length - 4, 0x7F800000, 4); /* the last y */
+        return length;
+    case HIGLAUPTH_REPEATED_CELL:
+        return write_two(0, 0);
+    case HIGLAUPTH_TWO_POSITIONS:
+        return write_points(100, two_positions, 2);
+    default:
+        return length;
+    }
 }
 
 static void check_numbers(const char *version) {
@@ -123,6 +203,7 @@ static void check_numbers(const char *version) {
     CHECK(HIGLAUPTH_READ_SIZE == 1 + 3 + 21 + 3 + 17 + 3 + 20 * MOST_RECORDS);
     CHECK(HIGLAUPTH_MAP_SIZE == LINE_SIZE * HIGLAUPTH_MAP_LINES && LINE_SIZE == 80 + 1);
     CHECK(HIGLAUPTH_NO_ROOM > HIGLAUPTH_MAP_SIZE && HIGLAUPTH_NO_ROOM + 1 == 0);
+    CHECK(HIGLAUPTH_MOST_SHEETS == 65535 && HIGLAUPTH_SUM_LIMIT == (uint64_t)1 << 31);
     CHECK(HIGLAUPTH_GATE_MINIMUM_DEGREE == 2);
     CHECK(bits(HIGLAUPTH_GATE_CONTINUATION_COSINE) == 0x3F7D8236);
     CHECK(bits(HIGLAUPTH_GATE_CONTINUATION_RATIO) == 0x3F970A3D);
@@ -317,10 +398,212 @@ static void check_page(void) {
     check_both_refused(sizeof file);
 }
 
+/* The record is eleven u32s in their order; the sums stand in the order of the tally. */
+static void check_record(void) {
+    typedef struct {
+        char before;
+        higlaupth_run run;
+    } later;
+#define FIELD(name) {#name, offsetof(higlaupth_old_sums, name), offsetof(higlaupth_new_sums, name)}
+    const struct {
+        const char *name;
+        size_t in_old, in_new;
+    } fields[] = {FIELD(kept), FIELD(validate), FIELD(orientation), FIELD(wrong), FIELD(component)};
+    CHECK(sizeof fields / sizeof *fields == SUMS && HIGLAUPTH_FILTERS + 1 == SUMS);
+    for (unsigned k = 0; k < SUMS; k++) {
+        CHECK(fields[k].in_old == 4 * k && fields[k].in_new == 4 * k);
+        CHECK(k == 0 || strcmp(fields[k].name, higlaupth_filter_at(k - 1).word) == 0);
+    }
+#undef FIELD
+    CHECK(sizeof(higlaupth_old_sums) == 4 * SUMS && sizeof(higlaupth_new_sums) == 4 * SUMS);
+    CHECK(offsetof(higlaupth_run, old_sums) == 0);
+    CHECK(offsetof(higlaupth_run, sheets) == 4 * SHEETS);
+    CHECK(offsetof(higlaupth_run, new_sums) == 4 * NEW_SUMS);
+    CHECK(sizeof(higlaupth_run) == 4 * NUMBERS && 4 * NUMBERS == 44);
+    CHECK(offsetof(later, run) == sizeof(uint32_t));
+}
+
+/* Both functions that start a record write all of it, whatever was there. */
+static void check_started(void) {
+    const uint32_t handed_in[][SUMS] = {
+        {0, 0, 0, 0, 0},
+        {812, 40, 3, 25, 120},
+        {0x7FFFFFFF, 0x80000000, 65535, 65536, 1},
+        {0xFFFFFFFF, 0xFFFFFFFF, 0xFFFFFFFF, 0xFFFFFFFF, 0xFFFFFFFF},
+    };
+    uint32_t before[NUMBERS], numbers[NUMBERS];
+    memset(before, PAINT, sizeof before);
+    lend(before);
+    higlaupth_run_new(lent);
+    take_back(numbers);
+    for (int k = 0; k < NUMBERS; k++) CHECK(numbers[k] == 0);
+
+    for (size_t n = 0; n < sizeof handed_in / sizeof *handed_in; n++) {
+        higlaupth_old_sums *old_sums = (higlaupth_old_sums *)malloc(sizeof *old_sums);
+        if (!old_sums) abort();
+        memcpy(old_sums, handed_in[n], sizeof *old_sums);
+        lend(before);
+        higlaupth_run_from_old_sums(old_sums, lent);
+        CHECK(memcmp(old_sums, handed_in[n], sizeof *old_sums) == 0);
+        free(old_sums);
+        take_back(numbers);
+        for (int k = 0; k < NUMBERS; k++) CHECK(numbers[k] == (k < SHEETS ? handed_in[n][k] : 0));
+    }
+}
+
+/* The sheet in the first bytes of `file` is added to the run: number and rows are those of
+   higlaupth_keep, one sheet more is counted, the new sums grow by this tally, and the old sums
+   stand. The numbers are then the record after it. */
+static void check_added(size_t file_len, size_t rows_len, uint32_t *numbers,
+                        const uint32_t *tally) {
+    static uint8_t rows[sizeof after];
+    uint32_t expected[NUMBERS];
+    memcpy(expected, numbers, sizeof expected);
+    expected[SHEETS]++;
+    for (int k = 0; k < SUMS; k++) expected[NEW_SUMS + k] += tally[k];
+    uint64_t returned = keep(file_len, rows_len);
+    memcpy(rows, after, rows_len);
+    CHECK(!higlaupth_refused(returned));
+    CHECK(keep_in_run(file_len, rows_len, numbers) == returned);
+    CHECK(memcmp(after, rows, rows_len) == 0);
+    CHECK(memcmp(numbers, expected, sizeof expected) == 0);
+}
+
+/* It is refused with this number, and neither rows nor record change. */
+static void check_not_added(size_t file_len, size_t rows_len, const uint32_t *numbers,
+                            unsigned number) {
+    uint32_t then[NUMBERS];
+    memcpy(then, numbers, sizeof then);
+    CHECK(keep_in_run(file_len, rows_len, then) == number);
+    CHECK(painted(0, rows_len));
+    CHECK(memcmp(then, numbers, sizeof then) == 0);
+}
+
+/* A sheet without repeated indices with a different number under each word of the tally. */
+static const point fifteen[] = {
+    {0, 1, 1, 0, 100},        {0, 2, 2, 0, 200},        {1, 0, 3, 100, 0},
+    {1, 1, 4, 0, 0},          {1, 2, 5, 100, 200},      {2, 0, 6, 230, -30},
+    {2, 2, 7, 200, 200},      {3, 0, 8, 300, 0},        {3, 1, 9, 300, 100},
+    {3, 2, 10, 330, 170},     {4, 0, 11, 400, 0},       {4, 2, 12, 400, 200},
+    {10, 10, 13, 1000, 1000}, {12, 13, 14, 1250, 1000}, {14, 16, 15, 1500, 1000},
+};
+static const uint32_t tally_of_fifteen[SUMS] = {2, 5, 3, 1, 4};
+
+static size_t write_fifteen(void) { return write_points(100, fifteen, 15); }
+
+/* The tally of an accepted sheet without repeated indices, from the rows in `after`. */
+static void count_rows(unsigned points, uint32_t *tally) {
+    memset(tally, 0, SUMS * sizeof *tally);
+    for (unsigned k = 0; k < points; k++) {
+        unsigned marks = after[k * HIGLAUPTH_ROW_SIZE + HIGLAUPTH_MARKS], place = 0;
+        while (place < HIGLAUPTH_FILTERS && !(marks & higlaupth_filter_at(place).mark)) place++;
+        tally[place < HIGLAUPTH_FILTERS ? 1 + place : 0]++;
+    }
+}
+
+/* A run of accepted sheets: without points, with different numbers, in a buffer that just suffices,
+   as large as may be. An index at several cells is counted once, wherever it is counted. */
+static void check_accepted(void) {
+    const point wrong[] = {{0, 0, 7, 0, 0}, {1, 0, 7, 0, 0}, {0, 1, 8, 0, 100}};
+    const point kept[] = {{0, 0, 7, 0, 0}, {1, 0, 7, 0, 0}};
+    const point component[] = {{0, 0, 7, 0, 0}, {5, 5, 7, 0, 0}};
+    const uint32_t none[SUMS] = {0}, one_kept[SUMS] = {1}, one_wrong[SUMS] = {1, 0, 0, 1, 0};
+    const uint32_t one_component[SUMS] = {0, 0, 0, 0, 1};
+    uint32_t numbers[NUMBERS] = {1, 0xFFFFFFFF, 0x80000000, 65535, 0}, tally[SUMS];
+    check_added(write_sheet(0), 0, numbers, none);
+    check_added(write_fifteen(), 15 * HIGLAUPTH_ROW_SIZE, numbers, tally_of_fifteen);
+    check_added(write_fifteen(), sizeof after, numbers, tally_of_fifteen);
+    count_rows(15, tally);
+    CHECK(memcmp(tally, tally_of_fifteen, sizeof tally) == 0);
+
+    check_added(write_points(100, wrong, 3), HIGLAUPTH_ROWS_SIZE, numbers, one_wrong);
+    check_added(write_points(0, kept, 2), HIGLAUPTH_ROWS_SIZE, numbers, one_kept);
+    check_added(write_points(0, component, 2), HIGLAUPTH_ROWS_SIZE, numbers, one_component);
+
+    keep(write_sheet(HIGLAUPTH_MOST_POINTS), HIGLAUPTH_ROWS_SIZE);
+    count_rows(HIGLAUPTH_MOST_POINTS, tally);
+    check_added(HIGLAUPTH_FILE_SIZE, HIGLAUPTH_ROWS_SIZE, numbers, tally);
+    CHECK(numbers[SHEETS] == 7);
+}
+
+/* The sheet of fifteen points is added to a run with this record, or refused with 11. */
+static void check_fifteen(uint32_t *numbers, int added) {
+    const size_t length = write_fifteen();
+    if (added)
+        check_added(length, HIGLAUPTH_ROWS_SIZE, numbers, tally_of_fifteen);
+    else
+        check_not_added(length, HIGLAUPTH_ROWS_SIZE, numbers, HIGLAUPTH_RUN_FULL);
+}
+
+/* Each number of a record at and beside the limits, of which old sums have none; all at once; and
+   the last sheets of a run. */
+static void check_limits(void) {
+    const uint32_t values[] = {1,          65533,      65534,      65535,     65536,
+                               0x7FFFFFFE, 0x7FFFFFFF, 0x80000000, 0xFFFFFFFF};
+    uint32_t numbers[NUMBERS];
+    for (int place = 0; place < NUMBERS; place++) {
+        const uint32_t limit = place == SHEETS ? HIGLAUPTH_MOST_SHEETS : HIGLAUPTH_SUM_LIMIT;
+        for (size_t k = 0; k < sizeof values / sizeof *values; k++) {
+            memset(numbers, 0, sizeof numbers);
+            numbers[place] = values[k];
+            check_fifteen(numbers, place < SHEETS || values[k] < limit);
+        }
+    }
+    for (int place = 0; place < NUMBERS; place++)
+        numbers[place] = place < SHEETS ? 0xFFFFFFFF : place == SHEETS ? 65534 : 0x7FFFFFFF;
+    check_fifteen(numbers, 1);
+    check_fifteen(numbers, 0);
+
+    memset(numbers, 0, sizeof numbers);
+    numbers[SHEETS] = 65530;
+    for (int k = 0; k < 5; k++) check_fifteen(numbers, 1);
+    check_fifteen(numbers, 0);
+}
+
+/* Each refusal of higlaupth_keep, and 11 before it if the record takes no more. */
+static void check_refusals_in_run(void) {
+    uint32_t numbers[NUMBERS] = {1, 2, 3, 4, 5, 6, 7, 8, 9, 10, 11}, full[NUMBERS] = {0};
+    full[SHEETS] = HIGLAUPTH_MOST_SHEETS;
+    for (unsigned number = 1; number <= HIGLAUPTH_TWO_POSITIONS; number++) {
+        size_t length = write_refused(number);
+        size_t room = HIGLAUPTH_ROWS_SIZE;
+        if (number == HIGLAUPTH_SHORT_BUFFER) room = 2 * HIGLAUPTH_ROW_SIZE - 1;
+        CHECK(keep(length, room) == number);
+        check_not_added(length, room, numbers, number);
+        check_not_added(length, room, full, HIGLAUPTH_RUN_FULL);
+        check_not_added(length, 0, full, HIGLAUPTH_RUN_FULL);
+    }
+    CHECK(higlaupth_refused(HIGLAUPTH_RUN_FULL));
+
+    higlaupth_run run;
+    memcpy(&run, numbers, sizeof run);
+    CHECK(higlaupth_keep_in_run(NULL, 0, NULL, 0, &run) == HIGLAUPTH_MISFRAMED);
+    CHECK(memcmp(&run, numbers, sizeof run) == 0);
+    CHECK(higlaupth_keep_in_run(file, write_sheet(0), NULL, 0, &run) == (uint64_t)1 << 32);
+    CHECK(run.sheets == numbers[SHEETS] + 1);
+    memcpy(&run, full, sizeof run);
+    CHECK(higlaupth_keep_in_run(NULL, 0, NULL, 0, &run) == HIGLAUPTH_RUN_FULL);
+    CHECK(memcmp(&run, full, sizeof run) == 0);
+}
+
+/* 11 is found before the file is read: file and buffer may then be memory that nobody may touch. */
+static void check_untouched(void) {
+    enum { CLOSED = 4096 };
+    void *memory = mmap(NULL, CLOSED, PROT_NONE, MAP_PRIVATE | MAP_ANONYMOUS, -1, 0);
+    if (memory == MAP_FAILED) abort();
+    uint8_t *closed = (uint8_t *)memory;
+    higlaupth_run run;
+    higlaupth_run_new(&run);
+    run.sheets = HIGLAUPTH_MOST_SHEETS;
+    CHECK(higlaupth_keep_in_run(closed, CLOSED / 2, closed + CLOSED / 2, CLOSED / 2, &run) ==
+          HIGLAUPTH_RUN_FULL);
+    munmap(memory, CLOSED);
+}
+
 int main(int argc, char **argv) {
     if (argc != 4) return 2;
     check_numbers(argv[1]);
-    check_texts(higlaupth_refusal_text, 1, 10);
+    check_texts(higlaupth_refusal_text, 1, 11);
     CHECK(strcmp(higlaupth_refusal_text(0), "no such refusal") == 0);
     check_texts(higlaupth_reason_text, 0, 3);
     check_filters();
@@ -329,5 +612,11 @@ int main(int argc, char **argv) {
     check_refusal_texts();
     check_map_of_five_points(argv[2], argv[3]);
     check_page();
+    check_record();
+    check_started();
+    check_accepted();
+    check_limits();
+    check_refusals_in_run();
+    check_untouched();
     return failed;
 }

@@ -8,22 +8,9 @@
  * Without FILE it judges a sheet of five points. Exit status: 0 if the sheet is accepted, 1 if it
  * is refused, 2 if the file cannot be read or the answer cannot be written.
  */
-#include <higlaupth.h>
+#include "shared.h"
 
-#include <stdio.h>
-#include <stdlib.h>
 #include <string.h>
-
-/* The specification's sheet of five points, the first of them apart from the others. */
-static const uint8_t five_points[] = {
-    1, 4, 0,   0, 0, 200, 66, /* tag 1, length 4: cell size 100 */
-    3, 100, 0,                /* tag 3, length 100: five points, each u, v, index, x, y */
-    5, 0, 0, 0,  5, 0, 0, 0,  14, 0, 0, 0,  0, 0, 250, 67,  0, 0, 250, 67,
-    0, 0, 0, 0,  0, 0, 0, 0,  10, 0, 0, 0,  0, 0, 0, 0,     0, 0, 0, 0,
-    1, 0, 0, 0,  0, 0, 0, 0,  11, 0, 0, 0,  0, 0, 200, 66,  0, 0, 0, 0,
-    0, 0, 0, 0,  1, 0, 0, 0,  12, 0, 0, 0,  0, 0, 0, 0,     0, 0, 200, 66,
-    1, 0, 0, 0,  1, 0, 0, 0,  13, 0, 0, 0,  0, 0, 200, 66,  0, 0, 200, 66,
-};
 
 typedef struct {
     int32_t u, v;
@@ -87,28 +74,14 @@ static void print_row(const point *p, const uint8_t *row) {
     printf("\n");
 }
 
-/* The exit status: 2 if standard output has not taken everything. */
-static int ended(int status) {
-    if (fflush(stdout) == 0 && !ferror(stdout)) return status;
-    perror("standard output");
-    return 2;
-}
-
 int main(int argc, char **argv) {
     static uint8_t file[HIGLAUPTH_READ_SIZE], rows[HIGLAUPTH_ROWS_SIZE];
     static point points[HIGLAUPTH_MOST_POINTS];
     size_t length = sizeof five_points;
-    if (argc > 1) {
-        FILE *from = fopen(argv[1], "rb");
-        if (from) length = fread(file, 1, sizeof file, from);
-        if (!from || ferror(from)) {
-            perror(argv[1]);
-            return 2;
-        }
-        fclose(from);
-    } else {
+    if (argc > 1)
+        length = read_file(fopen(argv[1], "rb"), argv[1], file);
+    else
         memcpy(file, five_points, length);
-    }
 
     uint64_t returned = higlaupth_keep(file, length, rows, sizeof rows);
     if (higlaupth_refused(returned)) {

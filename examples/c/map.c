@@ -9,28 +9,15 @@
  * sheet has no points, 1 if the sheet is refused, 2 if the file cannot be read or the map cannot be
  * written.
  */
-#include <higlaupth.h>
+#include "shared.h"
 
-#include <stdio.h>
 #include <string.h>
-
-/* The exit status: 2 if standard output has not taken everything. */
-static int ended(int status) {
-    if (fflush(stdout) == 0 && !ferror(stdout)) return status;
-    perror("standard output");
-    return 2;
-}
 
 int main(int argc, char **argv) {
     static uint8_t file[HIGLAUPTH_READ_SIZE];
     static uint8_t text[HIGLAUPTH_MAP_SIZE];
-    FILE *from = argc > 1 ? fopen(argv[1], "rb") : stdin;
-    size_t length = from ? fread(file, 1, sizeof file, from) : 0;
-    if (!from || ferror(from)) {
-        perror(argc > 1 ? argv[1] : "standard input");
-        return 2;
-    }
-    fclose(from);
+    size_t length = argc > 1 ? read_file(fopen(argv[1], "rb"), argv[1], file)
+                             : read_file(stdin, "standard input", file);
 
     /* Every text has room, so the number is that of its bytes. */
     size_t size = (size_t)higlaupth_map(file, length, text, sizeof text);
