@@ -8,7 +8,8 @@ use lib.IntN.{ℤ, pos, negsuc, _+ℤ_, _-ℤ_, +ℤ-idr, +ℤ-assoc, +ℤ-comm,
 use lib.ListN.{getD}
 use borrow.Author.Tests.{eqb-true, eq-eqb}
 use Rattle.folds.proofs.Below.{some-at, some-yes, and-left, and-right, and-both, both-ways, or-left, or-right, or-cases}
-use Rattle.view.specs.View.{squareSides}
+use Rattle.offsets.specs.declared.Offset.{Offset}
+use Rattle.offsets.specs.Offsets.{own, squareSides, offsetOf}
 use Rattle.cells.specs.Cell.{Cell, moved, agree, differByOne, shareEdge, coincide, offsetBy, joinedBy}
 
 -- ---- whole numbers
@@ -51,10 +52,10 @@ swapped : (z a b : ℤ) → (z +ℤ a) +ℤ b ≡ (z +ℤ b) +ℤ a
 swapped z a b = +ℤ-assoc z a b ∙ ap (λ (w : ℤ). z +ℤ w) (+ℤ-comm a b) ∙ sym (+ℤ-assoc z b a)
 
 -- cells moved alike stand to each other as before
-pub offset-moved : (a b : ℤ) (d : ℕ) (c e : Cell) → coincide (moved a b e) (offsetBy d (moved a b c)) ≡ coincide e (offsetBy d c)
-offset-moved a b d c e =
-    let f : offsetBy d (moved a b c) ≡ moved a b (offsetBy d c) = same-cell (swapped (c .u) a _) (swapped (c .v) b _) in
-    ap (coincide (moved a b e)) f ∙ rw (agree-moved (e .u) (offsetBy d c .u) a, agree-moved (e .v) (offsetBy d c .v) b)
+pub offset-moved : (a b : ℤ) (o : Offset) (c e : Cell) → coincide (moved a b e) (offsetBy o (moved a b c)) ≡ coincide e (offsetBy o c)
+offset-moved a b o c e =
+    let f : offsetBy o (moved a b c) ≡ moved a b (offsetBy o c) = same-cell (swapped (c .u) a _) (swapped (c .v) b _) in
+    ap (coincide (moved a b e)) f ∙ rw (agree-moved (e .u) (offsetBy o c .u) a, agree-moved (e .v) (offsetBy o c .v) b)
 
 back : (z : ℤ) (e : ℕ) → e < 5 → (z +ℤ (pos e -ℤ pos 2)) +ℤ (pos (4 - e) -ℤ pos 2) ≡ z
 back z e h = +ℤ-assoc z (pos e -ℤ pos 2) (pos (4 - e) -ℤ pos 2) ∙ ap (λ (w : ℤ). z +ℤ w) (opposite e h) ∙ +ℤ-idr z
@@ -67,8 +68,8 @@ back z e h = +ℤ-assoc z (pos e -ℤ pos 2) (pos (4 - e) -ℤ pos 2) ∙ ap (λ
     opposite (suc (suc (suc (suc zero)))) h = refl
     opposite (suc (suc (suc (suc (suc e))))) h = absurd (omega arith)
 
--- offset 24 - d leads back from offset d
-pub offset-back : (d : ℕ) (c : Cell) → d < 25 → offsetBy (24 - d) (offsetBy d c) ≡ c
+-- the offset at place 24 - d leads back from the one at place d
+pub offset-back : (d : ℕ) (c : Cell) → d < 25 → offsetBy (offsetOf (24 - d)) (offsetBy (offsetOf d) c) ≡ c
 offset-back d c h =
     let a : (24 - d) / 5 ≡ 4 - d / 5 = omega arith in
     let b : (24 - d) % 5 ≡ 4 - d % 5 = omega arith in
@@ -76,12 +77,12 @@ offset-back d c h =
 
 -- ---- shared edges
 
-abbrev side : ℕ → ℕ
-side i = getD squareSides i 0
+abbrev side : ℕ → Offset
+side i = getD squareSides i own
 
 module _ (u v x y : ℤ) where
-  abbrev Over : ℕ → Type 0
-  Over d = cellAt x y ≡ offsetBy d (cellAt u v)
+  abbrev Over : Offset → Type 0
+  Over o = cellAt x y ≡ offsetBy o (cellAt u v)
 
   by-u : (a : ℤ) → agree x (u +ℤ a) ≡ true → agree v y ≡ true → cellAt x y ≡ moved a (pos 0) (cellAt u v)
   by-u a e f = same-cell (agree-true x (u +ℤ a) e) (sym (agree-true v y f) ∙ sym (+ℤ-idr v))

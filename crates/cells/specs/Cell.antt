@@ -12,6 +12,8 @@ use mir.Syntax.{w32}
 use mir.Val.{toZ}
 use Rattle.folds.specs.Below.{some}
 use Rattle.folds.specs.Lists.{listOf}
+use Rattle.offsets.specs.declared.Offset.{Offset}
+use Rattle.offsets.specs.Offsets.{own}
 use Rattle.cells.specs.Points.{Point, nowhere, bias, stride}
 
 -- the whole number whose two's complement is the 32-bit pattern b
@@ -67,21 +69,15 @@ shareEdge c d = (differByOne (c .u) (d .u) && agree (c .v) (d .v)) || (agree (c 
 abbrev pub coincide : Cell → Cell → Bool
 coincide c d = agree (c .u) (d .u) && agree (c .v) (d .v)
 
--- ---- offsets by number: 5 * (du + 2) + (dv + 2)
+-- ---- offsets
 
-abbrev pub duOf : ℕ → ℤ
-duOf d = pos (d / 5) -ℤ pos 2
-
-abbrev pub dvOf : ℕ → ℤ
-dvOf d = pos (d % 5) -ℤ pos 2
-
--- the cell at offset d
-abbrev pub offsetBy : ℕ → Cell → Cell
-offsetBy d c = moved (duOf d) (dvOf d) c
+-- the cell at offset o
+abbrev pub offsetBy : Offset → Cell → Cell
+offsetBy o c = moved (o .du) (o .dv) c
 
 -- one of the offsets of a list leads from c to d
-abbrev pub joinedBy : List ℕ → Cell → Cell → Bool
-joinedBy sides c d = some (λ (i : ℕ). coincide d (offsetBy (getD sides i 0) c)) (length sides)
+abbrev pub joinedBy : List Offset → Cell → Cell → Bool
+joinedBy sides c d = some (λ (i : ℕ). coincide d (offsetBy (getD sides i own) c)) (length sides)
 
 -- ---- cells by rank
 

@@ -21,7 +21,7 @@ use Rattle.patches.specs.Patches.{survives, linked, labelsOf}
 use Rattle.components.specs.Components.{sizesOf, largestAt, winnerOf, inPatch}
 use Rattle.patches.specs.Reach.{Reach, here, Mirrored, paired}
 use Rattle.components.specs.WholePatches.{WholePatch, Smallest, KeptPatch, PatchesCounted}
-use Rattle.patches.specs.Search.{Offsets}
+use Rattle.patches.specs.Search.{NearPlaces}
 use Rattle.patches.proofs.Surviving.{survives-lt}
 use Rattle.patches.proofs.Closure.{reach-from, reach-to}
 use Rattle.patches.proofs.Labelling.{joins, label-none, label-some, label-le, label-lives}
@@ -95,7 +95,7 @@ module _ (n : ℕ) (near : ℕ → ℕ) (sides dropped : List ℕ) where
   abbrev label : ℕ → ℕ
   label k = getD labels k 0
 
-  module _ (offsets : Offsets sides) (pairs : paired sides ≡ true) (mirror : Mirrored n near) where
+  module _ (placed : NearPlaces sides) (pairs : paired sides ≡ true) (mirror : Mirrored n near) where
     -- ---- patches by their labels
 
     patch-of : (s k : ℕ) → inPatch n labels s k ≡ true → (k < n) × (label k ≡ s)
@@ -110,10 +110,10 @@ module _ (n : ℕ) (near : ℕ → ℕ) (sides dropped : List ℕ) where
         let w = patch-of (label a) k t in
         let low = label-le n near sides dropped a e in
         let b = label-lives n near sides dropped k (w .0) (omega (arith, w .1, low, survives-lt n dropped a e)) in
-        same-label n near sides dropped offsets pairs mirror a k e b .0 (sym (w .1))
+        same-label n near sides dropped placed pairs mirror a k e b .0 (sym (w .1))
 
     patch-out : (a k : ℕ) → alive a ≡ true → Reach alive link a k → inPatch n labels (label a) k ≡ true
-    patch-out a k e r = let b = reach-to n alive link (joins n near sides dropped) r in patch-is (label a) k b (sym (same-label n near sides dropped offsets pairs mirror a k e b .1 r))
+    patch-out a k e r = let b = reach-to n alive link (joins n near sides dropped) r in patch-is (label a) k b (sym (same-label n near sides dropped placed pairs mirror a k e b .1 r))
 
     with-label : (a : ℕ) → alive a ≡ true → WholePatch alive link (inPatch n labels (label a))
     with-label a e = record { seed = a; survives = e; inner = λ k. patch-in a k e; outer = λ k. patch-out a k e }
@@ -129,7 +129,7 @@ module _ (n : ℕ) (near : ℕ → ℕ) (sides dropped : List ℕ) where
     own-label a e =
         let r = label-some n near sides dropped a e .reached in
         let b = reach-from n alive link (joins n near sides dropped) r in
-        (b, same-label n near sides dropped offsets pairs mirror (label a) a b e .1 r)
+        (b, same-label n near sides dropped placed pairs mirror (label a) a b e .1 r)
 
     root : (s : ℕ) → s < n → eqb (label s) s ≡ true → (alive s ≡ true) × (label s ≡ s)
     root s h e = let q = eqb-true (label s) s e in (label-lives n near sides dropped s h (omega (arith, q)), q)

@@ -10,7 +10,7 @@ ghost use lib.Dec.{eqb, ltb};
 ghost use lib.Ieee.{Float};
 ghost use Rattle.folds.specs.Marked.{bit};
 ghost use Rattle.view.specs.View.{maxPoints, viewAt, Ranked};
-ghost use Rattle.patches.specs.Search.{Offsets};
+ghost use Rattle.patches.specs.Search.{NearPlaces};
 ghost use Rattle.components.specs.Components.{patchCount, sizesOf, largestAt, winnerOf, othersBy, filterOf};
 use view::MAX_POINTS;
 
@@ -122,7 +122,7 @@ pub fn largest_component_filter(
     sides: &[u8],
     n: usize,
 ) -> ComponentFilter
-    requires { ⌜ Ranked n (now ranks) × Offsets (now sides) ⌝ }
+    requires { ⌜ Ranked n (now ranks) × NearPlaces (now sides) ⌝ }
     ensures { λ r. ⌜ ((xs ys : List Float) → r ≡ filterOf (viewAt n (now (ranks .entry)) xs ys) (now (sides .entry)) (now (dropped .entry))) ⌝ }
 {
     let label = patches::labels(ranks, dropped, sides, n);

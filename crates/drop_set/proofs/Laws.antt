@@ -12,6 +12,7 @@ use Rattle.folds.proofs.Below.{tally-le}
 use Rattle.folds.specs.Column.{column}
 use Rattle.folds.proofs.Column.{filled, replicate-at}
 use Rattle.folds.specs.Marked.{bit}
+use Rattle.offsets.specs.Offsets.{places}
 use Rattle.view.specs.View.{View, maxPoints}
 use Rattle.cells.specs.Cell.{Cell}
 use Rattle.sheet_file.specs.declared.Settings.{Settings}
@@ -98,20 +99,20 @@ module _ (s : Settings) (w : View) where
   -- ---- the second step
 
   module _ (marks : List ℕ) where
-    pub joined-on : {sides : List ℕ} {r : ComponentFilter} → s .«apply_largest_component» ≡ true → sides ≡ sidesOf s → r ≡ filterOf w sides marks → Joined s w marks r
+    pub joined-on : {sides : List ℕ} {r : ComponentFilter} → s .«apply_largest_component» ≡ true → sides ≡ places (sidesOf s) → r ≡ filterOf w sides marks → Joined s w marks r
     unfolding componentsIn
     joined-on {sides} {r} on es er =
-        let e : r ≡ filterOf w (sidesOf s) marks = er ∙ ap (λ (l : List ℕ). filterOf w l marks) es in
+        let e : r ≡ filterOf w (places (sidesOf s)) marks = er ∙ ap (λ (l : List ℕ). filterOf w l marks) es in
         record {
-          marked = λ k h. ap (λ (f : ComponentFilter). isSet (f .marks) k) e ∙ sym (ap (λ (b : Bool). b && isSet (filterOf w (sidesOf s) marks .marks) k) on);
-          counted = ap (λ (f : ComponentFilter). f .«components_seen») e ∙ sym (ap (λ (b : Bool). cond b (filterOf w (sidesOf s) marks .«components_seen») 0) on);
+          marked = λ k h. ap (λ (f : ComponentFilter). isSet (f .marks) k) e ∙ sym (ap (λ (b : Bool). b && isSet (filterOf w (places (sidesOf s)) marks .marks) k) on);
+          counted = ap (λ (f : ComponentFilter). f .«components_seen») e ∙ sym (ap (λ (b : Bool). cond b (filterOf w (places (sidesOf s)) marks .«components_seen») 0) on);
         }
 
     pub joined-off : s .«apply_largest_component» ≡ false → Joined s w marks (record { marks = replicate maxPoints 0; «components_seen» = 0 })
     unfolding componentsIn
     joined-off off = record {
-      marked = λ k h. ap (λ (x : ℕ). eqb x 1) (replicate-at maxPoints 0 k) ∙ sym (ap (λ (b : Bool). b && isSet (filterOf w (sidesOf s) marks .marks) k) off);
-      counted = sym (ap (λ (b : Bool). cond b (filterOf w (sidesOf s) marks .«components_seen») 0) off);
+      marked = λ k h. ap (λ (x : ℕ). eqb x 1) (replicate-at maxPoints 0 k) ∙ sym (ap (λ (b : Bool). b && isSet (filterOf w (places (sidesOf s)) marks .marks) k) off);
+      counted = sym (ap (λ (b : Bool). cond b (filterOf w (places (sidesOf s)) marks .«components_seen») 0) off);
     }
 
     pub patched-is : {f : ComponentFilter} {m t : List ℕ} → Joined s w marks f → m ≡ markedBy (w .count) component (isSet (f .marks)) marks → t ≡ countsOf w m
@@ -143,7 +144,7 @@ unfolding componentsIn filterOf patchCount
 components-few s w marks = go (s .«apply_largest_component»)
   where
     labels : List ℕ
-    labels = patchLabels w (sidesOf s) marks
+    labels = patchLabels w (places (sidesOf s)) marks
 
     go : (b : Bool) → cond b (tally (λ (k : ℕ). eqb (getD labels k 0) k) (w .count)) 0 ≤ w .count
     go true = tally-le (λ (k : ℕ). eqb (getD labels k 0) k) (w .count)

@@ -3,7 +3,9 @@
 use mathlib.Core.Bool.{Bool, cond, _&&_}
 use mathlib.Core.List.{List, [], _∷_}
 use Prim.Native.Nat.{ℕ}
-use Rattle.view.specs.View.{View, squareSides}
+use Rattle.offsets.specs.declared.Offset.{Offset}
+use Rattle.offsets.specs.Offsets.{squareSides, places}
+use Rattle.view.specs.View.{View}
 use Rattle.cells.specs.Cell.{Cell}
 use Rattle.sheet_file.specs.declared.Settings.{Settings}
 use Rattle.marks.specs.Filters.{validate, orientation, wrong, component}
@@ -19,7 +21,7 @@ use Rattle.judged.specs.declared.Measured.{Measured}
 use Rattle.drop_set.specs.declared.DropSet.{DropSet}
 
 -- the offsets that join cells to patches, on a sheet with these settings
-abbrev pub sidesOf : Settings → List ℕ
+abbrev pub sidesOf : Settings → List Offset
 sidesOf s = squareSides
 
 -- ---- the filters that go by the points themselves
@@ -45,7 +47,7 @@ module _ (s : Settings) (w : View) where
   -- "A survivor is a point whose index gets no mark under these rules other than the component mark": one whose byte is 0. Of the survivors'
   -- patches the "smaller patches are marked"; with the largest-patch switch off, none.
   abbrev pub componentMarked : List ℕ → ℕ → Bool
-  componentMarked marks = let c = filterOf w (sidesOf s) marks .marks in λ k. s .«apply_largest_component» && isSet c k
+  componentMarked marks = let c = filterOf w (places (sidesOf s)) marks .marks in λ k. s .«apply_largest_component» && isSet c k
 
   abbrev pub patchFilters : List Marking
   patchFilters = record { filter = component; marks = componentMarked } ∷ []
@@ -53,7 +55,7 @@ module _ (s : Settings) (w : View) where
   -- "With the switch off the count is 0."
   unfoldable pub componentsIn : List ℕ → ℕ
   unfolding filterOf
-  componentsIn marks = cond (s .«apply_largest_component») (filterOf w (sidesOf s) marks .«components_seen») 0
+  componentsIn marks = cond (s .«apply_largest_component») (filterOf w (places (sidesOf s)) marks .«components_seen») 0
 
   -- the bytes with their marks too, the count of patches, and the tally
   unfoldable pub patchedOf : List ℕ → DropSet

@@ -13,7 +13,9 @@ use Rattle.float.specs.Scalar.{clampOf, maxOf, minOf}
 use Rattle.float.proofs.Order.{plain}
 use Rattle.float.proofs.Least.{under-least, over-largest}
 use Rattle.float.proofs.Within.{Within, within-finite, within-number, sub-within, mul-within, add-within, norm-plain, over-epsilon, product-above, number-over, clamp-number}
-use Rattle.view.specs.View.{View, rankAt, present, own, nextU, prevU, nextV, prevV, degreeAt}
+use Rattle.offsets.specs.declared.Offset.{Offset}
+use Rattle.offsets.specs.Offsets.{own, nextU, prevU, nextV, prevV, prevUV}
+use Rattle.view.specs.View.{View, rankAt, present, degreeAt}
 use Rattle.edges.specs.Edges.{edgeBy, edgeAt}
 use Rattle.sheet_file.specs.Limit.{outside}
 use Rattle.sheet_file.specs.declared.EdgeShapeParams.{EdgeShapeParams}
@@ -23,7 +25,7 @@ use Rattle.edge_shape.specs.declared.Measure.the-variants.{Absent, Held}
 use Rattle.edge_shape.specs.declared.CellShape.{CellShape}
 use Rattle.edge_shape.specs.declared.CellShape.the-variants.{Incomplete, Complete}
 use Rattle.edge_shape.specs.declared.Reason.the-variants.{NoReason, LowCardinalDegree, BadContinuation, NoValidAdjacentCell}
-use Rattle.edge_shape.specs.Figures.{sideAt, compared, noted, continuationAt, shapeAt, notedCell, continuationFails, figuresBy, figuresAt, diagonal}
+use Rattle.edge_shape.specs.Figures.{sideAt, compared, noted, continuationAt, shapeAt, notedCell, continuationFails, figuresBy, figuresAt}
 use Rattle.edge_shape.specs.Continuations.{cosineUnder, ratioOver, badContinuation, reasonByEach, reasonAt, cosineIsNan, cellIsNan}
 use Rattle.edge_shape.proofs.Laws.{continuation-step, cell-step, figures-step, reason-step}
 
@@ -143,16 +145,16 @@ module _ (w : View) (inside : Inside w) where
   apart : (x : ℕ → Float) → ((k : ℕ) → k < w .count → outside (x k) ≡ false) → (a b : ℕ) → a < w .count → b < w .count → Within 15 (x b ⊖ x a)
   apart x f a b h k = sub-within 14 (x b) (x a) (ltb-true 15 128 refl) (within-limit (x b) (f b k)) (within-limit (x a) (f a h))
 
-  side-sound : (d a : ℕ) → a < w .count → present w a d ≡ true → Sound (sideAt w d a)
+  side-sound : (o : Offset) (a : ℕ) → a < w .count → present w a o ≡ true → Sound (sideAt w o a)
   unfolding sideAt edgeAt edgeBy
-  side-sound d a h e =
-      let b = rankAt w a d in
+  side-sound o a h e =
+      let b = rankAt w a o in
       let k = ltb-true b (w .count) e in
       let dx = apart (w .x) (inside .x) a b h k in
       let dy = apart (w .y) (inside .y) a b h k in
       record { dx = dx; dy = dy; len = rw e (norm-plain (w .x b ⊖ w .x a) (w .y b ⊖ w .y a) (within-number 15 (w .x b ⊖ w .x a) dx) (within-number 15 (w .y b ⊖ w .y a) dy)) }
 
-  pub continuation-number : (before after k : ℕ) → k < w .count → cosineIsNan (continuationAt w before after k) ≡ false
+  pub continuation-number : (before after : Offset) (k : ℕ) → k < w .count → cosineIsNan (continuationAt w before after k) ≡ false
   continuation-number before after k h =
       rw (continuation-step w before after k)
       (where-so (λ (m : Measure). cosineIsNan m ≡ false) (present w k before && (present w k after && present w (rankAt w k before) after))
@@ -191,13 +193,13 @@ module _ (w : View) (inside : Inside w) where
   cosines g k h =
       let u = continuationAt w prevU nextU k in
       let v = continuationAt w prevV nextV k in
-      let cell : ℕ → CellShape = λ d. shapeAt w (rankAt w k d) in
-      let number : (d : ℕ) → cellIsNan (cell d) ≡ false = λ d. cell-number (rankAt w k d) in
+      let cell : Offset → CellShape = λ o. shapeAt w (rankAt w k o) in
+      let number : (o : Offset) → cellIsNan (cell o) ≡ false = λ o. cell-number (rankAt w k o) in
       record {
         along-u = continuation-number prevU nextU k h;
         along-v = continuation-number prevV nextV k h;
         cells = cell-number;
-        least-cell = rw (figures-step w g k) (least-of g (degreeAt w k) (noted u v) (cell own) (cell prevU) (cell diagonal) (cell prevV) (number own) (number prevU) (number diagonal) (number prevV));
+        least-cell = rw (figures-step w g k) (least-of g (degreeAt w k) (noted u v) (cell own) (cell prevU) (cell prevUV) (cell prevV) (number own) (number prevU) (number prevUV) (number prevV));
         reason = rw (figures-step w g k)
-            (reason-of g (degreeAt w k) u v (cell own) (cell prevU) (cell diagonal) (cell prevV) (continuation-number prevU nextU k h) (continuation-number prevV nextV k h));
+            (reason-of g (degreeAt w k) u v (cell own) (cell prevU) (cell prevUV) (cell prevV) (continuation-number prevU nextU k h) (continuation-number prevV nextV k h));
       }

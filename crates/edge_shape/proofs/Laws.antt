@@ -2,17 +2,19 @@
 use mathlib.Core.Path.{_≡_, refl, sym, ap, _∙_}
 use mathlib.Core.Bool.{Bool, true, false, cond, _&&_}
 use mathlib.Core.List.{List, []}
-use Prim.Native.Nat.{ℕ, _+_, _-_, _≤_, _<_}
+use Prim.Native.Nat.{ℕ, _+_, _≤_, _<_}
 use Prim.{Dec, yes, no}
 use native.Mathlib.Decide.{decLt}
 use native.Mathlib.Omega.{arith}
 use lib.Dec.{eqb, ltb}
 use lib.Ieee.{Float}
 use borrow.Author.Tests.{lt-ltb, le-ltb, ltb-true}
-use Rattle.view.specs.View.{View, viewAt, rankAt, present, own, nextU, prevU, nextV, prevV, degreeAt}
+use Rattle.offsets.specs.declared.Offset.{Offset}
+use Rattle.offsets.specs.Offsets.{own, nextU, prevU, nextV, prevV, prevUV}
+use Rattle.view.specs.View.{View, viewAt, rankAt, present, degreeAt}
 use Rattle.folds.proofs.Below.{and-false}
 use Rattle.folds.specs.Marked.{bit}
-use Rattle.edges.specs.Edges.{side}
+use Rattle.edges.specs.Edges.{side, backSide}
 use Rattle.edges.proofs.Laws.{edge-part}
 use Rattle.edge_shape.specs.declared.Side.{Side}
 use Rattle.edge_shape.specs.declared.Measure.{Measure}
@@ -23,7 +25,7 @@ use Rattle.edge_shape.specs.declared.Reason.{Reason}
 use Rattle.edge_shape.specs.declared.Reason.the-variants.{NoReason, LowCardinalDegree, BadContinuation, NoValidAdjacentCell}
 use Rattle.edge_shape.specs.declared.Figures.{Figures}
 use Rattle.sheet_file.specs.declared.EdgeShapeParams.{EdgeShapeParams}
-use Rattle.edge_shape.specs.Figures.{sideAt, compared, noted, continuationAt, continuationsAt, shapeAt, isAdjacent, isValid, notedCell, continuationFails, reasonOf, figuresBy, figuresAt, diagonal}
+use Rattle.edge_shape.specs.Figures.{sideAt, compared, noted, continuationAt, continuationsAt, shapeAt, isAdjacent, isValid, notedCell, continuationFails, reasonOf, figuresBy, figuresAt}
 use Rattle.edge_shape.specs.Given.{WithEdges, rankFrom, sideBy}
 
 -- a rank that the code read: it is there, or it is not
@@ -34,15 +36,15 @@ absent : {r e n : ℕ} → r ≡ e → n ≤ r → ltb e n ≡ false
 absent {r} {e} {n} q h = rw (← q) (le-ltb r n h)
 
 -- a rank that is there was reached from one that is there
-pub from-there : (w : View) (a d : ℕ) {r : ℕ} → r ≡ rankFrom w a d → r < w .count → (a < w .count) × (r ≡ rankAt w a d)
-from-there w a d {r} e h = go (decLt a (w .count))
+pub from-there : (w : View) (a : ℕ) (o : Offset) {r : ℕ} → r ≡ rankFrom w a o → r < w .count → (a < w .count) × (r ≡ rankAt w a o)
+from-there w a o {r} e h = go (decLt a (w .count))
   where
-    go : Dec (a < w .count) → (a < w .count) × (r ≡ rankAt w a d)
+    go : Dec (a < w .count) → (a < w .count) × (r ≡ rankAt w a o)
     go (yes l) = (l, e ∙ rw (lt-ltb a (w .count) l))
     go (no l) = let f : r ≡ w .count = e ∙ rw (le-ltb a (w .count) (omega (arith, l))) in absurd (omega arith)
 
-from-absent : (w : View) (a d : ℕ) {r : ℕ} → r ≡ rankFrom w a d → w .count ≤ r → a < w .count → present w a d ≡ false
-from-absent w a d e h l = absent {e = rankAt w a d} (e ∙ rw (lt-ltb a (w .count) l)) h
+from-absent : (w : View) (a : ℕ) (o : Offset) {r : ℕ} → r ≡ rankFrom w a o → w .count ≤ r → a < w .count → present w a o ≡ false
+from-absent w a o e h l = absent {e = rankAt w a o} (e ∙ rw (lt-ltb a (w .count) l)) h
 
 -- a degree needs no positions
 pub degree-seen : (n : ℕ) (ranks : List ℕ) (xs ys : List Float) (k : ℕ) {r : ℕ} → r ≡ degreeAt (viewAt n ranks [] []) k → r ≡ degreeAt (viewAt n ranks xs ys) k
@@ -51,7 +53,7 @@ degree-seen n ranks xs ys k e = e
 
 -- each definition by one step, so that the names in it stay shut
 module _ (w : View) where
-  pub continuation-step : (before after k : ℕ) → continuationAt w before after k
+  pub continuation-step : (before after : Offset) (k : ℕ) → continuationAt w before after k
       ≡ cond (present w k before && (present w k after && present w (rankAt w k before) after)) (compared (sideAt w after (rankAt w k before)) (sideAt w after k)) Absent
   unfolding continuationAt
   continuation-step before after k = refl
@@ -65,14 +67,14 @@ module _ (w : View) where
 
   pub figures-step : (g : EdgeShapeParams) (k : ℕ) → figuresAt g w k
       ≡ figuresBy g (degreeAt w k) (noted (continuationAt w prevU nextU k) (continuationAt w prevV nextV k))
-      (shapeAt w (rankAt w k own)) (shapeAt w (rankAt w k prevU)) (shapeAt w (rankAt w k diagonal)) (shapeAt w (rankAt w k prevV))
+      (shapeAt w (rankAt w k own)) (shapeAt w (rankAt w k prevU)) (shapeAt w (rankAt w k prevUV)) (shapeAt w (rankAt w k prevV))
   unfolding figuresAt continuationsAt
   figures-step g k = refl
 
   -- what the figures are, from what the code has computed
   pub figures-is : (g : EdgeShapeParams) (k : ℕ) {degree i j o h : ℕ} {p q m : Measure} {a b c d : CellShape} {f : Figures}
       → degree ≡ degreeAt w k → p ≡ continuationAt w prevU nextU k → q ≡ continuationAt w prevV nextV k → m ≡ noted p q
-      → i ≡ rankAt w k own → a ≡ shapeAt w i → j ≡ rankAt w k prevU → b ≡ shapeAt w j → o ≡ rankAt w k diagonal → c ≡ shapeAt w o → h ≡ rankAt w k prevV → d ≡ shapeAt w h
+      → i ≡ rankAt w k own → a ≡ shapeAt w i → j ≡ rankAt w k prevU → b ≡ shapeAt w j → o ≡ rankAt w k prevUV → c ≡ shapeAt w o → h ≡ rankAt w k prevV → d ≡ shapeAt w h
       → f ≡ figuresBy g degree m a b c d → f ≡ figuresAt g w k
   figures-is g k e1 e2 e3 e4 i1 a1 j1 b1 o1 c1 h1 d1 e = rw (figures-step g k, ← e1, ← e2, ← e3, ← e4, ← i1, ← a1, ← j1, ← b1, ← o1, ← c1, ← h1, ← d1) e
 
@@ -86,25 +88,25 @@ module _ {n : ℕ} {ranks : List ℕ} {xs ys edges : List Float} (given : WithEd
   unfolding sideAt
   side-is way a h l e f = f ∙ rw (given .held, edge-part w (given .ranked .few) way 0 a h (omega arith) l, e)
 
-  -- what a continuation is: `after` is the way's offset
-  module _ (way k : ℕ) (h : way < 2) {after b c d : ℕ} (e : after ≡ side way) (p : b ≡ rankAt w k (24 - after)) (q : c ≡ rankAt w k after) (r : d ≡ rankFrom w b after) where
-    pub no-next : n ≤ c → Absent ≡ continuationAt w (24 - side way) (side way) k
-    no-next l = rw (continuation-step w (24 - side way) (side way) k, ← e, absent q l, and-false (present w k (24 - after)))
+  -- what a continuation is: `before` and `after` are the way's offsets
+  module _ (way k : ℕ) (h : way < 2) {before after : Offset} {b c d : ℕ} (e : after ≡ side way) (o : before ≡ backSide way) (p : b ≡ rankAt w k before) (q : c ≡ rankAt w k after) (r : d ≡ rankFrom w b after) where
+    pub no-next : n ≤ c → Absent ≡ continuationAt w (backSide way) (side way) k
+    no-next l = rw (continuation-step w (backSide way) (side way) k, ← e, ← o, absent q l, and-false (present w k before))
 
-    pub no-way : n ≤ d → Absent ≡ continuationAt w (24 - side way) (side way) k
-    no-way l = rw (continuation-step w (24 - side way) (side way) k, ← e, ← p) (sym (ap (λ (t : Bool). cond t (compared (sideAt w after b) (sideAt w after k)) Absent) (go (decLt b n))))
+    pub no-way : n ≤ d → Absent ≡ continuationAt w (backSide way) (side way) k
+    no-way l = rw (continuation-step w (backSide way) (side way) k, ← e, ← o, ← p) (sym (ap (λ (t : Bool). cond t (compared (sideAt w after b) (sideAt w after k)) Absent) (go (decLt b n))))
       where
         go : Dec (b < n) → ltb b n && (present w k after && present w b after) ≡ false
         go (yes m) = rw (from-absent w b after r l m, and-false (present w k after)) (and-false (ltb b n))
         go (no m) = rw (le-ltb b n (omega (arith, m)))
 
     pub continuation-is : {m : Measure} {s t : Side} → k < n → c < n → d < n → m ≡ compared s t → s ≡ sideBy w edges way b d → t ≡ sideBy w edges way k c
-        → m ≡ continuationAt w (24 - side way) (side way) k
+        → m ≡ continuationAt w (backSide way) (side way) k
     continuation-is {m} {s} {t} l lc ld f g i =
         let u = from-there w b after r ld in
         let first : s ≡ sideAt w after b = rw e (side-is way b h (u .0) (rw e at (u .1)) g) in
         let second : t ≡ sideAt w after k = rw e (side-is way k h l (rw e at q) i) in
-        rw (continuation-step w (24 - side way) (side way) k, ← e, ← p, lt-ltb b n (u .0), there q lc, there (u .1) ld) (cc)
+        rw (continuation-step w (backSide way) (side way) k, ← e, ← o, ← p, lt-ltb b n (u .0), there q lc, there (u .1) ld) (cc)
 
   -- what a cell is
   module _ (t : ℕ) {right below across down : ℕ} (r : right ≡ rankFrom w t nextU) (e : below ≡ rankFrom w t nextV) (p : across ≡ rankFrom w below nextU) (q : down ≡ rankFrom w right nextV) where

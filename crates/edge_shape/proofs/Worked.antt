@@ -2,13 +2,15 @@
 use mathlib.Core.Path.{_≡_, refl}
 use mathlib.Core.Bool.{true, false, cond}
 use mathlib.Core.List.{List, [], _∷_}
-use Prim.Native.Nat.{ℕ}
+use Prim.Native.Nat.{ℕ, _+_, _*_}
 use lib.Dec.{eqb}
 use lib.ListN.{getD}
 use lib.Ieee.{Float, nan, ofBits}
 use Rattle.folds.specs.Arith.{f32}
 use Rattle.float.specs.Constants.{zero, half, one, two, minusOne}
-use Rattle.view.specs.View.{View, nextU, prevU, nextV, prevV}
+use Rattle.offsets.specs.declared.Offset.{Offset}
+use Rattle.offsets.specs.Offsets.{nextU, prevU, nextV, prevV, placeOf}
+use Rattle.view.specs.View.{View}
 use Rattle.sheet_file.specs.declared.EdgeShapeParams.{EdgeShapeParams}
 use Rattle.edge_shape.specs.declared.Measure.{Measure}
 use Rattle.edge_shape.specs.declared.Measure.the-variants.{Held}
@@ -21,13 +23,17 @@ abbrev sheet : ℕ → (ℕ → ℕ) → List Float → List Float → View
 sheet n near xs ys =
     record { count = n; near = near; row = λ (k : ℕ). k; column = λ (k : ℕ). k; byIdx = λ (k : ℕ). k; x = λ (k : ℕ). getD xs k nan; y = λ (k : ℕ). getD ys k nan }
 
+-- where the table of ranks has the rank at offset o from rank k
+abbrev near : ℕ → Offset → ℕ
+near k o = 25 * k + placeOf o
+
 -- ---- one of two continuations under the least
 
 -- Cells (-1,0), (0,-1), (0,0), (0,1), (1,0) in that order at (-100,0), (0,-100), (0,0), (100,100), (100,0): straight along u, bent along v. From
 -- rank 2 the others lie at the offsets (-1,0), (0,-1), (0,1) and (1,0), and rank 2 lies at (1,0) from rank 0 and at (0,1) from rank 1.
 abbrev bent : View
 bent =
-    sheet 5 (λ (i : ℕ). cond (eqb i 57) 0 (cond (eqb i 61) 1 (cond (eqb i 63) 3 (cond (eqb i 67) 4 (cond (eqb i 17) 2 (cond (eqb i 38) 2 5))))))
+    sheet 5 (λ (i : ℕ). cond (eqb i (near 2 prevU)) 0 (cond (eqb i (near 2 prevV)) 1 (cond (eqb i (near 2 nextV)) 3 (cond (eqb i (near 2 nextU)) 4 (cond (eqb i (near 0 nextU)) 2 (cond (eqb i (near 1 nextV)) 2 5))))))
     (f32 0xc2c8_0000 ∷ zero ∷ zero ∷ f32 0x42c8_0000 ∷ f32 0x42c8_0000 ∷ []) (zero ∷ f32 0xc2c8_0000 ∷ zero ∷ f32 0x42c8_0000 ∷ zero ∷ [])
 
 -- "Eight degrees, the Rust's default, becomes 16,613,942 / 2^24."
@@ -53,7 +59,7 @@ one-under = (refl, refl, refl, refl, refl)
 -- ---- three cells of a row
 
 abbrev three : List Float → List Float → View
-three xs ys = sheet 3 (λ (i : ℕ). cond (eqb i 32) 0 (cond (eqb i 42) 2 (cond (eqb i 17) 1 3))) xs ys
+three xs ys = sheet 3 (λ (i : ℕ). cond (eqb i (near 1 prevU)) 0 (cond (eqb i (near 1 nextU)) 2 (cond (eqb i (near 0 nextU)) 1 3))) xs ys
 
 -- at (0,-5), (-0,0) and (5,-0) the cosine is -0, which is not under +0, and is under 1/2
 abbrev minusZero : View

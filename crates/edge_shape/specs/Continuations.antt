@@ -5,7 +5,8 @@ use mathlib.Core.Bool.{Bool, false, cond, _&&_, _||_}
 use Prim.Native.Nat.{ℕ}
 use lib.Dec.{eqb, ltb, leb}
 use lib.Ieee.{Float, lt, isNan}
-use Rattle.view.specs.View.{View, nextU, prevU, nextV, prevV}
+use Rattle.offsets.specs.Offsets.{nextU, prevU, nextV, prevV}
+use Rattle.view.specs.View.{View}
 use Rattle.sheet_file.specs.declared.EdgeShapeParams.{EdgeShapeParams}
 use Rattle.edge_shape.specs.declared.Measure.{Measure}
 use Rattle.edge_shape.specs.declared.Measure.the-variants.{Absent, Held}

@@ -12,7 +12,9 @@ use Rattle.folds.specs.Arith.{_⊕_, _⊖_, _⊗_, _⊘_}
 use Rattle.float.specs.Scalar.{maxOf, minOf, clampOf}
 use Rattle.float.specs.Constants.{epsilon}
 use Rattle.folds.specs.Column.{column}
-use Rattle.view.specs.View.{maxPoints, View, rankAt, present, own, nextU, prevU, nextV, prevV, degreeAt}
+use Rattle.offsets.specs.declared.Offset.{Offset}
+use Rattle.offsets.specs.Offsets.{own, nextU, prevU, nextV, prevV, prevUV}
+use Rattle.view.specs.View.{maxPoints, View, rankAt, present, degreeAt}
 use Rattle.folds.specs.Marked.{bit}
 use Rattle.edges.specs.Edges.{edgeAt}
 use Rattle.sheet_file.specs.declared.EdgeShapeParams.{EdgeShapeParams}
@@ -27,10 +29,10 @@ use Rattle.edge_shape.specs.declared.Figures.{Figures}
 
 -- ---- two sides
 
--- the edge from rank a to the point at offset d: the vector and its length
-unfoldable pub sideAt : View → ℕ → ℕ → Side
+-- the edge from rank a to the point at offset o: the vector and its length
+unfoldable pub sideAt : View → Offset → ℕ → Side
 unfolding edgeAt sub
-sideAt w d a = record { dx = w .x (rankAt w a d) ⊖ w .x a; dy = w .y (rankAt w a d) ⊖ w .y a; len = edgeAt w d a .len }
+sideAt w o a = record { dx = w .x (rankAt w a o) ⊖ w .x a; dy = w .y (rankAt w a o) ⊖ w .y a; len = edgeAt w o a .len }
 
 -- The cosine between two sides, clamped to -1 to 1, and the ratio of the longer to the shorter. There is neither where one is at most
 -- f32::EPSILON long.
@@ -52,7 +54,7 @@ noted (Held b q) (Held c r) = Held (cond (lt c b) c b) (maxOf q r)
 
 -- The edge that goes on from rank k to the point at offset after, against the edge before it, which starts at offset before and leads to
 -- rank k.
-unfoldable pub continuationAt : View → ℕ → ℕ → ℕ → Measure
+unfoldable pub continuationAt : View → Offset → Offset → ℕ → Measure
 unfolding compared sideAt
 continuationAt w before after k =
     cond (present w k before && (present w k after && present w (rankAt w k before) after))
@@ -93,11 +95,6 @@ unfolding noted
 notedCell m Incomplete = m
 notedCell m (Complete a b) = noted (noted m a) b
 
--- The cells that have a corner at rank k, in the source's order: least corners (0, 0), (-1, 0), (-1, -1), (0, -1) from it, whose offsets
--- have the numbers 12, 7, 6 and 11.
-abbrev pub diagonal : ℕ
-diagonal = 6
-
 -- ---- the reason
 
 abbrev pub continuationFails : EdgeShapeParams → ℕ → ℕ → Measure → Bool
@@ -134,11 +131,12 @@ figuresBy g degree m a b c d =
       reason = reasonOf g degree adjacent valid m;
     }
 
+-- the cells that have a corner at rank k stand in the source's order: least corners (0, 0), (-1, 0), (-1, -1), (0, -1) from it
 unfoldable pub figuresAt : EdgeShapeParams → View → ℕ → Figures
 unfolding figuresBy shapeAt continuationsAt degreeAt
 figuresAt g w k =
     figuresBy g (degreeAt w k) (continuationsAt w k)
-    (shapeAt w (rankAt w k own)) (shapeAt w (rankAt w k prevU)) (shapeAt w (rankAt w k diagonal)) (shapeAt w (rankAt w k prevV))
+    (shapeAt w (rankAt w k own)) (shapeAt w (rankAt w k prevU)) (shapeAt w (rankAt w k prevUV)) (shapeAt w (rankAt w k prevV))
 
 -- no figures, past the last rank
 abbrev pub noFigures : Figures

@@ -8,6 +8,7 @@ use lib.ListN.{getD}
 use lib.Ieee.{Float, nan}
 use Rattle.folds.specs.Arith.{_⊖_}
 use Rattle.folds.specs.Marked.{bit}
+use Rattle.offsets.specs.declared.Offset.{Offset}
 use Rattle.view.specs.View.{View, viewAt, rankAt, Ranked}
 use Rattle.edges.specs.Edges.{edgesOf, edgePlace}
 use Rattle.edge_shape.specs.declared.Side.{Side}
@@ -17,9 +18,9 @@ pub record WithEdges (n : ℕ) (ranks : List ℕ) (xs ys edges : List Float) : T
   pub ranked : Ranked n ranks
   pub held : edges ≡ edgesOf (viewAt n ranks xs ys)
 
--- the rank at offset d from rank a; none where there is no a
-abbrev pub rankFrom : View → ℕ → ℕ → ℕ
-rankFrom w a d = cond (ltb a (w .count)) (rankAt w a d) (w .count)
+-- the rank at offset o from rank a; none where there is no a
+abbrev pub rankFrom : View → ℕ → Offset → ℕ
+rankFrom w a o = cond (ltb a (w .count)) (rankAt w a o) (w .count)
 
 -- the way's edge from rank a to rank b, with its length from the table of edges
 abbrev pub sideBy : View → List Float → ℕ → ℕ → ℕ → Side

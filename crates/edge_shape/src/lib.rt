@@ -1,20 +1,25 @@
 // Edge figures and edge reasons: how edges continue through a corner, and the shape of the cells around it.
 use edges::Edges;
+use offsets::NEXT_U;
+use offsets::NEXT_V;
+use offsets::OWN;
+use offsets::Offset;
+use offsets::PREV_U;
+use offsets::PREV_UV;
+use offsets::PREV_V;
 use sheet_file::EdgeShapeParams;
 use view::Floats;
 use view::Ranks;
 ghost use mathlib.Core.Path.{_≡_};
-ghost use mathlib.Core.Bool.{cond};
+ghost use mathlib.Core.Bool.{true, cond};
 ghost use mathlib.Core.List.{[]};
-ghost use Prim.Native.Nat.{_-_, _≤_, _<_};
+ghost use Prim.Native.Nat.{_≤_, _<_};
 ghost use lib.Ieee.{lt};
+ghost use Rattle.offsets.specs.Offsets.{isNear};
 ghost use Rattle.view.specs.View.{viewAt, maxPoints};
-ghost use Rattle.edges.specs.Edges.{side};
+ghost use Rattle.edges.specs.Edges.{side, backSide};
 ghost use Rattle.edge_shape.specs.Figures.{compared, noted, continuationAt, shapeAt, withinGate, continuationFails, isAdjacent, isValid, notedCell, reasonOf, reasonNumber, figuresBy, figuresAt};
 ghost use Rattle.edge_shape.specs.Given.{WithEdges, rankFrom, sideBy, OneOrNone};
-
-// Offset (-1, -1).
-const DIAGONAL: usize = 6;
 
 struct Side {
     dx: f32,
@@ -96,15 +101,15 @@ fn side_at(x: &Floats, y: &Floats, edges: &Edges, way: usize, a: usize, b: usize
     }
 }
 
-// The rank at offset d from rank a; none where there is no a.
-fn onward(ranks: &Ranks, n: usize, a: usize, d: usize) -> usize
-    requires { ⌜ (n ≤ maxPoints) × (d < 25) ⌝ }
-    ensures { λ r. ⌜ r ≡ rankFrom (viewAt n (now (ranks .entry)) [] []) a d ⌝ }
+// The rank at offset o from rank a; none where there is no a.
+fn onward(ranks: &Ranks, n: usize, a: usize, o: Offset) -> usize
+    requires { ⌜ (n ≤ maxPoints) × (isNear o ≡ true) ⌝ }
+    ensures { λ r. ⌜ r ≡ rankFrom (viewAt n (now (ranks .entry)) [] []) a o ⌝ }
 {
     if n <= a {
         return n;
     }
-    view::rank_at(ranks, a, d)
+    view::rank_at(ranks, a, o)
 }
 
 // The way's edge that leads to rank k, against the one that goes on from it.
@@ -118,10 +123,10 @@ fn continuation_at(
     k: usize,
 ) -> Measure
     requires { ⌜ WithEdges n (now ranks) (now x) (now y) (now edges) × (way < 2) × (k < n) ⌝ }
-    ensures { λ r. ⌜ r ≡ continuationAt (viewAt n (now (ranks .entry)) (now (x .entry)) (now (y .entry))) (24 - side way) (side way) k ⌝ }
+    ensures { λ r. ⌜ r ≡ continuationAt (viewAt n (now (ranks .entry)) (now (x .entry)) (now (y .entry))) (backSide way) (side way) k ⌝ }
 {
     let after = edges::side_of(way);
-    let b = view::rank_at(ranks, k, 24 - after);
+    let b = view::rank_at(ranks, k, edges::back_of(way));
     let c = view::rank_at(ranks, k, after);
     let d = onward(ranks, n, b, after);
     if n <= c {
@@ -141,10 +146,10 @@ fn cell_at(ranks: &Ranks, x: &Floats, y: &Floats, edges: &Edges, n: usize, t: us
     requires { ⌜ WithEdges n (now ranks) (now x) (now y) (now edges) ⌝ }
     ensures { λ r. ⌜ r ≡ shapeAt (viewAt n (now (ranks .entry)) (now (x .entry)) (now (y .entry))) t ⌝ }
 {
-    let right = onward(ranks, n, t, view::NEXT_U);
-    let below = onward(ranks, n, t, view::NEXT_V);
-    let across = onward(ranks, n, below, view::NEXT_U);
-    let down = onward(ranks, n, right, view::NEXT_V);
+    let right = onward(ranks, n, t, NEXT_U);
+    let below = onward(ranks, n, t, NEXT_V);
+    let across = onward(ranks, n, below, NEXT_U);
+    let down = onward(ranks, n, right, NEXT_V);
     if n <= across {
         return CellShape::Incomplete;
     }
@@ -310,9 +315,9 @@ pub fn figures_at(
     let degree = view::degree_at(ranks, n, k);
     let along_u = continuation_at(ranks, x, y, edges, n, 0, k);
     let along_v = continuation_at(ranks, x, y, edges, n, 1, k);
-    let a = cell_at(ranks, x, y, edges, n, view::rank_at(ranks, k, view::OWN));
-    let b = cell_at(ranks, x, y, edges, n, view::rank_at(ranks, k, view::PREV_U));
-    let c = cell_at(ranks, x, y, edges, n, view::rank_at(ranks, k, DIAGONAL));
-    let d = cell_at(ranks, x, y, edges, n, view::rank_at(ranks, k, view::PREV_V));
+    let a = cell_at(ranks, x, y, edges, n, view::rank_at(ranks, k, OWN));
+    let b = cell_at(ranks, x, y, edges, n, view::rank_at(ranks, k, PREV_U));
+    let c = cell_at(ranks, x, y, edges, n, view::rank_at(ranks, k, PREV_UV));
+    let d = cell_at(ranks, x, y, edges, n, view::rank_at(ranks, k, PREV_V));
     figures_by(g, degree, note(along_u, along_v), a, b, c, d)
 }

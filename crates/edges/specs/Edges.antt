@@ -11,7 +11,9 @@ use Rattle.folds.specs.Arith.{_⊖_, _⊘_, zeroF}
 use Rattle.folds.specs.Column.{Filling}
 use Rattle.folds.specs.Lists.{listOf}
 use Rattle.float.specs.Scalar.{normOf}
-use Rattle.view.specs.View.{maxPoints, View, rankAt, present, nextU, nextV}
+use Rattle.offsets.specs.declared.Offset.{Offset}
+use Rattle.offsets.specs.Offsets.{nextU, prevU, nextV, prevV}
+use Rattle.view.specs.View.{maxPoints, View, rankAt, present}
 use Rattle.edges.specs.declared.Edge.{Edge}
 
 -- the edge along (dx, dy); its unit vector means something only where the length is above 0
@@ -24,7 +26,7 @@ abbrev pub noEdge : Edge
 noEdge = record { len = zeroF; ux = zeroF; uy = zeroF }
 
 -- the edge from rank k to the point at offset o from it
-unfoldable pub edgeAt : View → ℕ → ℕ → Edge
+unfoldable pub edgeAt : View → Offset → ℕ → Edge
 unfolding edgeBy sub ofBits
 edgeAt w o k =
     let j = rankAt w k o in
@@ -33,8 +35,12 @@ edgeAt w o k =
 -- ---- the table of edges
 
 -- the edges along u are way 0, those along v way 1
-abbrev pub side : ℕ → ℕ
+abbrev pub side : ℕ → Offset
 side way = cond (eqb way 0) nextU nextV
+
+-- the offset that leads back along a way
+abbrev pub backSide : ℕ → Offset
+backSide way = cond (eqb way 0) prevU prevV
 
 -- a part of an edge: its length, then the parts of its unit vector
 abbrev pub partOf : ℕ → Edge → Float

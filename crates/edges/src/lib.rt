@@ -1,15 +1,20 @@
 // The edges of the lattice: the length and the unit vector of each, computed once for all filters.
+use offsets::NEXT_U;
+use offsets::NEXT_V;
+use offsets::Offset;
+use offsets::PREV_U;
+use offsets::PREV_V;
 use view::Floats;
 use view::MAX_POINTS;
-use view::NEXT_U;
-use view::NEXT_V;
 use view::Ranks;
 ghost use mathlib.Core.Path.{_≡_};
+ghost use mathlib.Core.Bool.{true};
 ghost use Prim.Native.Nat.{_+_, _*_, _≤_, _<_};
 ghost use lib.ListN.{getD, replicate};
 ghost use lib.Ieee.{nan};
+ghost use Rattle.offsets.specs.Offsets.{isNear};
 ghost use Rattle.view.specs.View.{maxPoints, viewAt};
-ghost use Rattle.edges.specs.Edges.{edgesSize, side, edgeAt, edgesOf, edgePlace, FilledTo};
+ghost use Rattle.edges.specs.Edges.{edgesSize, side, backSide, edgeAt, edgesOf, edgePlace, FilledTo};
 
 // The edges along u, then those along v: for each of MAX_POINTS ranks the length and the unit vector (x, then y).
 pub const EDGES_SIZE: usize = 6 * MAX_POINTS;
@@ -24,10 +29,17 @@ pub struct Edge {
 }
 
 // The offset that the edges of a way lead over: way 0 is along u, 1 along v.
-pub fn side_of(way: usize) -> usize
-    ensures { λ r. ⌜ (r ≡ side way) × (r < 25) ⌝ }
+pub fn side_of(way: usize) -> Offset
+    ensures { λ r. ⌜ (r ≡ side way) × (isNear r ≡ true) ⌝ }
 {
     if way == 0 { NEXT_U } else { NEXT_V }
+}
+
+// The offset that leads back along a way.
+pub fn back_of(way: usize) -> Offset
+    ensures { λ r. ⌜ (r ≡ backSide way) × (isNear r ≡ true) ⌝ }
+{
+    if way == 0 { PREV_U } else { PREV_V }
 }
 
 // The way's edge that starts at rank k: zeros where it leads to no point.

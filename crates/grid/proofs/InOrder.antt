@@ -1,13 +1,16 @@
 -- Points in cell order: their keys, and where each stands to the others. Assumes nothing.
 use mathlib.Core.Path.{_≡_, sym, ap, _∙_}
-use mathlib.Core.Bool.{true≢false}
+use mathlib.Core.Bool.{true, true≢false}
 use mathlib.Core.List.{List}
-use Prim.Native.Nat.{ℕ, _-_, _≤_, _<_}
+use Prim.Native.Nat.{ℕ, _+_, _-_, _*_, _≤_, _<_}
 use native.Mathlib.Omega.{arith}
 use lib.ListN.{length, getD}
 use borrow.Author.Tests.{lt-ltb, le-ltb, ltb-true}
 use Rattle.folds.proofs.Below.{first-holds, first-hit, not-true}
 use Rattle.folds.proofs.Column.{column-at, length-column}
+use Rattle.offsets.specs.declared.Offset.{Offset}
+use Rattle.offsets.specs.Offsets.{isNear, offsetOf}
+use Rattle.offsets.proofs.Places.{offset-near, offset-place}
 use Rattle.view.specs.View.{maxPoints, rankAt}
 use Rattle.cells.specs.Points.{Point, nowhere, keyOf, keysOf}
 use Rattle.cells.specs.Cell.{Cell, cellOf, InRange, before, coincide, offsetBy, cellsOf}
@@ -60,8 +63,8 @@ module _ (ps : List Point) (o : CellOrder ps) where
       let p = getD ps j nowhere in
       true≢false (sym (o .rising i j ij h) ∙ ap (λ (c : Cell). before c (cell j)) e ∙ sym (key-order p p (o .inside j h) (o .inside j h)) ∙ le-ltb (keyOf p) (keyOf p) (omega arith))
 
-  -- the rank at offset d holds the point of the cell at (u + du, v + dv) ..
-  pub near-means : (k d j : ℕ) → k < length ps → d < 25 → j < length ps → rankAt (viewOf ps) k d ≡ j → cell j ≡ offsetBy d (cell k)
+  -- the rank at an offset holds the point of the cell at (u + du, v + dv) ..
+  pub near-means : (k : ℕ) (d : Offset) (j : ℕ) → k < length ps → isNear d ≡ true → j < length ps → rankAt (viewOf ps) k d ≡ j → cell j ≡ offsetBy d (cell k)
   unfolding neighbourOf
   near-means k d j h l m e =
       let f : neighbourOf (length ps) (cellsOf ps) k d ≡ j = sym (near-read ps (o .few) k d h l) ∙ e in
@@ -69,7 +72,7 @@ module _ (ps : List Point) (o : CellOrder ps) where
       rw (f, cell-at ps j m, cell-at ps k h) at (coincide-true (cellsOf ps (neighbourOf (length ps) (cellsOf ps) k d)) (offsetBy d (cellsOf ps k)) g)
 
   -- .. and if there is such a point, its rank stands there
-  pub near-found : (k d j : ℕ) → k < length ps → d < 25 → j < length ps → cell j ≡ offsetBy d (cell k) → rankAt (viewOf ps) k d ≡ j
+  pub near-found : (k : ℕ) (d : Offset) (j : ℕ) → k < length ps → isNear d ≡ true → j < length ps → cell j ≡ offsetBy d (cell k) → rankAt (viewOf ps) k d ≡ j
   unfolding neighbourOf
   near-found k d j h l m e =
       near-read ps (o .few) k d h l
@@ -82,6 +85,11 @@ module _ (ps : List Point) (o : CellOrder ps) where
       cells-at : (i : ℕ) → i < length ps → cellsOf ps i ≡ offsetBy d (cellsOf ps k) → cell i ≡ offsetBy d (cell k)
       cells-at i m e = sym (cell-at ps i m) ∙ e ∙ ap (offsetBy d) (cell-at ps k h)
 
-  -- j stands at offset d from k just where k stands at offset 24 - d from j
-  pub mirrored : (k j d : ℕ) → k < length ps → j < length ps → d < 25 → rankAt (viewOf ps) k d ≡ j → rankAt (viewOf ps) j (24 - d) ≡ k
-  mirrored k j d hk hj hd e = near-found j (24 - d) k hj (omega arith) hk (sym (offset-back d (cell k) hd) ∙ ap (offsetBy (24 - d)) (sym (near-means k d j hk hd hj e)))
+  -- j stands at place d of k just where k stands at place 24 - d of j
+  pub mirrored : (k j d : ℕ) → k < length ps → j < length ps → d < 25 → viewOf ps .near (25 * k + d) ≡ j → viewOf ps .near (25 * j + (24 - d)) ≡ k
+  mirrored k j d hk hj hd e =
+      let there = near-means k (offsetOf d) j hk (offset-near d hd) hj (at-place k d ∙ e) in
+      sym (at-place j (24 - d)) ∙ near-found j (offsetOf (24 - d)) k hj (offset-near (24 - d) (omega arith)) hk (sym (offset-back d (cell k) hd) ∙ ap (offsetBy (offsetOf (24 - d))) (sym there))
+    where
+      at-place : (k d : ℕ) → rankAt (viewOf ps) k (offsetOf d) ≡ viewOf ps .near (25 * k + d)
+      at-place k d = ap (λ (i : ℕ). viewOf ps .near (25 * k + i)) (offset-place d)

@@ -7,6 +7,7 @@ use native.Mathlib.Omega.{arith}
 use lib.Dec.{eqb}
 use borrow.Author.Tests.{eq-eqb, ne-eqb, eqb-true}
 use Rattle.folds.proofs.Below.{first-hit, first-miss, first-ext, both-ways, and-left, and-right, and-both}
+use Rattle.offsets.specs.Offsets.{offsetOf}
 use Rattle.cells.specs.Points.{stride}
 use Rattle.cells.specs.Cell.{CellInRange, coincide, offsetBy, cellOfKey, cellsAt}
 use Rattle.cells.proofs.Coordinates.{lift, lift-agree, part-liftable, part-lift, two-off}
@@ -35,19 +36,19 @@ module _ (n : ℕ) (key : ℕ → ℕ) where
       first-hit (λ (j : ℕ). eqb (key j + keyCentre) t) n j l (eq-eqb (key j + keyCentre) t e)
       (λ i m. ne-eqb (key i + keyCentre) t (λ q. omega (arith, q, e, rising i j m l)))
 
--- Offset number d is 5 * (du + 2) + (dv + 2). A key plus keyStep d is the key of the cell at that offset plus keyCentre.
+-- A key plus keyStep d is the key of the cell at the offset with place d plus keyCentre.
 abbrev pub keyStep : ℕ → ℕ
 keyStep d = stride * (d / 5) + d % 5
 
--- b's cell is at offset d from a's just where the keys say so
-offset-key : (a b d : ℕ) → CellInRange (cellOfKey a) → CellInRange (cellOfKey b) → coincide (cellOfKey b) (offsetBy d (cellOfKey a)) ≡ eqb (b + keyCentre) (a + keyStep d)
+-- b's cell is at the offset with place d from a's just where the keys say so
+offset-key : (a b d : ℕ) → CellInRange (cellOfKey a) → CellInRange (cellOfKey b) → coincide (cellOfKey b) (offsetBy (offsetOf d) (cellOfKey a)) ≡ eqb (b + keyCentre) (a + keyStep d)
 offset-key a b d r s =
     let mu = two-off (cellOfKey a .u) (d / 5) (r .u) in
     let mv = two-off (cellOfKey a .v) (d % 5) (r .v) in
     let pa = parts-range a r in
     let pb = parts-range b s in
-    let xu = offsetBy d (cellOfKey a) .u in
-    let xv = offsetBy d (cellOfKey a) .v in
+    let xu = offsetBy (offsetOf d) (cellOfKey a) .u in
+    let xv = offsetBy (offsetOf d) (cellOfKey a) .v in
     let eu : lift xu + 2 ≡ a / stride + d / 5 = rw (part-lift (a / stride)) at (mu .1) in
     let ev : lift xv + 2 ≡ a % stride + d % 5 = rw (part-lift (a % stride)) at (mv .1) in
     rw (lift-agree (cellOfKey b .u) xu (part-liftable (b / stride)) (mu .0), lift-agree (cellOfKey b .v) xv (part-liftable (b % stride)) (mv .0), part-lift (b / stride), part-lift (b % stride))
@@ -61,8 +62,8 @@ offset-key a b d r s =
     and-both (eqb (b / stride) (lift xu)) (eqb (b % stride) (lift xv)) (eq-eqb (b / stride) (lift xu) (omega arith)) (eq-eqb (b % stride) (lift xv) (omega arith))))
 
 -- the rank that stands at a target is the neighbour
-pub standing-is : (keys : List ℕ) (n : ℕ) → Keys keys n → (k d : ℕ) → k < n → standing n (entryIn keys) (entryIn keys k + keyStep d) ≡ neighbourOf n (cellsAt keys) k d
+pub standing-is : (keys : List ℕ) (n : ℕ) → Keys keys n → (k d : ℕ) → k < n → standing n (entryIn keys) (entryIn keys k + keyStep d) ≡ neighbourOf n (cellsAt keys) k (offsetOf d)
 unfolding standing neighbourOf
 standing-is keys n ks k d h =
-    first-ext (λ (j : ℕ). eqb (entryIn keys j + keyCentre) (entryIn keys k + keyStep d)) (λ (j : ℕ). coincide (cellsAt keys j) (offsetBy d (cellsAt keys k))) n
+    first-ext (λ (j : ℕ). eqb (entryIn keys j + keyCentre) (entryIn keys k + keyStep d)) (λ (j : ℕ). coincide (cellsAt keys j) (offsetBy (offsetOf d) (cellsAt keys k))) n
     (λ j l. sym (offset-key (entryIn keys k) (entryIn keys j) d (ks .in-range k h) (ks .in-range j l)))

@@ -1,6 +1,6 @@
 -- The arrays give the view of points in cell order, and what is read of it. Assumes nothing.
 use mathlib.Core.Path.{_≡_, refl, ap, _∙_, fun-ext}
-use mathlib.Core.Bool.{Bool}
+use mathlib.Core.Bool.{Bool, true}
 use mathlib.Core.List.{List}
 use Prim.Native.Nat.{ℕ, _+_, _*_, _/_, _%_, _≤_, _<_}
 use native.Mathlib.Omega.{arith}
@@ -13,6 +13,9 @@ use Rattle.folds.proofs.Below.{last-holds, some-yes}
 use Rattle.folds.specs.Lists.{listOf}
 use Rattle.folds.proofs.Lists.{list-at}
 use Rattle.folds.proofs.Column.{column-list}
+use Rattle.offsets.specs.declared.Offset.{Offset}
+use Rattle.offsets.specs.Offsets.{isNear, placeOf}
+use Rattle.offsets.proofs.Places.{place-below, place-offset}
 use Rattle.view.specs.View.{View, viewAt, rankAt, maxPoints, ranksSize, rowsAt, columnsAt, indicesAt, Ranked}
 use Rattle.cells.specs.Points.{Point, nowhere, keysOf, indicesOf, xsOf, ysOf}
 use Rattle.cells.specs.Cell.{Cell, agree, cellsAt, cellsOf}
@@ -112,12 +115,19 @@ module _ (ps : List Point) where
   index-read k h = block-index n nearOf rowOf columnOf indexOf k h ∙ list-at n (lastWithIndex n (entryIn indexList)) k 0 h
 
   module _ (few : n ≤ maxPoints) where
-    pub near-read : (k d : ℕ) → k < n → d < 25 → rankAt (viewOf ps) k d ≡ neighbourOf n (cellsOf ps) k d
+    near-entry : (k : ℕ) (o : Offset) → isNear o ≡ true → neighbourEntry n (cellsOf ps) (25 * k + placeOf o) ≡ neighbourOf n (cellsOf ps) k o
+    near-entry k o l =
+        let m = place-below o l in
+        let a : (25 * k + placeOf o) / 25 ≡ k = omega (arith, m) in
+        let b : (25 * k + placeOf o) % 25 ≡ placeOf o = omega (arith, m) in
+        rw (a, b) (ap (neighbourOf n (cellsOf ps) k) (place-offset o l))
+
+    pub near-read : (k : ℕ) (o : Offset) → k < n → isNear o ≡ true → rankAt (viewOf ps) k o ≡ neighbourOf n (cellsOf ps) k o
     unfolding viewOf
-    near-read k d h l =
-        let a : (25 * k + d) / 25 ≡ k = omega arith in
-        let b : (25 * k + d) % 25 ≡ d = omega arith in
-        block-near n nearOf rowOf columnOf indexOf few (25 * k + d) (omega arith) ∙ list-at (25 * n) (neighbourEntry n (cellsOf ps)) (25 * k + d) 0 (omega arith) ∙ rw (a, b)
+    near-read k o h l =
+        let d = placeOf o in
+        let m = place-below o l in
+        block-near n nearOf rowOf columnOf indexOf few (25 * k + d) (omega (arith, m)) ∙ list-at (25 * n) (neighbourEntry n (cellsOf ps)) (25 * k + d) 0 (omega (arith, m)) ∙ near-entry k o l
 
     pub row-read : (k : ℕ) → k < n → viewOf ps .row k ≡ firstInRow n (cellsOf ps) k
     unfolding viewOf

@@ -7,15 +7,17 @@ use lib.Dec.{eqb, leb, ltb}
 use lib.ListN.{length, getD}
 use Rattle.folds.specs.Below.{first, last}
 use Rattle.folds.specs.Lists.{listOf}
+use Rattle.offsets.specs.declared.Offset.{Offset}
+use Rattle.offsets.specs.Offsets.{offsetOf}
 use Rattle.view.specs.View.{maxPoints, ranksSize, rowsAt, columnsAt, indicesAt}
 use Rattle.cells.specs.Cell.{Cell, CellInRange, agree, coincide, offsetBy, cellsAt}
 
 -- ---- what it holds of rank k of n
 
--- the rank at offset d: the first whose cell is k's moved by (du, dv); n where there is none
-unfoldable pub neighbourOf : ℕ → (ℕ → Cell) → ℕ → ℕ → ℕ
+-- the rank at offset o: the first whose cell is k's moved by it; n where there is none
+unfoldable pub neighbourOf : ℕ → (ℕ → Cell) → ℕ → Offset → ℕ
 unfolding first
-neighbourOf n cell k d = first (λ (j : ℕ). coincide (cell j) (offsetBy d (cell k))) 0 n
+neighbourOf n cell k o = first (λ (j : ℕ). coincide (cell j) (offsetBy o (cell k))) 0 n
 
 -- "Rows and columns": a row has one v, a column one u. The first rank of k's row:
 unfoldable pub firstInRow : ℕ → (ℕ → Cell) → ℕ → ℕ
@@ -34,9 +36,9 @@ lastWithIndex n index k = last (λ (j : ℕ). eqb (index j) (index k)) 0 n
 
 -- ---- where it holds that
 
--- the neighbours of all ranks, 25 for each
+-- the neighbours of all ranks, 25 for each: those at all offsets within 2, each at its offset's place
 abbrev pub neighbourEntry : ℕ → (ℕ → Cell) → ℕ → ℕ
-neighbourEntry n cell i = neighbourOf n cell (i / 25) (i % 25)
+neighbourEntry n cell i = neighbourOf n cell (i / 25) (offsetOf (i % 25))
 
 -- from place `from` on the n entries f 0, f 1, ..; elsewhere what `rest` has
 abbrev pub splice : ℕ → ℕ → (ℕ → ℕ) → (ℕ → ℕ) → ℕ → ℕ

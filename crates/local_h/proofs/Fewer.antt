@@ -6,13 +6,16 @@ use Prim.Native.Nat.{ℕ, _+_, _≤_, _<_}
 use Prim.{Dec, yes, no}
 use native.Mathlib.Decide.{decLt, ℕ-discrete}
 use native.Mathlib.Omega.{arith}
-use borrow.Author.Tests.{ltb-false, eq-eqb}
+use lib.IntN.{_-ℤ_, _*ℤ_, +ℤ-invr, *ℤ-zero, zero-*ℤ}
+use borrow.Author.Tests.{ltb-false}
 use Rattle.folds.specs.Below.{every, first}
 use Rattle.folds.proofs.Below.{first-before, first-from, every-at, and-left, and-right, and-both}
+use Rattle.offsets.specs.declared.Offset.{Offset}
+use Rattle.cells.proofs.Edges.{agree-same}
 use Rattle.view.specs.View.{View}
 use Rattle.local_h.specs.declared.Base.{Base}
 use Rattle.local_h.specs.Order.{offsetAt}
-use Rattle.local_h.specs.Base.{times, onLine, isOther, isServing, isFourth, baseOf, hasFour}
+use Rattle.local_h.specs.Base.{onLine, isOther, isServing, isFourth, baseOf, hasFour}
 use Rattle.local_h.proofs.Bases.{FourOthers}
 
 -- ---- lines through places of the order
@@ -21,19 +24,13 @@ abbrev inLine : ℕ → ℕ → ℕ → Bool
 inLine p q r = onLine (offsetAt p) (offsetAt q) (offsetAt r)
 
 -- a and b are themselves in the line of a and b
-first-in : (a b : ℕ) → onLine a b a ≡ true
+first-in : (a b : Offset) → onLine a b a ≡ true
 unfolding onLine
-first-in a b = eq-eqb (times a b + times b a + times a a) (times b a + times a b + times a a) (swap (times a b) (times b a) (times a a))
-  where
-    swap : (x y z : ℕ) → x + y + z ≡ y + x + z
-    swap x y z = omega arith
+first-in a b = rw (+ℤ-invr (a .du), +ℤ-invr (a .dv), *ℤ-zero (b .du -ℤ a .du), zero-*ℤ (b .dv -ℤ a .dv))
 
-second-in : (a b : ℕ) → onLine a b b ≡ true
+second-in : (a b : Offset) → onLine a b b ≡ true
 unfolding onLine
-second-in a b = eq-eqb (times a b + times b b + times b a) (times b a + times b b + times a b) (swap (times a b) (times b b) (times b a))
-  where
-    swap : (x y z : ℕ) → x + y + z ≡ z + y + x
-    swap x y z = omega arith
+second-in a b = agree-same ((b .du -ℤ a .du) *ℤ (b .dv -ℤ a .dv)) _ refl
 
 -- p, q and r are in one line if each is in the line of a and b
 abbrev agree : ℕ → ℕ → ℕ → ℕ → ℕ → Bool

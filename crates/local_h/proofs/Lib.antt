@@ -1,4 +1,5 @@
 pub mod Ordered
+pub mod Steps
 pub mod Coordinate
 pub mod Searching
 pub mod Bases

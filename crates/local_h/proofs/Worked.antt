@@ -1,14 +1,16 @@
 -- Residuals of one corner by the definitions: with a neighbour on each side, with neighbours that no map fits, and with fewer than four;
 -- checked by computing. Assumes nothing.
-use mathlib.Core.Bool.{true, false}
+use mathlib.Core.Bool.{true, false, cond}
 use mathlib.Core.List.{List, [], _∷_}
 use mathlib.Core.Path.{_≡_, refl}
 use Prim.Native.Nat.{ℕ}
+use lib.Dec.{eqb}
 use lib.IntN.{pos}
 use lib.ListN.{getD}
 use lib.Ieee.{Float, nan, binary32, ofInt}
 use Rattle.folds.specs.Arith.{f32}
 use Rattle.homography.specs.NoFit.{isUnfit}
+use Rattle.offsets.specs.Offsets.{own, nextU, prevU, nextV, prevV, placeOf}
 use Rattle.cells.specs.Cell.{Cell}
 use Rattle.view.specs.View.{View}
 use Rattle.local_h.specs.declared.Residual.the-variants.{Value, NoFit}
@@ -17,8 +19,8 @@ use Rattle.local_h.specs.Residual.{residualAt, residuals-compute}
 use Rattle.local_h.specs.NoFit.{isUnfitAt}
 
 -- rank 0 is the corner, and ranks 1 to 4 are at the offsets (0, -1), (-1, 0), (1, 0) and (0, 1); 5 is none
-abbrev near : List ℕ
-near = 5 ∷ 5 ∷ 5 ∷ 5 ∷ 5 ∷ 5 ∷ 5 ∷ 2 ∷ 5 ∷ 5 ∷ 5 ∷ 1 ∷ 0 ∷ 4 ∷ 5 ∷ 5 ∷ 5 ∷ 3 ∷ 5 ∷ 5 ∷ 5 ∷ 5 ∷ 5 ∷ 5 ∷ 5 ∷ []
+abbrev near : ℕ → ℕ
+near i = cond (eqb i (placeOf prevV)) 1 (cond (eqb i (placeOf prevU)) 2 (cond (eqb i (placeOf nextU)) 3 (cond (eqb i (placeOf nextV)) 4 (cond (eqb i (placeOf own)) 0 5))))
 
 abbrev whole : ℕ → Float
 whole n = ofInt binary32 (pos n)
@@ -28,7 +30,7 @@ abbrev around : ℕ → List Float → List Float → View
 around n xs ys =
     record {
       count = n;
-      near = λ (i : ℕ). getD near i 0;
+      near = near;
       row = λ (k : ℕ). k;
       column = λ (k : ℕ). k;
       byIdx = λ (k : ℕ). k;

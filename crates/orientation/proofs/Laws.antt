@@ -10,7 +10,8 @@ use Rattle.folds.proofs.Below.{some-ext, tally-ext, and-false, and-swap}
 use Rattle.folds.specs.Column.{column}
 use Rattle.folds.proofs.Column.{column-at, column-ext}
 use Rattle.folds.specs.Marked.{bit, Marked}
-use Rattle.view.specs.View.{View, maxPoints, rankAt, nextU, nextV, indexHas}
+use Rattle.offsets.specs.Offsets.{nextU, nextV}
+use Rattle.view.specs.View.{View, maxPoints, rankAt, indexHas}
 use Rattle.marks.specs.Marks.{isSet, indexMarks}
 use Rattle.marks.proofs.Guards.{guard, past, each-as-column, set-is, index-marks}
 use Rattle.orientation.specs.Orientation.{voteAt, ofVote, votesFor, sideMember, turned, orientationMark, orientationOf}

@@ -9,7 +9,8 @@ use Rattle.folds.specs.Arith.{_⊖_, _⊗_, zeroF}
 use Rattle.folds.specs.Below.{some, tally}
 use Rattle.folds.specs.Column.{column}
 use Rattle.folds.specs.Marked.{bit}
-use Rattle.view.specs.View.{maxPoints, View, rankAt, present, indexHas, nextU, nextV}
+use Rattle.offsets.specs.Offsets.{nextU, nextV}
+use Rattle.view.specs.View.{maxPoints, View, rankAt, present, indexHas}
 
 -- 1 for a positive cross product, 2 for a negative one, 0 for no vote
 unfoldable pub voteBy : Float → ℕ

@@ -4,7 +4,8 @@ use mathlib.Core.List.{List}
 use Prim.Native.Nat.{ℕ}
 use lib.Dec.{eqb, ltb}
 use lib.ListN.{getD}
-use Rattle.view.specs.View.{View, rankAt, present, nextU, nextV}
+use Rattle.offsets.specs.Offsets.{nextU, nextV}
+use Rattle.view.specs.View.{View, rankAt, present}
 
 -- rank k's vote is for the side, and m is one of its three points
 abbrev pub votersAt : View → List ℕ → ℕ → ℕ → ℕ → Bool

@@ -1,13 +1,13 @@
 // Votes on the orientation of the lattice, and the marks of the indices whose points cast those of the minority.
+use offsets::NEXT_U;
+use offsets::NEXT_V;
 use view::Floats;
 use view::MAX_POINTS;
 use view::Marks;
-use view::NEXT_U;
-use view::NEXT_V;
 use view::Ranks;
 ghost use mathlib.Core.Path.{_≡_};
 ghost use mathlib.Core.List.{[]};
-ghost use Prim.Native.Nat.{ℕ, _+_, _*_, _≤_, _<_};
+ghost use Prim.Native.Nat.{ℕ, _*_, _≤_, _<_};
 ghost use lib.Dec.{eqb};
 ghost use lib.ListN.{getD};
 ghost use Rattle.folds.specs.Below.{some, tally};

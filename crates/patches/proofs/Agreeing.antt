@@ -12,7 +12,7 @@ use Rattle.folds.specs.Below.{some}
 use Rattle.folds.proofs.Below.{some-at, every-at, and-under, both-ways}
 use Rattle.patches.specs.Patches.{survives, touches, linked, via, labelsBy, labelsOf}
 use Rattle.patches.specs.Reach.{Reach, here, step, Mirrored, paired}
-use Rattle.patches.specs.Search.{Offsets}
+use Rattle.patches.specs.Search.{NearPlaces}
 use Rattle.patches.proofs.Surviving.{survives-lt, link-from, link-to, link-side, link-by}
 use Rattle.patches.proofs.Closure.{reach-trans, reach-from, reach-to}
 use Rattle.patches.proofs.Labelling.{joins, label-some}
@@ -27,7 +27,7 @@ module _ (n : ℕ) (near : ℕ → ℕ) (sides dropped : List ℕ) where
   abbrev label : ℕ → ℕ
   label k = getD (labelsOf n near sides dropped) k 0
 
-  module _ (offsets : Offsets sides) (pairs : paired sides ≡ true) (mirror : Mirrored n near) where
+  module _ (placed : NearPlaces sides) (pairs : paired sides ≡ true) (mirror : Mirrored n near) where
     -- ---- shared edges lead both ways
 
     pub link-back : (a b : ℕ) → link a b ≡ true → link b a ≡ true
@@ -40,7 +40,7 @@ module _ (n : ℕ) (near : ℕ → ℕ) (sides dropped : List ℕ) where
         let j = some-at (λ (j : ℕ). eqb (getD sides j 0) (24 - getD sides (w .0) 0)) (length sides) o in
         let f = eqb-true (getD sides (j .0) 0) (24 - getD sides (w .0) 0) (j .2) in
         link-by n near sides dropped b a q p (j .0) (j .1)
-        (ap (λ (d : ℕ). near (25 * b + d)) f ∙ mirror .back a b (getD sides (w .0) 0) (survives-lt n dropped a p) (survives-lt n dropped b q) (offsets (w .0) (w .1)) (w .2))
+        (ap (λ (d : ℕ). near (25 * b + d)) f ∙ mirror .back a b (getD sides (w .0) 0) (survives-lt n dropped a p) (survives-lt n dropped b q) (placed (w .0) (w .1)) (w .2))
 
     reach-back : {a b : ℕ} → Reach alive link a b → Reach alive link b a
     reach-back (here e) = here e

@@ -1,40 +1,56 @@
--- The lists of offsets that are in use, or will be: each has offset numbers below 25, and with each offset its opposite. Assumes nothing.
+-- The lists of offsets that are in use, or will be: each offset is within 2, and with each stands its opposite. Assumes nothing.
 use mathlib.Core.Path.{_≡_, refl}
-use mathlib.Core.Bool.{true}
+use mathlib.Core.Bool.{Bool, true}
 use mathlib.Core.List.{List, [], _∷_}
-use Prim.Native.Nat.{ℕ}
-use lib.Dec.{ltb}
+use Prim.Native.Nat.{ℕ, _<_}
 use lib.ListN.{length, getD}
-use borrow.Author.Tests.{ltb-true}
+use native.Mathlib.Omega.{arith}
 use Rattle.folds.specs.Below.{some, every}
 use Rattle.folds.proofs.Below.{every-at}
-use Rattle.view.specs.View.{squareSides}
+use Rattle.offsets.specs.declared.Offset.{Offset}
+use Rattle.offsets.specs.Offsets.{−1, +1, offset, own, nextU, prevU, nextV, prevV, squareSides, isNear, places}
+use Rattle.offsets.proofs.Places.{place-below, places-long, places-at}
 use Rattle.patches.specs.Reach.{paired}
-use Rattle.patches.specs.Search.{Offsets}
+use Rattle.patches.specs.Search.{NearPlaces}
 
--- offset numbers below 25, by a test
-offsets-of : (sides : List ℕ) → every (λ (i : ℕ). ltb (getD sides i 0) 25) (length sides) ≡ true → Offsets sides
-offsets-of sides e i h = ltb-true (getD sides i 0) 25 (every-at (λ (i : ℕ). ltb (getD sides i 0) 25) (length sides) e i h)
+-- each is within 2
+abbrev areNear : List Offset → Bool
+areNear sides = every (λ (i : ℕ). isNear (getD sides i own)) (length sides)
+
+near-at : (sides : List Offset) → areNear sides ≡ true → (i : ℕ) → i < length sides → isNear (getD sides i own) ≡ true
+near-at sides e i h = every-at (λ (i : ℕ). isNear (getD sides i own)) (length sides) e i h
+
+-- so that each has one of the 25 places
+near-places : (sides : List Offset) → areNear sides ≡ true → NearPlaces (places sides)
+near-places sides e i h =
+    let l : i < length sides = omega (arith, places-long sides) in
+    rw (places-at sides i l) (place-below (getD sides i own) (near-at sides e i l))
 
 -- ---- the square lattice
 
-pub square-offsets : (sides : List ℕ) → sides ≡ squareSides → Offsets sides
+square-are-near : areNear squareSides ≡ true
 unfolding every
-square-offsets sides e = rw e (offsets-of squareSides refl)
+square-are-near = refl
 
-pub square-paired : paired squareSides ≡ true
+pub square-near : (i : ℕ) → i < length squareSides → isNear (getD squareSides i own) ≡ true
+square-near = near-at squareSides square-are-near
+
+pub square-places : (sides : List ℕ) → sides ≡ places squareSides → NearPlaces sides
+square-places sides e = rw e (near-places squareSides square-are-near)
+
+pub square-paired : paired (places squareSides) ≡ true
 unfolding paired every some
 square-paired = refl
 
--- ---- the honeycomb: (1, 0), (0, 1), (-1, 1) and their opposites
+-- ---- the honeycomb
 
-abbrev pub hexSides : List ℕ
-hexSides = 17 ∷ 7 ∷ 13 ∷ 11 ∷ 8 ∷ 16 ∷ []
+abbrev pub hexSides : List Offset
+hexSides = nextU ∷ prevU ∷ nextV ∷ prevV ∷ offset −1 +1 ∷ offset +1 −1 ∷ []
 
-hex-offsets : Offsets hexSides
+hex-places : NearPlaces (places hexSides)
 unfolding every
-hex-offsets = offsets-of hexSides refl
+hex-places = near-places hexSides refl
 
-hex-paired : paired hexSides ≡ true
+hex-paired : paired (places hexSides) ≡ true
 unfolding paired every some
 hex-paired = refl

@@ -1,5 +1,5 @@
 -- Patches of surviving points, over any list of offsets: which point is reached from which, and the label of each patch.
--- n is the number of points, near the table of neighbours, sides the numbers of the offsets that lead over a shared edge, and dropped has
+-- n is the number of points, near the table of neighbours, sides the places of the offsets that lead over a shared edge, and dropped has
 -- 0 at each rank that survives. Nothing else is seen of a sheet. Each definition computes. Assumes nothing.
 use mathlib.Core.Bool.{Bool, false, _&&_, _||_}
 use mathlib.Core.List.{List, []}

@@ -20,11 +20,11 @@ pub record Labelled (alive : ℕ → Bool) (link : ℕ → ℕ → Bool) (k v : 
 
 -- ---- what the theorems ask of the table and of the list of offsets
 
--- j is at offset d of k just where k is at the opposite offset, number 24 - d, of j
+-- j is at place d of k just where k is at place 24 - d of j, which is that of the opposite offset
 pub record Mirrored (n : ℕ) (near : ℕ → ℕ) : Type 0 where
   pub back : (k j d : ℕ) → k < n → j < n → d < 25 → near (25 * k + d) ≡ j → near (25 * j + (24 - d)) ≡ k
 
--- the list has each offset's opposite
+-- the list has each offset's opposite, by places
 unfoldable pub paired : List ℕ → Bool
 unfolding every some
 paired sides = every (λ (i : ℕ). some (λ (j : ℕ). eqb (getD sides j 0) (24 - getD sides i 0)) (length sides)) (length sides)

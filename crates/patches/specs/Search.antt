@@ -12,9 +12,9 @@ use Rattle.view.specs.View.{maxPoints, viewAt}
 use Rattle.patches.specs.Patches.{survives, linked}
 use Rattle.patches.specs.Reach.{Reach, Labelled}
 
--- what a caller sees to: each offset number is below 25
-abbrev pub Offsets : List ℕ → Type 0
-Offsets sides = (i : ℕ) → i < length sides → getD sides i 0 < 25
+-- what a caller sees to: each side is one of the 25 places
+abbrev pub NearPlaces : List ℕ → Type 0
+NearPlaces sides = (i : ℕ) → i < length sides → getD sides i 0 < 25
 
 -- ---- before the search
 

@@ -12,7 +12,7 @@ ghost use lib.Ieee.{Float};
 ghost use Rattle.folds.specs.Marked.{bit};
 ghost use Rattle.view.specs.View.{maxPoints, viewAt, Ranked};
 ghost use Rattle.cells.specs.Cell.{cellsAt};
-ghost use Rattle.patches.specs.Search.{Offsets};
+ghost use Rattle.patches.specs.Search.{NearPlaces};
 ghost use Rattle.patches.specs.Boxes.{CellKeys, boundaryAmong, boundaryOf};
 ghost use Rattle.patches.specs.Extents.{extent, farthestOf, atEnd};
 use crate::labels;
@@ -115,7 +115,7 @@ fn boundary_among(ranks: &Ranks, keys: &Words, label: &Places, n: usize) -> Mark
 
 // 1 at each rank whose index has its place on the boundary of the box of its patch of all points.
 pub fn boundary(ranks: &Ranks, keys: &Words, sides: &[u8], n: usize) -> Marks
-    requires { ⌜ Ranked n (now ranks) × Offsets (now sides) × CellKeys n (now keys) ⌝ }
+    requires { ⌜ Ranked n (now ranks) × NearPlaces (now sides) × CellKeys n (now keys) ⌝ }
     ensures { λ r. ⌜ ((xs ys : List Float) → r ≡ boundaryOf (viewAt n (now (ranks .entry)) xs ys) (now (sides .entry)) (cellsAt (now (keys .entry)))) ⌝ }
 {
     let dropped = [0u8; MAX_POINTS];

@@ -1,30 +1,42 @@
-// Patches of surviving points: cells joined by shared edges, over any list of offsets. See specs/Patches.antt.
+// Patches of surviving points: cells joined by shared edges, over any list of offsets, which are given by their places. See specs/Patches.antt.
 pub mod boxes;
 
+use offsets::Offset;
 use view::Marks;
 use view::Places;
 use view::Ranks;
 ghost use mathlib.Core.Path.{_≡_};
+ghost use mathlib.Core.Bool.{true};
 ghost use mathlib.Core.List.{List};
 ghost use Prim.Native.Nat.{_+_, _≤_, _<_};
 ghost use lib.Ieee.{Float};
-ghost use Rattle.view.specs.View.{maxPoints, squareSides, viewAt};
+ghost use Rattle.offsets.specs.Offsets.{isNear, placeOf, places, squareSides};
+ghost use Rattle.view.specs.View.{maxPoints, viewAt};
 ghost use Rattle.patches.specs.Patches.{patchLabels};
-ghost use Rattle.patches.specs.Search.{Offsets, startMarks, unlabelled, Worklist, Visit, Advanced};
+ghost use Rattle.patches.specs.Search.{NearPlaces, startMarks, unlabelled, Worklist, Visit, Advanced};
 use view::MAX_POINTS;
-use view::NEXT_U;
-use view::NEXT_V;
-use view::PREV_U;
-use view::PREV_V;
 
-// The offsets of the square lattice: to u - 1, u + 1, v - 1 and v + 1.
-pub fn square_sides() -> [u8; 4]
-    ensures { λ r. ⌜ r ≡ squareSides ⌝ }
+// The place of an offset, as a byte. Sides are lent as places: a slice of structs cannot be lent without a proof by hand.
+fn place_byte(o: Offset) -> u8
+    requires { ⌜ isNear o ≡ true ⌝ }
+    ensures { λ r. ⌜ r ≡ placeOf o ⌝ }
 {
-    [PREV_U as u8, NEXT_U as u8, PREV_V as u8, NEXT_V as u8]
+    offsets::place(o) as u8
 }
 
-fn offset(d: u8) -> usize
+// The places of the square lattice's offsets: to u - 1, u + 1, v - 1 and v + 1.
+pub fn square_sides() -> [u8; 4]
+    ensures { λ r. ⌜ r ≡ places squareSides ⌝ }
+{
+    [
+        place_byte(offsets::PREV_U),
+        place_byte(offsets::NEXT_U),
+        place_byte(offsets::PREV_V),
+        place_byte(offsets::NEXT_V),
+    ]
+}
+
+fn as_place(d: u8) -> usize
     ensures { λ r. ⌜ r ≡ d ⌝ }
 {
     d as usize
@@ -67,14 +79,14 @@ fn expand(
     queue: &mut Places,
     tail: usize,
 ) -> usize
-    requires { ⌜ Offsets (now sides) × (head < tail) × Worklist (now visited) (now label) (now queue) tail ⌝ }
+    requires { ⌜ NearPlaces (now sides) × (head < tail) × Worklist (now visited) (now label) (now queue) tail ⌝ }
     ensures { λ r. ⌜ Advanced (now (ranks .entry)) (now (sides .entry)) s head (now (visited .entry)) (now (label .entry)) (now (queue .entry)) tail s (head + 1) (now (visited .exit)) (now (label .exit)) (now (queue .exit)) r ⌝ }
 {
     let x = view::wide(queue[head]);
     let mut t = tail;
     let mut d = 0;
     while d < sides.len() {
-        let j = view::rank_at(ranks, x, offset(sides[d]));
+        let j = view::rank_at_place(ranks, x, as_place(sides[d]));
         t = visit(s, j, visited, label, queue, t);
         d += 1;
     }
@@ -91,7 +103,7 @@ fn fill(
     queue: &mut Places,
     start: usize,
 ) -> usize
-    requires { ⌜ Offsets (now sides) × Worklist (now visited) (now label) (now queue) start ⌝ }
+    requires { ⌜ NearPlaces (now sides) × Worklist (now visited) (now label) (now queue) start ⌝ }
     ensures { λ r. ⌜ Advanced (now (ranks .entry)) (now (sides .entry)) s start (now (visited .entry)) (now (label .entry)) (now (queue .entry)) start (s + 1) r (now (visited .exit)) (now (label .exit)) (now (queue .exit)) r ⌝ }
 {
     let mut tail = visit(s, view::wide(s), visited, label, queue, start);
@@ -136,7 +148,7 @@ fn blank(n: usize) -> Places
 
 // The label of each rank: the least rank of its patch; n where it does not survive.
 pub fn labels(ranks: &Ranks, dropped: &Marks, sides: &[u8], n: usize) -> Places
-    requires { ⌜ (n ≤ maxPoints) × Offsets (now sides) ⌝ }
+    requires { ⌜ (n ≤ maxPoints) × NearPlaces (now sides) ⌝ }
     ensures { λ r. ⌜ ((xs ys : List Float) → r ≡ patchLabels (viewAt n (now (ranks .entry)) xs ys) (now (sides .entry)) (now (dropped .entry))) ⌝ }
 {
     let mut visited = start_marks(dropped, n);

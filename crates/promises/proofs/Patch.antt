@@ -9,6 +9,7 @@ use borrow.Author.Tests.{lt-ltb, ltb-true}
 use Rattle.folds.specs.Below.{some, tally}
 use Rattle.folds.proofs.Below.{some-at, some-fails, and-under, and-left, and-right, and-both, and-swap, not-true, not-false}
 use Rattle.folds.proofs.Marked.{bit-is}
+use Rattle.offsets.specs.Offsets.{places}
 use Rattle.view.specs.View.{View}
 use Rattle.cells.specs.Points.{Point, nowhere}
 use Rattle.cells.specs.Cell.{cellOf, joinedBy}
@@ -22,11 +23,11 @@ use Rattle.marks.specs.Marks.{isSet}
 use Rattle.marks.proofs.Byte.{not-not}
 use Rattle.patches.specs.Patches.{survives, linked, patchLabels}
 use Rattle.patches.specs.Reach.{Reach, here, step, Mirrored}
-use Rattle.patches.specs.Search.{Offsets}
+use Rattle.patches.specs.Search.{NearPlaces}
 use Rattle.patches.proofs.Surviving.{survives-lt}
 use Rattle.patches.proofs.Closure.{reach-to}
 use Rattle.patches.proofs.Labelling.{joins}
-use Rattle.patches.proofs.Lattices.{square-paired, square-offsets}
+use Rattle.patches.proofs.Lattices.{square-near, square-paired, square-places}
 use Rattle.components.specs.Components.{winnerOf, inPatch, inOtherPatch, patchCount, filterOf}
 use Rattle.components.specs.WholePatches.{KeptPatch, PatchesCounted}
 use Rattle.components.proofs.Whole.{winner-kept, labels-counted}
@@ -51,7 +52,7 @@ module _ (s : Settings) (ps : List Point) (o : CellOrder ps) where
   view = viewOf ps
 
   abbrev sides : List ℕ
-  sides = sidesOf s
+  sides = places (sidesOf s)
 
   abbrev drops : List ℕ
   drops = dropped s ps
@@ -68,8 +69,8 @@ module _ (s : Settings) (ps : List Point) (o : CellOrder ps) where
   abbrev link : ℕ → ℕ → Bool
   link = linked (view .count) (view .near) sides drops
 
-  offsets : Offsets sides
-  offsets = square-offsets sides refl
+  sides-near : NearPlaces sides
+  sides-near = square-places sides refl
 
   within : (k : ℕ) → k < view .count → k < length ps
   unfolding viewOf
@@ -79,10 +80,10 @@ module _ (s : Settings) (ps : List Point) (o : CellOrder ps) where
   both-mirrored = record { back = λ k j d hk hj hd e. mirrored ps o k j d (within k hk) (within j hj) hd e }
 
   largest : KeptPatch alive link (view .count) (inPatch (view .count) labels win)
-  largest = winner-kept (view .count) (view .near) sides drops offsets square-paired both-mirrored
+  largest = winner-kept (view .count) (view .near) sides drops sides-near square-paired both-mirrored
 
   patches-counted : PatchesCounted alive link (view .count) (λ (k : ℕ). eqb (getD labels k 0) k) (inPatch (view .count) labels)
-  patches-counted = labels-counted (view .count) (view .near) sides drops offsets square-paired both-mirrored
+  patches-counted = labels-counted (view .count) (view .near) sides drops sides-near square-paired both-mirrored
 
   survivors : (k : ℕ) → survivor s ps k ≡ alive k
   unfolding viewOf
@@ -93,7 +94,7 @@ module _ (s : Settings) (ps : List Point) (o : CellOrder ps) where
 
   steps : (a b : ℕ) → joined s ps a b ≡ link a b
   steps a b =
-      and-under (survivor s ps a) (λ e. and-under (survivor s ps b) (λ f. sym (touch-joined ps o sides offsets a b (lives-below a e) (lives-below b f))))
+      and-under (survivor s ps a) (λ e. and-under (survivor s ps b) (λ f. sym (touch-joined ps o (sidesOf s) square-near a b (lives-below a e) (lives-below b f))))
       ∙ rw (survivors a, survivors b)
 
   -- a point of the winner survives
@@ -149,7 +150,7 @@ module _ (s : Settings) (ps : List Point) (o : CellOrder ps) where
 
 pub count-off : (s : Settings) (ps : List Point) → s .«apply_largest_component» ≡ false → judgedFor s ps .components ≡ 0
 unfolding judgedFor judgedOf patchedOf componentsIn
-count-off s ps off = ap (λ (b : Bool). cond b (filterOf (viewOf ps) (sidesOf s) (dropped s ps) .«components_seen») 0) off
+count-off s ps off = ap (λ (b : Bool). cond b (filterOf (viewOf ps) (places (sidesOf s)) (dropped s ps) .«components_seen») 0) off
 
 -- ---- what follows
 

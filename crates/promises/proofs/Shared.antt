@@ -9,6 +9,7 @@ use Rattle.folds.specs.Below.{some}
 use Rattle.folds.specs.Lists.{All}
 use Rattle.folds.specs.Marked.{bit}
 use Rattle.folds.proofs.Column.{column-at}
+use Rattle.offsets.specs.Offsets.{places}
 use Rattle.view.specs.View.{View, maxPoints, indexHas}
 use Rattle.cells.specs.Cell.{Cell}
 use Rattle.sheet_file.specs.declared.Settings.{Settings}
@@ -75,7 +76,7 @@ module _ (s : Settings) (w : View) (cell : ℕ → Cell) (i j : ℕ) (a : i < w 
       (column-at maxPoints 0 (w .count) mark i a ∙ ap bit (has-shared (isSet others)) ∙ sym (column-at maxPoints 0 (w .count) mark j b))
     where
       others : List ℕ
-      others = othersOf (w .count) (patchLabels w (sidesOf s) marks)
+      others = othersOf (w .count) (patchLabels w (places (sidesOf s)) marks)
 
       mark : ℕ → ℕ
       mark k = bit (indexHas w (isSet others) k)

@@ -14,7 +14,7 @@ use Rattle.sheet_file.specs.Bytes.{Bytes}
 use Rattle.sheet_file.specs.Frame.{layoutOf}
 use Rattle.sheet_file.specs.declared.Settings.{Settings}
 use Rattle.ruling.specs.Ruling.{refused, accepted, rulingOf, applies, rowsSize}
-use Rattle.ruling.specs.Offset.{Offset, MovedAlong, movedFile, StaysInRange}
+use Rattle.ruling.specs.Offset.{FileDisplaced, MovedAlong, movedFile, StaysInRange}
 use Rattle.marks.specs.Filters.{filterAt, filterCount, validate}
 use Rattle.marks.specs.Byte.{hasMark}
 use Rattle.text.specs.Text.{bytes, refusalOf}
@@ -126,7 +126,7 @@ pub record MovedMap (file other : List ℕ) (a b : ℤ) (s : Settings) (ps : Lis
   pub same : ((k : ℕ) → k < length ps → hasMark validate (marksIn s (along .points) k) ≡ hasMark validate (marksIn s ps k)) → BothRefused file other ⊎ LinesMoved file other b
 
 abbrev pub OffsetMapPromise : Type 0
-OffsetMapPromise = (file other : List ℕ) (a b : ℤ) → Bytes file → Bytes other → Offset file other (layoutOf file) a b
+OffsetMapPromise = (file other : List ℕ) (a b : ℤ) → Bytes file → Bytes other → FileDisplaced file other (layoutOf file) a b
     → applies other rowsSize 6 ≡ false → (s : Settings) (ps : List Point) → rulingOf file rowsSize ≡ accepted s ps → MovedMap file other a b s ps
 
 -- the same of the moved file itself, of every accepted file and every offset in range

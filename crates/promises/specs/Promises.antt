@@ -20,7 +20,7 @@ use Rattle.components.specs.WholePatches.{WholePatch, Smallest, KeptPatch, Patc
 use Rattle.ruling.specs.Ruling.{accepted, rulingOf, applies}
 use Rattle.ruling.specs.Order.{Relisted}
 use Rattle.ruling.specs.Switches.{Switched}
-use Rattle.ruling.specs.Offset.{Offset, MovedAlong, movedFile, StaysInRange}
+use Rattle.ruling.specs.Offset.{FileDisplaced, MovedAlong, movedFile, StaysInRange}
 use Rattle.marks.specs.Filters.{validate, orientation, wrong}
 use Rattle.marks.specs.Byte.{hasMark}
 use Rattle.kept.specs.Answer.{answerOf, rowsAfter, tallyOf}
@@ -99,7 +99,7 @@ pub record MovedMarks (file : List ℕ) (room : ℕ) (a b : ℤ) (s : Settings) 
 
 -- "In range means that the condition of number 6 fails."
 abbrev pub OffsetPromise : Type 0
-OffsetPromise = (file other : List ℕ) (a b : ℤ) → Bytes file → Bytes other → Offset file other (layoutOf file) a b
+OffsetPromise = (file other : List ℕ) (a b : ℤ) → Bytes file → Bytes other → FileDisplaced file other (layoutOf file) a b
     → (room : ℕ) → applies other room 6 ≡ false → (s : Settings) (ps : List Point) → rulingOf file room ≡ accepted s ps → MovedMarks other room a b s ps
 
 -- the same, of the rows in one buffer: the orientation and wrong-label marks stay; if the validate marks stay too, all marks do
@@ -109,7 +109,7 @@ pub record MovedRows (file other buffer : List ℕ) (n : ℕ) : Type 0 where
   pub kept : ((k : ℕ) → k < n → hasMark validate (marksByte other buffer k) ≡ hasMark validate (marksByte file buffer k)) → (k : ℕ) → k < n → marksByte other buffer k ≡ marksByte file buffer k
 
 abbrev pub OffsetRowsPromise : Type 0
-OffsetRowsPromise = (file other buffer : List ℕ) (a b : ℤ) → Bytes file → Bytes other → Offset file other (layoutOf file) a b
+OffsetRowsPromise = (file other buffer : List ℕ) (a b : ℤ) → Bytes file → Bytes other → FileDisplaced file other (layoutOf file) a b
     → applies other (length buffer) 6 ≡ false → (s : Settings) (ps : List Point) → rulingOf file (length buffer) ≡ accepted s ps → MovedRows file other buffer (length ps)
 
 -- "An offset is one whole number added to every u and one to every v": the same of the moved file itself, of every accepted file and every

@@ -36,7 +36,7 @@ use Rattle.points.specs.Refusals.{offRange, comesBefore}
 use Rattle.points.proofs.Located.{length-points}
 use Rattle.ruling.specs.Ruling.{accepted, rulingOf, pointsOf, applies}
 use Rattle.ruling.specs.Header.{Headed}
-use Rattle.ruling.specs.Offset.{Offset, byteOf, movedByte, byteMoved, movedFile, StaysInRange}
+use Rattle.ruling.specs.Offset.{FileDisplaced, byteOf, movedByte, byteMoved, movedFile, StaysInRange}
 use Rattle.ruling.proofs.Header.{frame-same}
 use Rattle.ruling.proofs.Standing.{accepted-file}
 
@@ -155,7 +155,7 @@ module _ (file : List ℕ) (a b : ℤ) where
         rw e (point-byte i (4 + j) h (omega arith) ∙ rw (le-ltb (4 + j) 4 (omega arith), lt-ltb (4 + j) 8 (omega arith), d))
 
     -- and no other file is the file with a added to every u and b to every v
-    pub only-moved : (file′ : List ℕ) → Bytes file′ → Offset file file′ f a b → file′ ≡ other
+    pub only-moved : (file′ : List ℕ) → Bytes file′ → FileDisplaced file file′ f a b → file′ ≡ other
     only-moved file′ bytes o =
         ext-getD 0 file′ other (o .head .size ∙ sym (head-stays .size)) (λ k h. each k (omega (arith, o .head .size)) (decLt k (f .points)))
       where
@@ -184,7 +184,7 @@ module _ (file : List ℕ) (a b : ℤ) where
           let v = read-back other (place i + 4) (cellAt i .v) (in-range i h .v) (λ j l. v-byte i j h l) in
           rw (u, v)
 
-      offset-by : Offset file other f a b
+      offset-by : FileDisplaced file other f a b
       offset-by = record {
         head = head-stays;
         cell = cell-moved;
@@ -213,7 +213,7 @@ module _ (file : List ℕ) (a b : ℤ) where
         let same : getD ps (at .place) nowhere ≡ ithPoint file (f .points) i = ap (λ (l : List Point). getD l (at .place) nowhere) are ∙ sym (at .is) ∙ listed in
         rw same at (in-range (at .place) (omega (arith, at .below, ap length are)))
 
-    pub moved-offset : Offset file other f a b
+    pub moved-offset : FileDisplaced file other f a b
     moved-offset = offset-by (accepted-file file room s ps e .framed) each-in-range
 
     pub moved-in-range : applies other room 6 ≡ false

@@ -33,7 +33,7 @@ use Rattle.points.specs.Refusals.{pointRefusals, offRange, offLimit, sameCell, 
 use Rattle.points.proofs.Clashes.{Ranged, cells-by-key}
 use Rattle.points.proofs.Located.{length-points}
 use Rattle.ruling.specs.Ruling.{refused, accepted, rulingFor, rulingOf}
-use Rattle.ruling.specs.Offset.{Displaced, AllDisplaced, Offset, MovedAlong}
+use Rattle.ruling.specs.Offset.{Displaced, AllDisplaced, FileDisplaced, MovedAlong}
 use Rattle.ruling.proofs.Given.{for-accepted, in-file}
 use Rattle.ruling.proofs.Header.{carried}
 use Rattle.ruling.proofs.Numbered.{firstNumbers, numbers-below, any-same, pair-same, sorted-by-number}
@@ -150,7 +150,7 @@ displaced a b s t ps qs rs o wp wq in-range e =
 
 -- ---- of a file
 
-module _ (file other : List ℕ) (f : Layout) (a b : ℤ) (o : Offset file other f a b) where
+module _ (file other : List ℕ) (f : Layout) (a b : ℤ) (o : FileDisplaced file other f a b) where
   word-stays : (i j : ℕ) → i < f .count → 8 ≤ j → j + 4 ≤ 20 → le32 other (f .points + 20 * i + j) ≡ le32 file (f .points + 20 * i + j)
   word-stays i j h l m =
       le32-same file (f .points + 20 * i + j) other (f .points + 20 * i + j)
@@ -173,7 +173,7 @@ module _ (file other : List ℕ) (f : Layout) (a b : ℤ) (o : Offset file other
         rw (list-at (f .count) (ithPoint file (f .points)) i nowhere l, list-at (f .count) (ithPoint other (f .points)) i nowhere l) (record-moved i l);
   }
 
-pub offset : (file other : List ℕ) (a b : ℤ) → Bytes file → Bytes other → Offset file other (layoutOf file) a b
+pub offset : (file other : List ℕ) (a b : ℤ) → Bytes file → Bytes other → FileDisplaced file other (layoutOf file) a b
     → anyIn offRange (pointsIn other (layoutOf file .points) (layoutOf file .count)) ≡ false
     → (room : ℕ) (s : Settings) (ps : List Point) → rulingOf file room ≡ accepted s ps → MovedAlong (rulingOf other room) a b s ps
 offset file other a b bf bo o in-range room s ps e =

@@ -34,7 +34,7 @@ pub record AllDisplaced (a b : ℤ) (ps qs : List Point) : Type 0 where
   pub each : (i : ℕ) → i < length ps → Displaced a b (getD ps i nowhere) (getD qs i nowhere)
 
 -- other is file with a added to every u and b to every v, and nothing else changed
-pub record Offset (file other : List ℕ) (f : Layout) (a b : ℤ) : Type 0 where
+pub record FileDisplaced (file other : List ℕ) (f : Layout) (a b : ℤ) : Type 0 where
   pub head : Headed file other (f .points)
   pub cell : (i : ℕ) → i < f .count → cellOf (ithPoint other (f .points) i) ≡ moved a b (cellOf (ithPoint file (f .points) i))
   pub rest : (i j : ℕ) → i < f .count → 8 ≤ j → j < 20 → getD other (f .points + 20 * i + j) 0 ≡ getD file (f .points + 20 * i + j) 0

@@ -13,7 +13,8 @@ use Rattle.folds.proofs.Lists.{all-listed}
 use Rattle.median.specs.Median.{medianOf}
 use Rattle.sort.specs.Sorted.{sort}
 use Rattle.sort.proofs.Sorted.{sort-length, sort-all, all-at}
-use Rattle.view.specs.View.{View, prevU, nextU, prevV, nextV}
+use Rattle.offsets.specs.Offsets.{prevU, nextU, prevV, nextV}
+use Rattle.view.specs.View.{View}
 use Rattle.step.specs.Step.{axisStep, meanStep, keptStep, localStep, stepAt}
 use Rattle.step.specs.Deviation.{stepsIn}
 use Rattle.step.specs.declared.Step.{Step}

@@ -8,7 +8,9 @@ use lib.Ieee.Scale.{finite}
 use Rattle.float.specs.Constants.{zero, half}
 use Rattle.float.specs.Scalar.{normOf}
 use Rattle.folds.specs.Arith.{_⊕_, _⊖_, _⊗_}
-use Rattle.view.specs.View.{View, rankAt, present, nextU, prevU, nextV, prevV}
+use Rattle.offsets.specs.declared.Offset.{Offset}
+use Rattle.offsets.specs.Offsets.{nextU, prevU, nextV, prevV}
+use Rattle.view.specs.View.{View, rankAt, present}
 use Rattle.step.specs.declared.Step.{Step}
 
 -- a step, or none, whose value is 0
@@ -25,7 +27,7 @@ spacing x y p q = normOf (x q ⊖ x p) (y q ⊖ y p)
 
 -- The step of rank m along an axis, whose neighbours are at the offsets `before` and `after`: by a central difference where both are
 -- present, by a one-sided one where one is.
-unfoldable pub axisStep : View → ℕ → ℕ → ℕ → Step
+unfoldable pub axisStep : View → Offset → Offset → ℕ → Step
 unfolding spacing mul ofBits
 axisStep w before after m =
     cond (present w m before)

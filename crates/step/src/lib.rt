@@ -1,9 +1,10 @@
 // The local step of each index, its scale, and the steps that lie too far from their median.
+use offsets::Offset;
 use view::Floats;
 use view::Marks;
 use view::Ranks;
 ghost use mathlib.Core.Path.{_≡_};
-ghost use mathlib.Core.Bool.{_&&_};
+ghost use mathlib.Core.Bool.{true, _&&_};
 ghost use mathlib.Core.List.{List, []};
 ghost use Prim.Native.Nat.{ℕ, _≤_, _<_};
 ghost use lib.ListN.{getD};
@@ -13,6 +14,7 @@ ghost use Rattle.float.specs.Constants.{zero};
 ghost use Rattle.folds.specs.Below.{tally};
 ghost use Rattle.folds.specs.Column.{column};
 ghost use Rattle.folds.specs.Marked.{bit};
+ghost use Rattle.offsets.specs.Offsets.{isNear};
 ghost use Rattle.view.specs.View.{maxPoints, viewAt, Ranked};
 ghost use Rattle.step.specs.Step.{stepOf, spacing, axisStep, meanStep, keptStep, localStep, stepAt, scaleAt};
 ghost use Rattle.step.specs.Deviation.{isStepOutside, deviates};
@@ -49,10 +51,10 @@ fn axis_step(
     y: &Floats,
     n: usize,
     m: usize,
-    before: usize,
-    after: usize,
+    before: Offset,
+    after: Offset,
 ) -> Step
-    requires { ⌜ (n ≤ maxPoints) × (m < maxPoints) × (before < 25) × (after < 25) ⌝ }
+    requires { ⌜ (n ≤ maxPoints) × (m < maxPoints) × (isNear before ≡ true) × (isNear after ≡ true) ⌝ }
     ensures { λ r. ⌜ r ≡ axisStep (viewAt n (now (ranks .entry)) (now (x .entry)) (now (y .entry))) before after m ⌝ }
 {
     let l = rank_at(ranks, m, before);
@@ -109,8 +111,8 @@ fn local_step(ranks: &Ranks, x: &Floats, y: &Floats, n: usize, m: usize) -> f32
     requires { ⌜ (n ≤ maxPoints) × (m < maxPoints) ⌝ }
     ensures { λ r. ⌜ r ≡ localStep (viewAt n (now (ranks .entry)) (now (x .entry)) (now (y .entry))) m ⌝ }
 {
-    let u = axis_step(ranks, x, y, n, m, view::PREV_U, view::NEXT_U);
-    let v = axis_step(ranks, x, y, n, m, view::PREV_V, view::NEXT_V);
+    let u = axis_step(ranks, x, y, n, m, offsets::PREV_U, offsets::NEXT_U);
+    let v = axis_step(ranks, x, y, n, m, offsets::PREV_V, offsets::NEXT_V);
     kept_step(mean_step(u, v))
 }
 

@@ -8,7 +8,8 @@ use lib.Ieee.{Float, nan}
 use Rattle.folds.specs.Column.{column}
 use Rattle.folds.proofs.Column.{column-ext, filled, replicate-at}
 use Rattle.folds.specs.Marked.{bit}
-use Rattle.view.specs.View.{View, maxPoints, squareSides}
+use Rattle.offsets.specs.Offsets.{squareSides, places}
+use Rattle.view.specs.View.{View, maxPoints}
 use Rattle.cells.specs.Cell.{Cell}
 use Rattle.marks.specs.Marks.{isSet}
 use Rattle.marks.proofs.Guards.{set-is}
@@ -81,5 +82,5 @@ module _ (w : View) {gate : EdgeGate} where
   pub off-boundary : (cell : ℕ → Cell) → gate ≡ Off → w .count ≤ maxPoints → replicate maxPoints 0 ≡ gateBoundary gate w cell
   off-boundary cell e h = rw (e, blank {A = ℕ} 0 (w .count) h)
 
-  pub on-boundary : (cell : ℕ → Cell) (g : EdgeShapeParams) {sides boundary : List ℕ} → gate ≡ On g → sides ≡ squareSides → boundary ≡ boundaryOf w sides cell → boundary ≡ gateBoundary gate w cell
+  pub on-boundary : (cell : ℕ → Cell) (g : EdgeShapeParams) {sides boundary : List ℕ} → gate ≡ On g → sides ≡ places squareSides → boundary ≡ boundaryOf w sides cell → boundary ≡ gateBoundary gate w cell
   on-boundary cell g e p b = rw (e, b, p)

@@ -8,7 +8,8 @@ use lib.ListN.{getD}
 use lib.Ieee.{Float, nan}
 use Rattle.folds.specs.Column.{column}
 use Rattle.folds.specs.Marked.{bit}
-use Rattle.view.specs.View.{View, maxPoints, squareSides}
+use Rattle.offsets.specs.Offsets.{squareSides, places}
+use Rattle.view.specs.View.{View, maxPoints}
 use Rattle.cells.specs.Cell.{Cell}
 use Rattle.sheet_file.specs.declared.Settings.{Settings}
 use Rattle.sheet_file.specs.declared.EdgeGate.{EdgeGate}
@@ -32,7 +33,7 @@ gateFigures (On g) w = indexFigures g w
 -- whether each rank's index lies on the boundary of the box of its patch of all cells
 abbrev pub gateBoundary : EdgeGate → View → (ℕ → Cell) → List ℕ
 gateBoundary Off w cell = column maxPoints 0 (w .count) (λ (k : ℕ). 0)
-gateBoundary (On g) w cell = boundaryOf w squareSides cell
+gateBoundary (On g) w cell = boundaryOf w (places squareSides) cell
 
 abbrev pub isGated : EdgeGate → Bool
 isGated Off = false

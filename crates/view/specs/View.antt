@@ -1,13 +1,15 @@
 -- What the filters see of a sheet: functions of rank, with no cell numbers. A point's rank is its place in cell order.
 -- Assumes nothing.
 use mathlib.Core.Bool.{Bool, _&&_}
-use mathlib.Core.List.{List, [], _∷_}
+use mathlib.Core.List.{List}
 use Prim.Native.Nat.{ℕ, _+_, _*_, _≤_, _<_}
 use lib.Dec.{T, eqb, ltb}
 use lib.ListN.{getD}
 use lib.Ieee.{Float, nan}
 use lib.Ieee.Scale.{finite}
 use Rattle.folds.specs.Below.{some, tally}
+use Rattle.offsets.specs.declared.Offset.{Offset}
+use Rattle.offsets.specs.Offsets.{own, squareSides, placeOf}
 
 -- the most points of a sheet ("There are more than 2,048 points")
 abbrev pub maxPoints : ℕ
@@ -30,7 +32,7 @@ indicesAt = 27 * maxPoints
 pub record View : Type 0 where
   -- how many points there are
   pub count : ℕ
-  -- at 25 * k + d the rank of the point at offset d from rank k; a number of count or more is none
+  -- at 25 * k and an offset's place the rank of the point at the offset from rank k; a number of count or more is none
   pub near : ℕ → ℕ
   -- the first rank with the same v, and with the same u
   pub row : ℕ → ℕ
@@ -71,37 +73,16 @@ pub record Ready (n : ℕ) (ranks : List ℕ) (xs ys : List Float) : Type 0 wher
   pub finite-x : Finite n xs
   pub finite-y : Finite n ys
 
--- ---- offsets
-
--- Offset (du, dv), each from -2 to 2, has the number 5 * (du + 2) + (dv + 2). The cell itself:
-abbrev pub own : ℕ
-own = 12
-
--- (1, 0), (-1, 0), (0, 1) and (0, -1)
-abbrev pub nextU : ℕ
-nextU = 17
-
-abbrev pub prevU : ℕ
-prevU = 7
-
-abbrev pub nextV : ℕ
-nextV = 13
-
-abbrev pub prevV : ℕ
-prevV = 11
-
--- "Two cells share an edge if they differ by one in u and agree in v, or the other way round": the offsets that lead over a shared edge
-abbrev pub squareSides : List ℕ
-squareSides = prevU ∷ nextU ∷ prevV ∷ nextV ∷ []
+-- ---- what is read of it
 
 module _ (w : View) where
-  -- the rank at offset d from rank k, or a number of count or more
-  abbrev pub rankAt : ℕ → ℕ → ℕ
-  rankAt k d = w .near (25 * k + d)
+  -- the rank at offset o from rank k, or a number of count or more
+  abbrev pub rankAt : ℕ → Offset → ℕ
+  rankAt k o = w .near (25 * k + placeOf o)
 
-  -- there is a point at offset d from rank k
-  abbrev pub present : ℕ → ℕ → Bool
-  present k d = ltb (rankAt k d) (w .count)
+  -- there is a point at offset o from rank k
+  abbrev pub present : ℕ → Offset → Bool
+  present k o = ltb (rankAt k o) (w .count)
 
   -- ranks k and j have one index
   abbrev pub alike : ℕ → ℕ → Bool
@@ -114,4 +95,4 @@ module _ (w : View) where
   -- degree: how many of the four cells that share an edge with rank k's hold a point
   unfoldable pub degreeAt : ℕ → ℕ
   unfolding tally
-  degreeAt k = tally (λ (i : ℕ). present k (getD squareSides i 0)) 4
+  degreeAt k = tally (λ (i : ℕ). present k (getD squareSides i own)) 4

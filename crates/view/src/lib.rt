@@ -1,11 +1,14 @@
 // What the filters see of a sheet, as arrays: the most points, the table of ranks and what is read of it. See specs/View.antt.
+use offsets::Offset;
 ghost use mathlib.Core.Path.{_≡_};
+ghost use mathlib.Core.Bool.{true};
 ghost use mathlib.Core.List.{[]};
 ghost use Prim.Native.Nat.{_+_, _*_, _≤_, _<_};
 ghost use lib.ListN.{getD};
 ghost use Rattle.view.specs.View.{maxPoints, ranksSize, rowsAt, columnsAt, indicesAt, viewAt, degreeAt};
 ghost use lib.Dec.{ltb};
 ghost use Rattle.folds.specs.Marked.{bit};
+ghost use Rattle.offsets.specs.Offsets.{isNear, placeOf};
 
 // Every array with an entry for each point has this length.
 pub const MAX_POINTS: usize = 2048;
@@ -30,17 +33,6 @@ pub const COLUMNS_AT: usize = 26 * MAX_POINTS;
 
 pub const INDICES_AT: usize = 27 * MAX_POINTS;
 
-// Offset (du, dv), each from -2 to 2, has the number 5 * (du + 2) + (dv + 2).
-pub const OWN: usize = 12;
-
-pub const NEXT_U: usize = 17;
-
-pub const PREV_U: usize = 7;
-
-pub const NEXT_V: usize = 13;
-
-pub const PREV_V: usize = 11;
-
 // The number that the specifications use is the code's.
 pub fn max_points() -> usize
     ensures { λ r. ⌜ r ≡ maxPoints ⌝ }
@@ -61,12 +53,20 @@ pub fn wide(x: u16) -> usize
     x as usize
 }
 
-// The rank at offset d from rank k, or none.
-pub fn rank_at(ranks: &Ranks, k: usize, d: usize) -> usize
+// The rank at place d of the 25 round rank k, or none.
+pub fn rank_at_place(ranks: &Ranks, k: usize, d: usize) -> usize
     requires { ⌜ (k < maxPoints) × (d < 25) ⌝ }
     ensures { λ r. ⌜ r ≡ getD (now (ranks .entry)) (25 * k + d) 0 ⌝ }
 {
     wide(ranks[25 * k + d])
+}
+
+// The rank at offset o from rank k, or none.
+pub fn rank_at(ranks: &Ranks, k: usize, o: Offset) -> usize
+    requires { ⌜ (k < maxPoints) × (isNear o ≡ true) ⌝ }
+    ensures { λ r. ⌜ r ≡ getD (now (ranks .entry)) (25 * k + placeOf o) 0 ⌝ }
+{
+    rank_at_place(ranks, k, offsets::place(o))
 }
 
 // The first rank of rank k's row.
@@ -93,12 +93,12 @@ pub fn index_of(ranks: &Ranks, k: usize) -> usize
     wide(ranks[INDICES_AT + k])
 }
 
-// 1 if there is a point at offset d from rank k, else 0.
-fn there(ranks: &Ranks, n: usize, k: usize, d: usize) -> u8
-    requires { ⌜ (k < maxPoints) × (d < 25) ⌝ }
-    ensures { λ r. ⌜ (r ≡ bit (ltb (getD (now (ranks .entry)) (25 * k + d) 0) n)) × (r ≤ 1) ⌝ }
+// 1 if there is a point at offset o from rank k, else 0.
+fn there(ranks: &Ranks, n: usize, k: usize, o: Offset) -> u8
+    requires { ⌜ (k < maxPoints) × (isNear o ≡ true) ⌝ }
+    ensures { λ r. ⌜ (r ≡ bit (ltb (getD (now (ranks .entry)) (25 * k + placeOf o) 0) n)) × (r ≤ 1) ⌝ }
 {
-    if rank_at(ranks, k, d) < n { 1 } else { 0 }
+    if rank_at(ranks, k, o) < n { 1 } else { 0 }
 }
 
 // How many of the four cells that share an edge with rank k's hold a point.
@@ -106,8 +106,8 @@ pub fn degree_at(ranks: &Ranks, n: usize, k: usize) -> u8
     requires { ⌜ k < maxPoints ⌝ }
     ensures { λ r. ⌜ r ≡ degreeAt (viewAt n (now (ranks .entry)) [] []) k ⌝ }
 {
-    there(ranks, n, k, PREV_U)
-        + there(ranks, n, k, NEXT_U)
-        + there(ranks, n, k, PREV_V)
-        + there(ranks, n, k, NEXT_V)
+    there(ranks, n, k, offsets::PREV_U)
+        + there(ranks, n, k, offsets::NEXT_U)
+        + there(ranks, n, k, offsets::PREV_V)
+        + there(ranks, n, k, offsets::NEXT_V)
 }

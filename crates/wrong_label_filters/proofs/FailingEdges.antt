@@ -24,7 +24,10 @@ use Rattle.float.specs.Constants.{overlongRatio, globalOverlongRatio}
 use Rattle.median.specs.Median.{medianOf}
 use Rattle.median.proofs.Median.{over-median-of}
 use Rattle.median.specs.Packed.{positives}
-use Rattle.view.specs.View.{View, maxPoints, viewAt, own, rankAt, present}
+use Rattle.offsets.specs.declared.Offset.{Offset}
+use Rattle.offsets.specs.Offsets.{own, isNear, placeOf, offsetOf}
+use Rattle.offsets.proofs.Places.{offset-near}
+use Rattle.view.specs.View.{View, maxPoints, viewAt, rankAt, present}
 use Rattle.edges.specs.declared.Edge.{Edge}
 use Rattle.edges.specs.Edges.{edgeAt, side, partOf, edgesOf, edgePlace}
 use Rattle.edges.proofs.Laws.{edge-part}
@@ -50,9 +53,9 @@ module _ (w : View) (E : ℕ → Edge) where
   sheet-is = refl
 
   module _ (k : ℕ) where
-    -- the edge at offset i from rank k
+    -- the edge at place i of the 25 round rank k
     abbrev at : ℕ → Edge
-    at i = E (rankAt w k i)
+    at i = E (rankAt w k (offsetOf i))
 
     abbrev sumX : ℕ → Float
     sumX j = sumOf (inWindow w E k) (λ i. at i .ux) j
@@ -102,7 +105,10 @@ module _ (w : View) (E : ℕ → Edge) where
 
     in-positive : (i : ℕ) → inWindow w E k i ≡ true → lt zeroF (at i .len) ≡ true
     unfolding inWindow
-    in-positive i p = let there = positiveEdge w E (rankAt w k i) in and-right (present w k i) there (and-right (not (eqb i own)) (present w k i && there) p)
+    in-positive i p =
+        let o = offsetOf i in
+        let there = positiveEdge w E (rankAt w k o) in
+        and-right (present w k o) there (and-right (not (eqb i (placeOf own))) (present w k o && there) p)
 
     local : leb 5 (tally (inWindow w E k) 25) ≡ true → overlong overlongRatio (windowLens w E k) (E k .len) ≡ ltb (tally (inWindow w E k) 25 / 2) (unders (E k .len) 25)
     local h =
@@ -137,28 +143,32 @@ column-lens E n l e =
 -- Two edges whose windows hold the same edges at the same offsets: rank k among the edges E of the one sheet, rank l among F of the other.
 pub record Alike (w v : View) (E F : ℕ → Edge) (k l : ℕ) : Type 0 where
   pub own-edge : E k ≡ F l
-  pub there : (j : ℕ) → j < 25 → present w k j ≡ present v l j
-  pub edges : (j : ℕ) → j < 25 → present v l j ≡ true → E (rankAt w k j) ≡ F (rankAt v l j)
+  pub there : (o : Offset) → isNear o ≡ true → present w k o ≡ present v l o
+  pub edges : (o : Offset) → isNear o ≡ true → present v l o ≡ true → E (rankAt w k o) ≡ F (rankAt v l o)
 
 module _ (w v : View) (E F : ℕ → Edge) (k l : ℕ) (a : Alike w v E F k l) where
   same-window : (j : ℕ) → j < 25 → inWindow w E k j ≡ inWindow v F l j
   unfolding inWindow
-  same-window j h = ap (λ b. not (eqb j own) && b) (rw (a .there j h) (and-under (present v l j) (λ p. rw (a .edges j h p))))
+  same-window j h =
+      let o = offsetOf j in
+      let near = offset-near j h in
+      ap (λ b. not (eqb j (placeOf own)) && b) (rw (a .there o near) (and-under (present v l o) (λ p. rw (a .edges o near p))))
 
-  within : (j : ℕ) → j < 25 → inWindow v F l j ≡ true → E (rankAt w k j) ≡ F (rankAt v l j)
+  within : (j : ℕ) → j < 25 → inWindow v F l j ≡ true → E (rankAt w k (offsetOf j)) ≡ F (rankAt v l (offsetOf j))
   unfolding inWindow
   within j h p =
-      let there = positiveEdge v F (rankAt v l j) in
-      a .edges j h (and-left (present v l j) there (and-right (not (eqb j own)) (present v l j && there) p))
+      let o = offsetOf j in
+      let there = positiveEdge v F (rankAt v l o) in
+      a .edges o (offset-near j h) (and-left (present v l o) there (and-right (not (eqb j (placeOf own))) (present v l o && there) p))
 
   same-lens : windowLens w E k ≡ windowLens v F l
   same-lens =
       lens-are w E k
-      ∙ listed-ext (inWindow w E k) (inWindow v F l) (λ i. E (rankAt w k i) .len) (λ i. F (rankAt v l i) .len) 25 same-window (λ i g p. ap (λ e. e .len) (within i g p))
+      ∙ listed-ext (inWindow w E k) (inWindow v F l) (λ i. E (rankAt w k (offsetOf i)) .len) (λ i. F (rankAt v l (offsetOf i)) .len) 25 same-window (λ i g p. ap (λ e. e .len) (within i g p))
       ∙ sym (lens-are v F l)
 
-  same-sum : (part : Edge → Float) → sumOf (inWindow w E k) (λ i. part (E (rankAt w k i))) 25 ≡ sumOf (inWindow v F l) (λ i. part (F (rankAt v l i))) 25
-  same-sum part = sum-ext (inWindow w E k) (inWindow v F l) (λ i. part (E (rankAt w k i))) (λ i. part (F (rankAt v l i))) 25 same-window (λ i g p. ap part (within i g p))
+  same-sum : (part : Edge → Float) → sumOf (inWindow w E k) (λ i. part (E (rankAt w k (offsetOf i)))) 25 ≡ sumOf (inWindow v F l) (λ i. part (F (rankAt v l (offsetOf i)))) 25
+  same-sum part = sum-ext (inWindow w E k) (inWindow v F l) (λ i. part (E (rankAt w k (offsetOf i)))) (λ i. part (F (rankAt v l (offsetOf i)))) 25 same-window (λ i g p. ap part (within i g p))
 
   same-x : windowX w E k ≡ windowX v F l
   same-x = x-is w E k ∙ same-sum (λ e. e .ux) ∙ sym (x-is v F l)
@@ -178,12 +188,12 @@ module _ (w v : View) (E F : ℕ → Edge) (k l : ℕ) (a : Alike w v E F k l) w
 same-fails : (w : View) (E F : ℕ → Edge) → ((k : ℕ) → k < w .count → E k ≡ F k) → (k : ℕ) → k < w .count → fails w E k ≡ fails w F k
 same-fails w E F same k l =
     same-verdict w w E F k k
-    (record { own-edge = same k l; there = λ j h. refl; edges = λ j h p. same (rankAt w k j) (ltb-true (rankAt w k j) (w .count) p) })
+    (record { own-edge = same k l; there = λ o h. refl; edges = λ o h p. same (rankAt w k o) (ltb-true (rankAt w k o) (w .count) p) })
     (sheet-is w E ∙ listed-ext (positiveEdge w E) (positiveEdge w F) (λ i. E i .len) (λ i. F i .len) (w .count) (λ i g. rw (same i g)) (λ i g p. ap (λ e. e .len) (same i g)) ∙ sym (sheet-is w F))
 
 -- ---- the marks of a direction
 
-module _ (w : View) (o : ℕ) where
+module _ (w : View) (o : Offset) where
   none : (k : ℕ) → present w k o ≡ false → positiveEdge w (edgeAt w o) k ≡ false
   unfolding edgeAt lt ofBits
   none k h = rw h
@@ -249,7 +259,7 @@ module _ (n : ℕ) (ranks : List ℕ) (way : ℕ) (edges : List Float) where
     -- only the neighbours of the view count
     same : (k : ℕ) → fails v (tableEdge edges way) k ≡ fails w (tableEdge edges way) k
     same k =
-        same-verdict v w (tableEdge edges way) (tableEdge edges way) k k (record { own-edge = refl; there = λ j h. refl; edges = λ j h p. refl })
+        same-verdict v w (tableEdge edges way) (tableEdge edges way) k k (record { own-edge = refl; there = λ o h. refl; edges = λ o h p. refl })
         (sheet-is v (tableEdge edges way) ∙ sym (sheet-is w (tableEdge edges way)))
 
     pub marks-are : {a b : List ℕ} → Marked (λ (m : ℕ). some (λ (k : ℕ). hits k m) n) a b → Marked (λ (m : ℕ). ltb m n && edgeMark w (side way) m) a b

@@ -11,7 +11,8 @@ use Rattle.folds.proofs.Below.{or-right-first}
 use Rattle.folds.specs.Column.{column}
 use Rattle.folds.specs.Marked.{bit, Marked}
 use Rattle.folds.proofs.Marked.{marked-then}
-use Rattle.view.specs.View.{View, maxPoints, nextU, nextV}
+use Rattle.offsets.specs.Offsets.{nextU, nextV}
+use Rattle.view.specs.View.{View, maxPoints}
 use Rattle.marks.specs.Marks.{indexMarks}
 use Rattle.marks.proofs.Guards.{marked-as-column, index-marks}
 use Rattle.close_pairs.specs.Close.{closeMark}

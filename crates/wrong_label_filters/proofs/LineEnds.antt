@@ -18,7 +18,9 @@ use Rattle.folds.proofs.Column.{replicate-at}
 use Rattle.folds.specs.Marked.{Marked}
 use Rattle.folds.proofs.Marked.{marked-as, marked-then}
 use Rattle.float.specs.Scalar.{normOf}
-use Rattle.view.specs.View.{View, maxPoints, rowsAt, columnsAt, viewAt, Ranked, rankAt, degreeAt, nextU, prevU, nextV, prevV}
+use Rattle.offsets.specs.declared.Offset.{Offset}
+use Rattle.offsets.specs.Offsets.{nextU, prevU, nextV, prevV}
+use Rattle.view.specs.View.{View, maxPoints, rowsAt, columnsAt, viewAt, Ranked, rankAt, degreeAt}
 use Rattle.marks.proofs.Guards.{guard, past}
 use Rattle.wrong_label_filters.specs.Frontier.{kink, kinkAt, lastInLine, endMark, frontierMark}
 use Rattle.wrong_label_filters.specs.Lasts.{lineStart, lineMark, Lasts}
@@ -36,7 +38,7 @@ module _ (n : ℕ) (ranks : List ℕ) (xs ys : List Float) where
   abbrev pub between : ℕ → ℕ → Float
   between a b = normOf (getD xs b nan ⊖ getD xs a nan) (getD ys b nan ⊖ getD ys a nan)
 
-  pub kink-is : (inward k a b c : ℕ) → a ≡ rankAt w k inward → b ≡ rankAt w a inward → c ≡ rankAt w b inward
+  pub kink-is : (inward : Offset) (k a b c : ℕ) → a ≡ rankAt w k inward → b ≡ rankAt w a inward → c ≡ rankAt w b inward
       → kinkAt w inward k ≡ ltb a n && (ltb b n && (ltb c n && (leb (degreeAt (viewAt n ranks [] []) k) 2 && kink (between k a) (between a b) (between b c))))
   unfolding kinkAt
   kink-is inward k a b c p q r = rw (r, q, p, ← degree-same k)

@@ -8,7 +8,9 @@ use Rattle.folds.specs.Arith.{_⊖_, _⊗_, _⊘_, zeroF}
 use Rattle.folds.specs.Below.{last}
 use Rattle.float.specs.Constants.{two, frontierTolerance}
 use Rattle.float.specs.Scalar.{normOf}
-use Rattle.view.specs.View.{View, rankAt, present, degreeAt, nextU, prevU, nextV, prevV}
+use Rattle.offsets.specs.declared.Offset.{Offset}
+use Rattle.offsets.specs.Offsets.{nextU, prevU, nextV, prevV}
+use Rattle.view.specs.View.{View, rankAt, present, degreeAt}
 
 -- the distance from rank a to rank b
 unfoldable pub distance : View → ℕ → ℕ → Float
@@ -25,7 +27,7 @@ unfolding last
 lastInLine w line k = last (λ j. eqb (line j) (line k)) 0 (w .count)
 
 -- the four cells from rank k inward follow without a gap, and their spacing has a kink at rank k, whose degree is at most 2
-unfoldable pub kinkAt : View → ℕ → ℕ → Bool
+unfoldable pub kinkAt : View → Offset → ℕ → Bool
 unfolding degreeAt distance kink
 kinkAt w inward k =
     let a = rankAt w k inward in
@@ -34,7 +36,7 @@ kinkAt w inward k =
     present w k inward && (present w a inward && (present w b inward && (leb (degreeAt w k) 2 && kink (distance w k a) (distance w a b) (distance w b c))))
 
 -- the same, and rank k is the end of its line, which `endOf` gives
-abbrev pub endMark : View → (ℕ → ℕ) → ℕ → ℕ → Bool
+abbrev pub endMark : View → (ℕ → ℕ) → Offset → ℕ → Bool
 endMark w endOf inward k = eqb (endOf k) k && kinkAt w inward k
 
 -- both ends of each row, then of each column

@@ -12,7 +12,9 @@ use Rattle.folds.specs.Below.{some, sumOf}
 use Rattle.folds.specs.Lists.{listed}
 use Rattle.float.specs.Constants.{overlongRatio, globalOverlongRatio}
 use Rattle.float.specs.Scalar.{normOf, over30Degrees}
-use Rattle.view.specs.View.{View, own, rankAt, present}
+use Rattle.offsets.specs.declared.Offset.{Offset}
+use Rattle.offsets.specs.Offsets.{own, placeOf, offsetOf}
+use Rattle.view.specs.View.{View, rankAt, present}
 use Rattle.edges.specs.declared.Edge.{Edge}
 use Rattle.edges.specs.Edges.{edgeAt}
 use Rattle.median.specs.Median.{medianOf}
@@ -21,15 +23,17 @@ module _ (w : View) (E : ℕ → Edge) where
   abbrev pub positiveEdge : ℕ → Bool
   positiveEdge k = lt zeroF (E k .len)
 
-  -- the point at offset j from rank k starts an edge of rank k's window
+  -- In what follows j is a place: the window is all 25 places in their order, u outer, v inner, rising, so no list of offsets is written down.
+
+  -- the point at place j of the 25 round rank k starts an edge of rank k's window
   unfoldable pub inWindow : ℕ → ℕ → Bool
   unfolding lt ofBits
-  inWindow k j = not (eqb j own) && (present w k j && positiveEdge (rankAt w k j))
+  inWindow k j = not (eqb j (placeOf own)) && (present w k (offsetOf j) && positiveEdge (rankAt w k (offsetOf j)))
 
   -- the lengths of the window, and of the whole sheet
   unfoldable pub windowLens : ℕ → List Float
   unfolding listed inWindow
-  windowLens k = listed (inWindow k) (λ j. E (rankAt w k j) .len) 25
+  windowLens k = listed (inWindow k) (λ j. E (rankAt w k (offsetOf j)) .len) 25
 
   unfoldable pub sheetLens : List Float
   unfolding listed lt ofBits
@@ -38,11 +42,11 @@ module _ (w : View) (E : ℕ → Edge) where
   -- the sum of the window's unit vectors, u outer, v inner, rising
   unfoldable pub windowX : ℕ → Float
   unfolding sumOf inWindow
-  windowX k = sumOf (inWindow k) (λ j. E (rankAt w k j) .ux) 25
+  windowX k = sumOf (inWindow k) (λ j. E (rankAt w k (offsetOf j)) .ux) 25
 
   unfoldable pub windowY : ℕ → Float
   unfolding sumOf inWindow
-  windowY k = sumOf (inWindow k) (λ j. E (rankAt w k j) .uy) 25
+  windowY k = sumOf (inWindow k) (λ j. E (rankAt w k (offsetOf j)) .uy) 25
 
 -- longer than the ratio times the median
 unfoldable pub overlong : Float → List Float → Float → Bool
@@ -65,10 +69,10 @@ module _ (w : View) (E : ℕ → Edge) where
       (leb 8 (length (sheetLens w E)) && overlong globalOverlongRatio (sheetLens w E) (E k .len))
 
   -- rank m is an end of an edge in the direction o that fails
-  unfoldable pub endOfFailing : ℕ → ℕ → Bool
+  unfoldable pub endOfFailing : Offset → ℕ → Bool
   unfolding some fails
   endOfFailing o m = some (λ k. (eqb k m || eqb (rankAt w k o) m) && fails k) (w .count)
 
 -- rank m is marked by an edge in the direction o
-abbrev pub edgeMark : View → ℕ → ℕ → Bool
+abbrev pub edgeMark : View → Offset → ℕ → Bool
 edgeMark w o m = endOfFailing w (edgeAt w o) o m

@@ -7,17 +7,13 @@ use Prim.Native.Nat.{ℕ, _<_}
 use lib.Dec.{eqb}
 use lib.ListN.{length, getD}
 use Rattle.folds.specs.Below.{last}
-use Rattle.view.specs.View.{View, maxPoints, prevU, prevV}
-use Rattle.edges.specs.Edges.{side}
+use Rattle.view.specs.View.{View, maxPoints}
+use Rattle.edges.specs.Edges.{side, backSide}
 use Rattle.wrong_label_filters.specs.Frontier.{lastInLine, endMark}
 
 -- the first rank of rank k's line, which stands for the line
 abbrev pub lineStart : View → ℕ → ℕ → ℕ
 lineStart w way k = cond (eqb way 0) (w .row k) (w .column k)
-
--- the offset that leads inward from the last rank of a line
-abbrev pub backSide : ℕ → ℕ
-backSide way = cond (eqb way 0) prevU prevV
 
 -- rank k is marked as the first or as the last of its line
 unfoldable pub lineMark : View → ℕ → ℕ → Bool

@@ -11,6 +11,8 @@ use Rattle.folds.specs.Below.{tally, sumOf}
 use Rattle.folds.specs.Lists.{listed}
 use Rattle.float.specs.Constants.{overlongRatio, globalOverlongRatio}
 use Rattle.median.specs.Median.{medianOf}
+use Rattle.offsets.specs.declared.Offset.{Offset}
+use Rattle.offsets.specs.Offsets.{offsetOf}
 use Rattle.view.specs.View.{View, maxPoints, rankAt, present}
 use Rattle.edges.specs.declared.Edge.{Edge}
 use Rattle.edges.specs.Edges.{edgePlace}
@@ -38,23 +40,23 @@ withEdge t u x y v =
     }
 
 module _ (w : View) (E : ℕ → Edge) (k : ℕ) (len : Float) where
-  -- 1.5 times the length of the edge at offset j is under len
+  -- 1.5 times the length of the edge at place j is under len
   abbrev pub isUnder : ℕ → Bool
-  isUnder j = lt (overlongRatio ⊗ E (rankAt w k j) .len) len
+  isUnder j = lt (overlongRatio ⊗ E (rankAt w k (offsetOf j)) .len) len
 
-  -- rank k's window up to offset j: how many edges, how many times 1.5 are under len, and the sum of the unit vectors
+  -- rank k's window up to place j: how many edges, how many times 1.5 are under len, and the sum of the unit vectors
   unfoldable pub windowTo : ℕ → Window
   windowTo j =
       record {
         count = tally (inWindow w E k) j;
         under = tally (λ i. inWindow w E k i && isUnder i) j;
-        sx = sumOf (inWindow w E k) (λ i. E (rankAt w k i) .ux) j;
-        sy = sumOf (inWindow w E k) (λ i. E (rankAt w k i) .uy) j;
+        sx = sumOf (inWindow w E k) (λ i. E (rankAt w k (offsetOf i)) .ux) j;
+        sy = sumOf (inWindow w E k) (λ i. E (rankAt w k (offsetOf i)) .uy) j;
       }
 
-  -- a window with the edge at offset j, if that is one of rank k's window
+  -- a window with the edge at place j, if that is one of rank k's window
   abbrev pub withEdgeAt : ℕ → Window → Window
-  withEdgeAt j v = withEdge (inWindow w E k j) (isUnder j) (E (rankAt w k j) .ux) (E (rankAt w k j) .uy) v
+  withEdgeAt j v = withEdge (inWindow w E k j) (isUnder j) (E (rankAt w k (offsetOf j)) .ux) (E (rankAt w k (offsetOf j)) .uy) v
 
 -- the positive lengths of the first n edges
 abbrev pub positiveLens : (ℕ → Edge) → ℕ → List Float
@@ -73,5 +75,5 @@ pub record Asked (n : ℕ) (edges : List Float) (way k total : ℕ) (l : Limit) 
   pub limits : Limits (tableEdge edges way) n l
 
 -- the edge from rank k over the offset o leads to a point, it fails, and m is one of its ends
-abbrev pub failingEnds : View → ℕ → (ℕ → Bool) → ℕ → ℕ → Bool
+abbrev pub failingEnds : View → Offset → (ℕ → Bool) → ℕ → ℕ → Bool
 failingEnds w o t k m = present w k o && (t k && (eqb k m || eqb (rankAt w k o) m))

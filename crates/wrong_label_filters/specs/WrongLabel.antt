@@ -7,7 +7,8 @@ use lib.Ieee.{Float}
 use Rattle.folds.specs.Below.{some}
 use Rattle.folds.specs.Column.{column}
 use Rattle.folds.specs.Marked.{bit}
-use Rattle.view.specs.View.{maxPoints, View, indexHas, nextU, nextV}
+use Rattle.offsets.specs.Offsets.{nextU, nextV}
+use Rattle.view.specs.View.{maxPoints, View, indexHas}
 use Rattle.edges.specs.Edges.{edgeAt}
 use Rattle.wrong_label_filters.specs.Judged.{endOfFailing, edgeMark}
 use Rattle.close_pairs.specs.Close.{closeMark}

@@ -1,14 +1,13 @@
 // Ends of rows and columns whose spacing has a kink.
 use float::constants::FRONTIER_TOLERANCE;
+use offsets::Offset;
 use view::Floats;
 use view::MAX_POINTS;
 use view::Marks;
-use view::PREV_U;
-use view::PREV_V;
 use view::Places;
 use view::Ranks;
 ghost use mathlib.Core.Path.{_≡_};
-ghost use mathlib.Core.Bool.{cond, not, _&&_, _||_};
+ghost use mathlib.Core.Bool.{true, cond, not, _&&_, _||_};
 ghost use mathlib.Core.List.{[]};
 ghost use Prim.Native.Nat.{ℕ, _+_, _≤_, _<_};
 ghost use lib.Dec.{eqb, ltb};
@@ -17,9 +16,10 @@ ghost use lib.Ieee.{nan};
 ghost use Rattle.folds.specs.Arith.{_⊖_};
 ghost use Rattle.folds.specs.Marked.{Marked};
 ghost use Rattle.float.specs.Scalar.{normOf};
+ghost use Rattle.offsets.specs.Offsets.{isNear};
 ghost use Rattle.view.specs.View.{maxPoints, rowsAt, columnsAt, viewAt, Ranked};
 ghost use Rattle.wrong_label_filters.specs.Frontier.{kink, kinkAt, frontierMark};
-ghost use Rattle.wrong_label_filters.specs.Lasts.{lineStart, backSide, lineMark, Lasts};
+ghost use Rattle.wrong_label_filters.specs.Lasts.{lineStart, lineMark, Lasts};
 
 // The distance from rank a to rank b.
 fn rank_distance(x: &Floats, y: &Floats, a: usize, b: usize) -> f32
@@ -39,8 +39,8 @@ fn has_kink(e0: f32, e1: f32, e2: f32) -> bool
 }
 
 // Whether four cells follow each other inward from rank k, with a kink there.
-fn kink_at(ranks: &Ranks, x: &Floats, y: &Floats, n: usize, inward: usize, k: usize) -> bool
-    requires { ⌜ (n ≤ maxPoints) × (inward < 25) × (k < n) ⌝ }
+fn kink_at(ranks: &Ranks, x: &Floats, y: &Floats, n: usize, inward: Offset, k: usize) -> bool
+    requires { ⌜ (n ≤ maxPoints) × (isNear inward ≡ true) × (k < n) ⌝ }
     ensures { λ r. ⌜ r ≡ kinkAt (viewAt n (now (ranks .entry)) (now (x .entry)) (now (y .entry))) inward k ⌝ }
 {
     let a = view::rank_at(ranks, k, inward);
@@ -72,10 +72,10 @@ fn end_at(
     y: &Floats,
     n: usize,
     end: usize,
-    inward: usize,
+    inward: Offset,
     k: usize,
 ) -> bool
-    requires { ⌜ (n ≤ maxPoints) × (inward < 25) × (k < n) ⌝ }
+    requires { ⌜ (n ≤ maxPoints) × (isNear inward ≡ true) × (k < n) ⌝ }
     ensures { λ r. ⌜ r ≡ eqb end k && kinkAt (viewAt n (now (ranks .entry)) (now (x .entry)) (now (y .entry))) inward k ⌝ }
 {
     if end == k {
@@ -116,13 +116,6 @@ fn lasts_of(ranks: &Ranks, n: usize, way: usize) -> Places
     lasts
 }
 
-// The offset that leads inward from the last rank of a line.
-fn back_of(way: usize) -> usize
-    ensures { λ r. ⌜ (r ≡ backSide way) × (r < 25) ⌝ }
-{
-    if way == 0 { PREV_U } else { PREV_V }
-}
-
 // Whether rank k is no end of a line with these ends.
 fn is_inner(first: usize, last: usize, k: usize) -> bool
     ensures { λ r. ⌜ r ≡ not (eqb first k || eqb last k) ⌝ }
@@ -154,7 +147,7 @@ fn line_end_at(
     if end_at(ranks, x, y, n, first, edges::side_of(way), k) {
         return true;
     }
-    end_at(ranks, x, y, n, last, back_of(way), k)
+    end_at(ranks, x, y, n, last, edges::back_of(way), k)
 }
 
 // Marks both ends of each row (way 0) or column that have a kink there.

@@ -5,7 +5,6 @@ use float::constants::OVERLONG_RATIO;
 use view::Floats;
 use view::MAX_POINTS;
 use view::Marks;
-use view::OWN;
 use view::Ranks;
 ghost use mathlib.Core.Path.{_≡_};
 ghost use mathlib.Core.Bool.{true, _&&_, _||_};
@@ -55,7 +54,7 @@ fn with_edge(v: Window, under: bool, ux: f32, uy: f32) -> Window
     }
 }
 
-// The window v with the edge that starts at offset j from rank k, if that is one of the window of rank k's edge, which has the length own.
+// The window v with the edge that starts at place j round rank k, if that is one of the window of rank k's edge, which has the length own.
 fn with_edge_at(
     v: Window,
     ranks: &Ranks,
@@ -69,10 +68,10 @@ fn with_edge_at(
     requires { ⌜ (n ≤ maxPoints) × (way < 2) × (k < n) × (j < 25) × (v .count ≤ j) × (v .under ≤ j) ⌝ }
     ensures { λ r. ⌜ r ≡ withEdgeAt (viewAt n (now (ranks .entry)) [] []) (tableEdge (now (edges .entry)) way) k own j v ⌝ }
 {
-    if j == OWN {
+    if j == offsets::place(offsets::OWN) {
         return v;
     }
-    let e = view::rank_at(ranks, k, j);
+    let e = view::rank_at_place(ranks, k, j);
     if n <= e {
         return v;
     }

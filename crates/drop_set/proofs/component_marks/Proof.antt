@@ -1,13 +1,13 @@
 -- `drop_set::component_marks` meets its contract. Assumes nothing.
 use Rattle.view.specs.View.{viewAt}
-use Rattle.patches.proofs.Lattices.{square-offsets}
+use Rattle.patches.proofs.Lattices.{square-places}
 use Rattle.drop_set.proofs.Laws.{joined-on, joined-off}
 use borrow.Author.Needs.{needs}
 use Rattle.drop_set.proofs.component_marks.Statement.{statement}
 use Rattle.drop_set.proofs.component_marks.Tie as tie
 
 largest-component-filter-requires : tie.Need-largest-component-filter-requires
-largest-component-filter-requires c κs = (c .before .before .before .pre, square-offsets _ (c .before .square-sides .ensures))
+largest-component-filter-requires c κs = (c .before .before .before .pre, square-places _ (c .before .square-sides .ensures))
 
 returns : tie.Need-returns
 returns c xs ys =

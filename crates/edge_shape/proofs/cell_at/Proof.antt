@@ -1,22 +1,23 @@
 use Rattle.edge_shape.proofs.Laws.{corners, no-across, no-down, cell-is}
 use Rattle.view.specs.View.{maxPoints}
 use Prim.Native.Nat.{_<_}
+use mathlib.Core.Path.{refl}
 use native.Mathlib.Omega.{arith}
 use borrow.Author.Needs.{needs}
 use Rattle.edge_shape.proofs.cell_at.Statement.{statement}
 use Rattle.edge_shape.proofs.cell_at.Tie as tie
 
 onward-requires : tie.Need-onward-requires
-onward-requires c κs = (c .pre .ranked .few, omega arith)
+onward-requires c κs = (c .pre .ranked .few, refl)
 
 onward-requires-2 : tie.Need-onward-requires-2
-onward-requires-2 c κs = (c .before .pre .ranked .few, omega arith)
+onward-requires-2 c κs = (c .before .pre .ranked .few, refl)
 
 onward-requires-3 : tie.Need-onward-requires-3
-onward-requires-3 c κs = (c .before .before .pre .ranked .few, omega arith)
+onward-requires-3 c κs = (c .before .before .pre .ranked .few, refl)
 
 onward-requires-4 : tie.Need-onward-requires-4
-onward-requires-4 c κs = (c .before .before .before .pre .ranked .few, omega arith)
+onward-requires-4 c κs = (c .before .before .before .pre .ranked .few, refl)
 
 returns : tie.Need-returns
 returns c = let d = c .before in let r = d .before .before .before in

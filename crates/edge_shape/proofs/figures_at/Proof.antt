@@ -1,6 +1,7 @@
 use Rattle.edge_shape.proofs.Laws.{degree-seen, figures-is}
 use Rattle.view.specs.View.{viewAt, maxPoints}
 use Prim.Native.Nat.{_<_}
+use mathlib.Core.Path.{refl}
 use native.Mathlib.Omega.{arith}
 use borrow.Author.Needs.{needs}
 use Rattle.edge_shape.proofs.figures_at.Statement.{statement}
@@ -20,25 +21,25 @@ continuation-at-requires-2 : tie.Need-continuation-at-requires-2
 continuation-at-requires-2 c κs = (c .before .before .pre .0, omega arith, c .before .before .pre .1)
 
 rank-at-requires : tie.Need-rank-at-requires
-rank-at-requires c κs = (place (c .before .before .before), omega arith)
+rank-at-requires c κs = (place (c .before .before .before), refl)
 
 cell-at-requires : tie.Need-cell-at-requires
 cell-at-requires c κs = c .before .before .before .before .pre .0
 
 rank-at-requires-2 : tie.Need-rank-at-requires-2
-rank-at-requires-2 c κs = (place (c .before .before .before .before .before), omega arith)
+rank-at-requires-2 c κs = (place (c .before .before .before .before .before), refl)
 
 cell-at-requires-2 : tie.Need-cell-at-requires-2
 cell-at-requires-2 c κs = c .before .before .before .before .before .before .pre .0
 
 rank-at-requires-3 : tie.Need-rank-at-requires-3
-rank-at-requires-3 c κs = (place (c .before .before .before .before .before .before .before), omega arith)
+rank-at-requires-3 c κs = (place (c .before .before .before .before .before .before .before), refl)
 
 cell-at-requires-3 : tie.Need-cell-at-requires-3
 cell-at-requires-3 c κs = c .before .before .before .before .before .before .before .before .pre .0
 
 rank-at-requires-4 : tie.Need-rank-at-requires-4
-rank-at-requires-4 c κs = (place (c .before .before .before .before .before .before .before .before .before), omega arith)
+rank-at-requires-4 c κs = (place (c .before .before .before .before .before .before .before .before .before), refl)
 
 cell-at-requires-4 : tie.Need-cell-at-requires-4
 cell-at-requires-4 c κs = c .before .before .before .before .before .before .before .before .before .before .pre .0

@@ -30,10 +30,10 @@ loop-holds c =
     let b = c .before .before .before in
     (omega arith, omega (arith, b .pre .2 .ranks (b .args .head) (b .pre .1), c .wide .ensures), expand-start (b .pre .2) (b .pre .1) (c .wide .ensures))
 
-rank-at-requires : tie.Need-rank-at-requires Inv-loop μ-loop
-rank-at-requires c κs =
+rank-at-place-requires : tie.Need-rank-at-place-requires Inv-loop μ-loop
+rank-at-place-requires c κs =
     let l = c .before .before .before in
-    (l .loop .inv .1, omega (arith, c .offset .ensures, l .before .before .before .before .pre .0 (l .loop .d) (omega arith)))
+    (l .loop .inv .1, omega (arith, c .as-place .ensures, l .before .before .before .before .pre .0 (l .loop .d) (omega arith)))
 
 visit-requires : tie.Need-visit-requires Inv-loop μ-loop
 visit-requires c κs = let l = c .before .before .before .before .before .before .before in l .loop .inv .2 .so-far .list
@@ -43,7 +43,7 @@ loop-again c =
     let w = c .before .before .before .before in
     let l = w .before .before .before .before in
     let a = l .before .before .before .before .args in
-    let same = w .rank-at .ensures ∙ ap (λ (o : ℕ). getD (a .ranks .now) (25 * l .before .wide .result + o) 0) (w .before .offset .ensures) in
+    let same = w .rank-at-place .ensures ∙ ap (λ (o : ℕ). getD (a .ranks .now) (25 * l .before .wide .result + o) 0) (w .before .as-place .ensures) in
     (omega arith, l .loop .inv .1, expand-more (l .loop .inv .2) (omega arith) same (c .visit .ensures))
 
 returns : tie.Need-returns Inv-loop μ-loop
@@ -53,4 +53,4 @@ pub expand-spec : {M : Type 1} → statement M
 expand-spec =
     tie.close
     (tie.spec Inv-loop μ-loop mul-wide element-copy-out-wide (λ c κs. search needs) loop-holds (λ c. search needs) (λ c κs. search needs)
-    rank-at-requires visit-requires (λ c. search needs) (λ c. search needs) loop-again returns)
+    rank-at-place-requires visit-requires (λ c. search needs) (λ c. search needs) loop-again returns)

@@ -1,5 +1,6 @@
 use Rattle.step.specs.Step.{localStep, axisStep, meanStep, keptStep}
-use Rattle.view.specs.View.{View, prevU, nextU, prevV, nextV}
+use Rattle.offsets.specs.Offsets.{prevU, nextU, prevV, nextV}
+use Rattle.view.specs.View.{View}
 use mathlib.Core.Path.{_≡_, refl}
 use Prim.Native.Nat.{ℕ}
 use borrow.Author.Needs.{needs}

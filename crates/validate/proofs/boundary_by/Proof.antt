@@ -1,14 +1,14 @@
 -- `validate::boundary_by` meets its contract. Assumes nothing.
 use Rattle.view.specs.View.{viewAt}
 use Rattle.cells.specs.Cell.{cellsAt}
-use Rattle.patches.proofs.Lattices.{square-offsets}
+use Rattle.patches.proofs.Lattices.{square-places}
 use Rattle.validate.proofs.Stages.{off-boundary, on-boundary}
 use borrow.Author.Needs.{needs}
 use Rattle.validate.proofs.boundary_by.Statement.{statement}
 use Rattle.validate.proofs.boundary_by.Tie as tie
 
 boundary-requires : tie.Need-boundary-requires
-boundary-requires c κs = let p = c .before .before .before .before .before .pre in (p .0, square-offsets _ (c .before .square-sides .ensures), p .1)
+boundary-requires c κs = let p = c .before .before .before .before .before .pre in (p .0, square-places _ (c .before .square-sides .ensures), p .1)
 
 returns : tie.Need-returns
 returns c xs ys =

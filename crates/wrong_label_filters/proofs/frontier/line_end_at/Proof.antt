@@ -5,9 +5,9 @@ use native.Mathlib.Omega.{arith}
 use borrow.Author.Needs.{needs}
 use lib.Dec.{eqb}
 use Rattle.view.specs.View.{View, viewAt, maxPoints}
-use Rattle.edges.specs.Edges.{side}
+use Rattle.edges.specs.Edges.{side, backSide}
 use Rattle.wrong_label_filters.specs.Frontier.{lastInLine, kinkAt}
-use Rattle.wrong_label_filters.specs.Lasts.{lineStart, backSide, lineMark}
+use Rattle.wrong_label_filters.specs.Lasts.{lineStart, lineMark}
 use Rattle.wrong_label_filters.proofs.LineEnds.{line-below, last-is}
 use Rattle.wrong_label_filters.proofs.frontier.line_end_at.Statement.{statement}
 use Rattle.wrong_label_filters.proofs.frontier.line_end_at.Tie as tie
