@@ -16,6 +16,11 @@ pub fn offsets(fault: Fault) -> Vec<(i32, i32)> {
         Fault::SmallerDuFirst => out.sort_by_key(|&(du, dv)| (du * du + dv * dv, du, dv)),
         _ => out.sort_by_key(|&(du, dv)| (du * du + dv * dv, dv, du)),
     }
+    match fault {
+        Fault::EntriesExchanged => out.swap(16, 17),
+        Fault::EntryRepeated => out[23] = out[22],
+        _ => (),
+    }
     out
 }
 

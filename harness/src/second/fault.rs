@@ -58,6 +58,8 @@ faults! {
     ComponentByCell: "component marks go by cell, not by index",
     SquareRings: "the base's order is by the larger of |du|, |dv|",
     SmallerDuFirst: "equally near cells go by smaller du, then dv",
+    EntriesExchanged: "(-2,1) and (2,1) are exchanged in the base's order",
+    EntryRepeated: "(-2,2) stands in the place of (2,2) in the base's order",
     OwnIndexInBase: "cells with the corner's own index are not skipped",
     LowerMedian: "a median of n is entry (n-1)/2",
     LineMinimumMissed: "a line needs more members than the line minimum",
