@@ -15,6 +15,7 @@ ghost use lib.Ieee.Scale.{finite};
 ghost use Rattle.folds.specs.Below.{some};
 ghost use Rattle.folds.specs.Marked.{Marked};
 ghost use Rattle.view.specs.View.{maxPoints, viewAt, Finite};
+ghost use Rattle.sort.specs.Packed.{packedPlaces};
 ghost use Rattle.close_pairs.specs.Close.{squareOf, closeMark};
 ghost use Rattle.close_pairs.specs.Keys.{RisingKey, Keyed, OrderedByX};
 ghost use Rattle.close_pairs.specs.Sweep.{sweepHits, OverSide, Sweepable};
@@ -41,16 +42,16 @@ fn x_keys(x: &Floats, n: usize) -> [u64; MAX_POINTS]
     let mut out = [0u64; MAX_POINTS];
     let mut k = 0;
     while k < n {
-        out[k] = rising(x[k]) * 4096 + k as u64;
+        out[k] = rising(x[k]) * sort::PACKED_PLACES + k as u64;
         k += 1;
     }
     out
 }
 
 fn rank_of(w: u64) -> u16
-    ensures { λ r. ⌜ r ≡ w % 4096 ⌝ }
+    ensures { λ r. ⌜ r ≡ w % packedPlaces ⌝ }
 {
-    (w % 4096) as u16
+    (w % sort::PACKED_PLACES) as u16
 }
 
 // The ranks in the order of x.

@@ -8,6 +8,7 @@ pub mod Near
 pub mod Nearer
 pub mod Over
 pub mod Pattern
+pub mod Signless
 pub mod Sign
 pub mod Special
 pub mod Squares

@@ -2,7 +2,7 @@
 use Prim.Native.Nat.{ℕ, _*_}
 use mathlib.Core.Bool.{Bool, false, cond, _||_}
 use lib.Dec.{ltb}
-use lib.Ieee.{Float, nan, inf, fin, binary32, up, down, lt, isNan, add, mul, ofBits}
+use lib.Ieee.{Float, nan, inf, fin, binary32, up, down, lt, isNan, neg, add, mul, ofBits}
 use Rattle.float.specs.Constants.{zero, one, minusOne}
 use Rattle.float.specs.Root.{rootOf}
 
@@ -16,6 +16,11 @@ unfoldable pub absOf : Float → Float
 absOf nan = nan
 absOf (inf s) = inf false
 absOf (fin s m e) = fin false m e
+
+-- the larger of x and -x: the same but for the sign of a zero, which no comparison sees (`compares-as`)
+unfoldable pub magnitudeOf : Float → Float
+unfolding lt neg
+magnitudeOf x = cond (lt (neg x) x) x (neg x)
 
 -- Rust's f32::max and f32::min: the other one where one is a NaN, and the first of equals
 unfoldable pub maxOf : Float → Float → Float

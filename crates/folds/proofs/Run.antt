@@ -1,7 +1,7 @@
--- One turn more of a loop, its end, what each step keeps, and loops whose steps agree. Assumes nothing.
+-- One turn more of a loop, its end, what each step keeps, and a loop in two parts. Assumes nothing.
 use Prim.Native.Nat.{ℕ, zero, suc, _+_, _-_, _<_, _≤_}
 use native.Mathlib.Omega.{arith}
-use mathlib.Core.Path.{_≡_}
+use mathlib.Core.Path.{_≡_, refl, sym, _∙_}
 use Rattle.folds.specs.Run.{upTo, run, down}
 
 module _ {A : Type 0} where
@@ -42,3 +42,8 @@ module _ {A : Type 0} where
   run-keeps P step i e a l p h =
       let z : i + (e - i) ≡ e = omega arith in
       rw z at (upTo-keeps P step (e - i) i a p (λ k m o b q. h k m (omega arith) b q))
+
+  -- the steps up to m, and then those from m on
+  pub run-parts : (step : ℕ → A → A) (i m e : ℕ) (a : A) → i ≤ m → m ≤ e → run step m e (run step i m a) ≡ run step i e a
+  run-parts step i m e a l h =
+      run-keeps (λ k b. run step k e b ≡ run step i e a) step i m a l refl (λ k f g b q. sym (run-step step k e b (omega arith)) ∙ q)

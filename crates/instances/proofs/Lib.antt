@@ -7,3 +7,4 @@ pub mod Map
 pub mod MovedMap
 pub mod Tally
 pub mod Runs
+pub mod Limit

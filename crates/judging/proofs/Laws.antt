@@ -10,7 +10,7 @@ use lib.Ieee.Scale.{finite}
 use Rattle.folds.specs.Arith.{f32}
 use Rattle.folds.proofs.Below.{or-none}
 use Rattle.folds.proofs.Column.{column-at}
-use Rattle.view.specs.View.{View, maxPoints, viewAt, Finite}
+use Rattle.view.specs.View.{View, maxPoints, Finite}
 use Rattle.cells.specs.Points.{Point, nowhere, keysOf, indicesOf, xsOf, ysOf}
 use Rattle.cells.specs.Cell.{Cell, cellsAt, cellsOf}
 use Rattle.cells.proofs.Keys.{cells-are}
@@ -29,14 +29,13 @@ use Rattle.marks.proofs.Counts.{counts-few}
 use Rattle.drop_set.specs.Filters.{judgedOf, measuredOf, patchedOf}
 use Rattle.drop_set.proofs.Laws.{components-few}
 use Rattle.drop_set.specs.Given.{Celled}
-use Rattle.judged.specs.Judged.{Judged}
 use Rattle.judging.specs.Judging.{Arrays, judgedBy, judgedFor}
 
--- what the filters ask of the arrays of a table
-pub celled : (n : ℕ) (t : Table) {ranks : List ℕ} → Arrays n t → ranks ≡ ranksOf n (t .keys) (t .idx) → Celled n ranks (t .keys) (t .x) (t .y)
-celled n t a e = record {
-  ready = record { ranked = rw e (ranks-ranked n (t .keys) (t .idx) (a .keys .few)); finite-x = a .finite-x; finite-y = a .finite-y };
-  cells = keys-small (t .keys) n (a .keys);
+-- what the filters ask of the arrays
+pub celled : (n : ℕ) (keys idx : List ℕ) (xs ys : List Float) {ranks : List ℕ} → Arrays n keys xs ys → ranks ≡ ranksOf n keys idx → Celled n ranks keys xs ys
+celled n keys idx xs ys a e = record {
+  ready = record { ranked = rw e (ranks-ranked n keys idx (a .keyed .few)); finite-x = a .finite-x; finite-y = a .finite-y };
+  cells = keys-small keys n (a .keyed);
 }
 
 inside-finite : (x : Float) → outside x ≡ false → T (finite x)
@@ -44,19 +43,14 @@ inside-finite nan e = absurd (true≢false e)
 inside-finite (inf s) e = absurd (true≢false e)
 inside-finite (fin s m k) e = tt
 
--- what is judged, by the arrays alone
-judgedFrom : Settings → ℕ → List ℕ → List ℕ → List Float → List Float → Judged
-judgedFrom s n keys idx xs ys = judgedOf s (viewAt n (ranksOf n keys idx) xs ys) (cellsAt keys)
-
 same-arrays : (s : Settings) {n m : ℕ} {a a′ b b′ : List ℕ} {x x′ y y′ : List Float} → n ≡ m → a ≡ a′ → b ≡ b′ → x ≡ x′ → y ≡ y′
-    → judgedOf s (viewAt n (ranksOf n a b) x y) (cellsAt a) ≡ judgedFrom s m a′ b′ x′ y′
-unfolding judgedFrom
+    → judgedBy s n a b x y ≡ judgedBy s m a′ b′ x′ y′
 same-arrays s {n} {m} {a} {a′} {b} {b′} {x} {x′} {y} {y′} e f g h i =
-    ap (λ (k : ℕ). judgedFrom s k a b x y) e ∙ ap (λ (l : List ℕ). judgedFrom s m l b x y) f ∙ ap (λ (l : List ℕ). judgedFrom s m a′ l x y) g
-    ∙ ap (λ (l : List Float). judgedFrom s m a′ b′ l y) h ∙ ap (judgedFrom s m a′ b′ x′) i
+    ap (λ (k : ℕ). judgedBy s k a b x y) e ∙ ap (λ (l : List ℕ). judgedBy s m l b x y) f ∙ ap (λ (l : List ℕ). judgedBy s m a′ l x y) g
+    ∙ ap (λ (l : List Float). judgedBy s m a′ b′ l y) h ∙ ap (λ (l : List Float). judgedBy s m a′ b′ x′ l) i
 
-from-points : (s : Settings) (ps : List Point) → CellOrder ps → judgedFrom s (length ps) (keysOf ps) (indicesOf ps) (xsOf ps) (ysOf ps) ≡ judgedFor s ps
-unfolding judgedFrom judgedFor
+from-points : (s : Settings) (ps : List Point) → CellOrder ps → judgedBy s (length ps) (keysOf ps) (indicesOf ps) (xsOf ps) (ysOf ps) ≡ judgedFor s ps
+unfolding judgedFor
 from-points s ps o = ap (λ (w : View). judgedOf s w (cellsAt (keysOf ps))) (view-is ps o) ∙ ap (λ (cell : ℕ → Cell). judgedOf s (viewOf ps) cell) (cells-are ps (o .inside))
 
 module _ (ps : List Point) (o : CellOrder ps) (limits : (k : ℕ) → k < length ps → offLimit (getD ps k nowhere) ≡ false) where
@@ -72,14 +66,14 @@ module _ (ps : List Point) (o : CellOrder ps) (limits : (k : ℕ) → k < length
   finite-ys k h = rw (column-at maxPoints nan (length ps) (λ (k : ℕ). f32 (getD ps k nowhere .y)) k h) (inside-finite (f32 (getD ps k nowhere .y)) (limited k h .1))
 
   module _ (n number : ℕ) (t : Table) (size : n ≡ length ps) (h : Tabled number ps t) where
-    pub arrays-ready : Arrays n t
+    pub arrays-ready : Arrays n (t .keys) (t .x) (t .y)
     arrays-ready = record {
-      keys = rw (size, h .keys-are) (keys-ready ps o);
+      keyed = rw (size, h .keys-are) (keys-ready ps o);
       finite-x = rw (size, h .xs-are) finite-xs;
       finite-y = rw (size, h .ys-are) finite-ys;
     }
 
-    pub judged-for : (s : Settings) → judgedBy s n t ≡ judgedFor s ps
+    pub judged-for : (s : Settings) → judgedBy s n (t .keys) (t .idx) (t .x) (t .y) ≡ judgedFor s ps
     judged-for s = same-arrays s size (h .keys-are) (h .indices-are) (h .xs-are) (h .ys-are) ∙ from-points s ps o
 
 -- there are at most as many patches as points

@@ -42,12 +42,12 @@ module _ (file : List ℕ) (room : ℕ) (r : Sheet) (bytes : Bytes file) (o : Ac
   standing : Sound (o .points)
   standing = sound file room (o .settings) (o .points) bytes (o .ruled)
 
-  pub sheet-arrays : Arrays (r .count) (r .table)
+  pub sheet-arrays : Arrays (r .count) (r .table .keys) (r .table .x) (r .table .y)
   sheet-arrays = arrays-ready (o .points) (standing .order) (standing .limits) (r .count) 0 (r .table) (o .sheet .count-is) (o .sheet .table-is)
 
-  pub sheet-judged : judgedBy (r .settings) (r .count) (r .table) ≡ judgedFor (o .settings) (o .points)
+  pub sheet-judged : judgedBy (r .settings) (r .count) (r .table .keys) (r .table .idx) (r .table .x) (r .table .y) ≡ judgedFor (o .settings) (o .points)
   sheet-judged =
-      ap (λ (s : Settings). judgedBy s (r .count) (r .table)) (o .sheet .settings-are)
+      ap (λ (s : Settings). judgedBy s (r .count) (r .table .keys) (r .table .idx) (r .table .x) (r .table .y)) (o .sheet .settings-are)
       ∙ judged-for (o .points) (standing .order) (standing .limits) (r .count) 0 (r .table) (o .sheet .count-is) (o .sheet .table-is) (o .settings)
 
   pub sheet-few : r .count ≤ maxPoints

@@ -1,13 +1,13 @@
 -- The judged sheet of a list of points in cell order with settings. Assumes nothing.
 use mathlib.Core.List.{List}
 use Prim.Native.Nat.{ℕ}
+use lib.Ieee.{Float}
 use Rattle.view.specs.View.{viewAt, Finite}
 use Rattle.cells.specs.Points.{Point}
 use Rattle.cells.specs.Cell.{cellsAt, cellsOf}
 use Rattle.grid.specs.Tables.{Keys, ranksOf}
 use Rattle.grid.specs.Views.{viewOf}
 use Rattle.sheet_file.specs.declared.Settings.{Settings}
-use Rattle.points.specs.declared.Table.{Table}
 use Rattle.drop_set.specs.Filters.{judgedOf}
 use Rattle.judged.specs.Judged.{Judged}
 
@@ -16,13 +16,13 @@ unfoldable pub judgedFor : Settings → List Point → Judged
 unfolding viewOf judgedOf
 judgedFor s ps = judgedOf s (viewOf ps) (cellsOf ps)
 
--- ---- for the code: the same of a table
+-- ---- for the code: the same of arrays
 
--- its first n keys rise, and its positions are finite
-pub record Arrays (n : ℕ) (t : Table) : Type 0 where
-  pub keys : Keys (t .keys) n
-  pub finite-x : Finite n (t .x)
-  pub finite-y : Finite n (t .y)
+-- the first n keys rise, and the positions are finite
+pub record Arrays (n : ℕ) (keys : List ℕ) (xs ys : List Float) : Type 0 where
+  pub keyed : Keys keys n
+  pub finite-x : Finite n xs
+  pub finite-y : Finite n ys
 
-abbrev pub judgedBy : Settings → ℕ → Table → Judged
-judgedBy s n t = judgedOf s (viewAt n (ranksOf n (t .keys) (t .idx)) (t .x) (t .y)) (cellsAt (t .keys))
+abbrev pub judgedBy : Settings → ℕ → List ℕ → List ℕ → List Float → List Float → Judged
+judgedBy s n keys idx xs ys = judgedOf s (viewAt n (ranksOf n keys idx) xs ys) (cellsAt keys)

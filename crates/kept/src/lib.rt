@@ -34,12 +34,20 @@ fn keep_sheet(file: &[u8], sheet: Sheet, rows: &mut [u8]) -> Kept
 {
     let settings = sheet.settings;
     let n = sheet.count;
-    let table = sheet.table;
-    let number = table.number;
+    let number = sheet.table.number;
     if number == 0 {
         let mut counts = [0u8; FIGURE_COUNTS_SIZE];
         let mut measures = [0.0f32; FIGURE_MEASURES_SIZE];
-        let j = judging::judge(settings, n, table, &mut counts, &mut measures);
+        let j = judging::judge(
+            settings,
+            n,
+            &sheet.table.keys,
+            &sheet.table.idx,
+            &sheet.table.x,
+            &sheet.table.y,
+            &mut counts,
+            &mut measures,
+        );
         rows::write_rows(j, &counts, &measures, n, rows);
         let answer = Answer::Accepted(Counts {
             points: n,

@@ -13,19 +13,20 @@ use Rattle.folds.specs.Below.{first, firstIn}
 use Rattle.folds.proofs.Below.{not-true, first-more, first-from}
 use Rattle.folds.specs.Run.{run, upTo}
 use Rattle.folds.proofs.Run.{run-keeps}
-use Rattle.float.specs.Scalar.{absOf}
+use Rattle.float.specs.Scalar.{absOf, magnitudeOf}
 use Rattle.float.proofs.Order.{below-through, not-below-itself, below-at-most}
+use Rattle.float.proofs.Signless.{by-magnitude}
 use Rattle.linear.specs.Rows.{entry}
 use Rattle.linear.specs.Linear.{largerThan, betterRow, nextLarger, pivotRow}
 
 -- ---- the search by larger entries
 
-module _ (m : List (List Float)) (i best k : ℕ) {largest size : Float} (h : k < 8) (p : largest ≡ absOf (entry m best i)) (q : size ≡ absOf (entry m k i)) where
+module _ (m : List (List Float)) (i best k : ℕ) {largest size : Float} (h : k < 8) (p : largest ≡ magnitudeOf (entry m best i)) (q : size ≡ magnitudeOf (entry m k i)) where
   pub next-found : lt largest size ≡ true → k ≡ first (largerThan m i best) k 8
-  next-found e = sym (first-more (largerThan m i best) k 8 h ∙ rw (← p, ← q, e))
+  next-found e = sym (first-more (largerThan m i best) k 8 h ∙ rw (← by-magnitude (entry m best i) (entry m k i), ← p, ← q, e))
 
   pub next-passed : lt largest size ≡ false → first (largerThan m i best) (k + 1) 8 ≡ first (largerThan m i best) k 8
-  next-passed e = sym (first-more (largerThan m i best) k 8 h ∙ rw (← p, ← q, e))
+  next-passed e = sym (first-more (largerThan m i best) k 8 h ∙ rw (← by-magnitude (entry m best i) (entry m k i), ← p, ← q, e))
 
 -- the pivot's row, where k is the next row with a larger entry than row best's, or 8
 abbrev pub searched : List (List Float) → ℕ → ℕ → ℕ → ℕ

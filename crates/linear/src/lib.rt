@@ -3,7 +3,7 @@
 ghost use mathlib.Core.Path.{_≡_};
 ghost use Prim.Native.Nat.{_<_, _≤_};
 ghost use Rattle.folds.specs.Run.{run};
-ghost use Rattle.linear.specs.Linear.{nextLarger, pivotRow, reduceRow, reduceRows, eliminateColumn, lessEntry, forwardBy, backwardBy, zeroDiagonal, substituted, solutionOf};
+ghost use Rattle.linear.specs.Linear.{nextLarger, pivotRow, reduceEntry, reduceRow, reduceRows, eliminateColumn, lessEntry, forwardBy, backwardBy, zeroDiagonal, substituted, solutionOf};
 
 // The solution x, where there is one.
 pub struct Solution {
@@ -16,10 +16,10 @@ fn next_larger(m: &[[f32; 8]; 8], i: usize, best: usize, from: usize) -> usize
     requires { ⌜ (i < 8) × (best < 8) ⌝ }
     ensures { λ r. ⌜ r ≡ nextLarger (now (m .entry)) i best from ⌝ }
 {
-    let largest = float::abs(m[best][i]);
+    let largest = float::magnitude(m[best][i]);
     let mut k = from;
     while k < 8 {
-        if largest < float::abs(m[k][i]) {
+        if largest < float::magnitude(m[k][i]) {
             return k;
         }
         k += 1;
@@ -42,18 +42,32 @@ fn pivot_row(m: &[[f32; 8]; 8], i: usize) -> usize
     best
 }
 
-// Row k, where p is the pivot's row of column i: the multiplier takes the place of the zero.
+// The entries of row k from `from` on and below `end`, each less t times that of the pivot's row p.
+fn reduce_entries(m: &mut [[f32; 8]; 8], p: &[f32; 8], k: usize, t: f32, from: usize, end: usize)
+    requires { ⌜ (k < 8) × (end ≤ 8) ⌝ }
+    ensures { λ r. ⌜ now (m .exit) ≡ run (reduceEntry (now (p .entry)) k t) from end (now (m .entry)) ⌝ }
+{
+    let mut j = from;
+    while j < end {
+        m[k][j] = m[k][j] + (-p[j]) * t;
+        j += 1;
+    }
+}
+
+// Row k, where p is the pivot's row of column i: the multiplier takes the place of the zero. For the first four columns
+// the last four entries of a row are reduced by themselves, which is compiled to operations on four numbers at once.
 fn reduce_row(m: &mut [[f32; 8]; 8], p: &[f32; 8], i: usize, inverse: f32, k: usize)
     requires { ⌜ (i < 8) × (k < 8) ⌝ }
     ensures { λ r. ⌜ now (m .exit) ≡ reduceRow (now (p .entry)) i inverse k (now (m .entry)) ⌝ }
 {
     let t = m[k][i] * inverse;
     m[k][i] = t;
-    let mut j = i + 1;
-    while j < 8 {
-        m[k][j] = m[k][j] + (-p[j]) * t;
-        j += 1;
+    if i < 4 {
+        reduce_entries(m, p, k, t, i + 1, 4);
+        reduce_entries(m, p, k, t, 4, 8);
+        return;
     }
+    reduce_entries(m, p, k, t, i + 1, 8);
 }
 
 // The rows below row i.

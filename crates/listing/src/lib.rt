@@ -100,10 +100,10 @@ fn put_tally(counts: &Tally, out: &mut [u8], at: usize) -> usize
 
 // The listing of n points in cell order: the keys of their cells, their indices, and what was judged of them. Of the edge figures it shows
 // the reasons alone.
-pub fn write_listing(
+pub fn write_listing<'a>(
     n: usize,
-    keys: &Words,
-    idx: &Words,
+    keys: &'a Words,
+    idx: &'a Words,
     j: Findings,
     counts: &FigureCounts,
     out: &mut [u8],

@@ -29,7 +29,7 @@ refusal-some : (k : ℕ) → 1 ≤ length (refusalOf k)
 unfolding refusalOf
 refusal-some k = simp length-append (omega arith)
 
-refusal-first : (k : ℕ) → getD (refusalOf k) 0 0 ≡ 114
+pub refusal-first : (k : ℕ) → getD (refusalOf k) 0 0 ≡ 114
 unfolding refusalOf
 refusal-first k = refl
 

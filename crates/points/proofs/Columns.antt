@@ -16,7 +16,7 @@ use Rattle.view.specs.View.{maxPoints}
 use Rattle.cells.specs.Points.{Point, nowhere, keyOf, keysOf, indicesOf, xsOf, ysOf}
 use Rattle.sheet_file.specs.Limit.{outside}
 use Rattle.sheet_file.specs.Refusals.{floatAt}
-use Rattle.sort.specs.Packed.{placed}
+use Rattle.sort.specs.Packed.{packedPlaces, placed}
 use Rattle.sort.proofs.Packed.{things-in-order}
 use Rattle.points.specs.Records.{ithPoint, pointsIn}
 use Rattle.points.specs.Refusals.{offLimit, cellOrder}
@@ -45,28 +45,28 @@ module _ (file : List ℕ) (at n : ℕ) (few : n ≤ maxPoints) where
   field-column : {B : Type 0} (d : B) (field : Point → B) → column maxPoints d n (λ (k : ℕ). field (entryPoint file at (getD (entriesOf file at n false) k 0))) ≡ column maxPoints d (length sortedPoints) (λ (k : ℕ). field (getD sortedPoints k nowhere))
   field-column d field = rw points-length (column-ext maxPoints d n (λ (k : ℕ). field (entryPoint file at (getD (entriesOf file at n false) k 0))) (λ (k : ℕ). field (getD sortedPoints k nowhere)) (λ k h. ap field (sym (point-at k h))))
 
-  pub key-column : column maxPoints 0 n (λ (k : ℕ). getD (entriesOf file at n false) k 0 / 4096) ≡ keysOf sortedPoints
+  pub key-column : column maxPoints 0 n (λ (k : ℕ). getD (entriesOf file at n false) k 0 / packedPlaces) ≡ keysOf sortedPoints
   unfolding keysOf
   key-column =
-      column-ext maxPoints 0 n (λ (k : ℕ). getD (entriesOf file at n false) k 0 / 4096) (λ (k : ℕ). keyOf (entryPoint file at (getD (entriesOf file at n false) k 0))) (λ k h. entry-key file at n false few k h)
+      column-ext maxPoints 0 n (λ (k : ℕ). getD (entriesOf file at n false) k 0 / packedPlaces) (λ (k : ℕ). keyOf (entryPoint file at (getD (entriesOf file at n false) k 0))) (λ k h. entry-key file at n false few k h)
       ∙ field-column 0 keyOf
 
   pub index-column : column maxPoints 0 n (λ (k : ℕ). entryPoint file at (getD (entriesOf file at n false) k 0) .index) ≡ indicesOf sortedPoints
   unfolding indicesOf
   index-column = field-column 0 (λ (p : Point). p .index)
 
-  pub x-column : column maxPoints nan n (λ (k : ℕ). floatAt file (at + 20 * (getD (entriesOf file at n false) k 0 % 4096) + 12)) ≡ xsOf sortedPoints
+  pub x-column : column maxPoints nan n (λ (k : ℕ). floatAt file (at + 20 * (getD (entriesOf file at n false) k 0 % packedPlaces) + 12)) ≡ xsOf sortedPoints
   unfolding xsOf
   x-column = field-column nan (λ (p : Point). f32 (p .x))
 
-  pub y-column : column maxPoints nan n (λ (k : ℕ). floatAt file (at + 20 * (getD (entriesOf file at n false) k 0 % 4096) + 16)) ≡ ysOf sortedPoints
+  pub y-column : column maxPoints nan n (λ (k : ℕ). floatAt file (at + 20 * (getD (entriesOf file at n false) k 0 % packedPlaces) + 16)) ≡ ysOf sortedPoints
   unfolding ysOf
   y-column = field-column nan (λ (p : Point). f32 (p .y))
 
 module _ (file : List ℕ) (at n : ℕ) (entries : List ℕ) (a : WithinLimits file at n entries) where
-  pub key-fits : (k : ℕ) → k < n → getD entries k 0 / 4096 < 0x1_0000_0000
+  pub key-fits : (k : ℕ) → k < n → getD entries k 0 / packedPlaces < 0x1_0000_0000
   key-fits k h =
-      let r = all-ranged file at n (a .bytes) (a .in-range) (getD entries k 0 % 4096) (rw (a .ordered) (entries-placed file at n false (a .room .few) k h)) in
+      let r = all-ranged file at n (a .bytes) (a .in-range) (getD entries k 0 % packedPlaces) (rw (a .ordered) (entries-placed file at n false (a .room .few) k h)) in
       omega (arith, rw (← a .ordered) at (entry-key file at n false (a .room .few) k h), r .u, r .v)
 
   pub x-inside : (i : ℕ) → i < n → outside (floatAt file (at + 20 * i + 12)) ≡ false

@@ -15,7 +15,7 @@ use Rattle.folds.specs.Below.{some}
 use Rattle.folds.proofs.Below.{some-at, some-fails, not-false}
 use Rattle.folds.specs.Lists.{listOf}
 use Rattle.sort.proofs.Sorted.{sort-perm}
-use Rattle.sort.specs.Packed.{placed}
+use Rattle.sort.specs.Packed.{packedPlaces, placed}
 use Rattle.sort.proofs.Packed.{placed-key, placed-rises, things-in-order}
 
 pub eqb-swap : (a b : ℕ) → eqb a b ≡ eqb b a
@@ -67,7 +67,7 @@ module _ {A : Type 0} (key : A → ℕ) (same : A → A → Bool) where
           go false e = none (λ r l. some-fails (λ (r : ℕ). clash (f r) (f (r + 1))) (n - 1) e r (omega arith))
 
     -- the same of a list in any order, by its places in the order of the key
-    pub sorted-neighbours : ((p q : A) → same p q ≡ same q p) → (g : ℕ → A) (n : ℕ) → n ≤ 4096
+    pub sorted-neighbours : ((p q : A) → same p q ≡ same q p) → (g : ℕ → A) (n : ℕ) → n ≤ packedPlaces
         → pairIn clash (listOf n g) ≡ some (λ (r : ℕ). clash (g (placed (λ (i : ℕ). key (g i)) n r)) (g (placed (λ (i : ℕ). key (g i)) n (r + 1)))) (n - 1)
     sorted-neighbours back g n few =
         pair-order clash either-way (sort-perm (λ (a b : A). ltb (key a) (key b)) (listOf n g)) ∙ rw (things-in-order key g n few)

@@ -12,7 +12,7 @@ use Rattle.folds.specs.Lists.{listOf}
 use Rattle.folds.proofs.Lists.{length-list, is-list}
 use Rattle.view.specs.View.{maxPoints}
 use Rattle.sort.specs.Numbers.{sorted}
-use Rattle.sort.specs.Packed.{packed, inOrder}
+use Rattle.sort.specs.Packed.{packedPlaces, packed, inOrder}
 use Rattle.sort.proofs.Packed.{inOrder-length, placed-below, placed-key}
 use Rattle.points.specs.Entries.{keyBy, ithKey, packedOf, entriesOf, entryPoint, Placed}
 
@@ -34,5 +34,5 @@ module _ (file : List ℕ) (at n : ℕ) (b : Bool) (few : n ≤ maxPoints) where
   pub entries-placed : Placed (entriesOf file at n b) n
   entries-placed r h = rw (entry-at r h) (placed-below (ithKey file at b) n (omega arith) r h)
 
-  pub entry-key : (r : ℕ) → r < n → getD (entriesOf file at n b) r 0 / 4096 ≡ keyBy b (entryPoint file at (getD (entriesOf file at n b) r 0))
+  pub entry-key : (r : ℕ) → r < n → getD (entriesOf file at n b) r 0 / packedPlaces ≡ keyBy b (entryPoint file at (getD (entriesOf file at n b) r 0))
   entry-key r h = rw (entry-at r h) (placed-key (ithKey file at b) n (omega arith) r h)

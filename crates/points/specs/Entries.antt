@@ -10,7 +10,7 @@ use Rattle.folds.specs.Below.{some}
 use Rattle.folds.specs.Column.{column}
 use Rattle.view.specs.View.{maxPoints}
 use Rattle.cells.specs.Points.{Point, keyOf}
-use Rattle.sort.specs.Packed.{packed, inOrder}
+use Rattle.sort.specs.Packed.{packedPlaces, packed, inOrder}
 use Rattle.sheet_file.specs.Limit.{outside}
 use Rattle.sheet_file.specs.Refusals.{floatAt}
 use Rattle.points.specs.Records.{ithPoint, PointsFit}
@@ -44,11 +44,11 @@ entriesOf file at n byIndex = column maxPoints 0 n (λ (r : ℕ). getD (inOrder 
 
 -- the point of an entry
 abbrev pub entryPoint : List ℕ → ℕ → ℕ → Point
-entryPoint file at e = ithPoint file at (e % 4096)
+entryPoint file at e = ithPoint file at (e % packedPlaces)
 
 -- each entry's place is that of a point
 abbrev pub Placed : List ℕ → ℕ → Type 0
-Placed entries n = (k : ℕ) → k < n → getD entries k 0 % 4096 < n
+Placed entries n = (k : ℕ) → k < n → getD entries k 0 % packedPlaces < n
 
 -- n points stand in the file from a position on, and the entries have their places
 pub record EntriesHeld (file : List ℕ) (at n : ℕ) (entries : List ℕ) : Type 0 where
@@ -63,7 +63,7 @@ pub record CoordinatesHeld (file : List ℕ) (at field n : ℕ) (entries : List 
 
 -- two entries have one key, and their points may not stand together
 unfoldable pub entriesClash : List ℕ → ℕ → Bool → ℕ → ℕ → Bool
-entriesClash file at byIndex a b = eqb (a / 4096) (b / 4096) && not (together byIndex (entryPoint file at a) (entryPoint file at b))
+entriesClash file at byIndex a b = eqb (a / packedPlaces) (b / packedPlaces) && not (together byIndex (entryPoint file at a) (entryPoint file at b))
 
 -- some two neighbours of n entries do
 abbrev pub neighboursClash : List ℕ → ℕ → ℕ → Bool → List ℕ → Bool

@@ -10,6 +10,7 @@ ghost use lib.Ieee.{nan};
 ghost use Rattle.folds.specs.Among.{anyIn};
 ghost use Rattle.folds.specs.Column.{column};
 ghost use Rattle.view.specs.View.{maxPoints};
+ghost use Rattle.sort.specs.Packed.{packedPlaces};
 ghost use Rattle.sheet_file.specs.Refusals.{floatAt};
 ghost use Rattle.points.specs.Records.{pointIn, pointsIn, PointsFit};
 ghost use Rattle.points.specs.Refusals.{offRange, offLimit, samePosition, numberFor, cellOrder, acceptedOf};
@@ -89,7 +90,7 @@ fn packed(file: &[u8], at: usize, n: usize, by_index: bool) -> [u64; MAX_POINTS]
     let mut out = [0u64; MAX_POINTS];
     let mut i: usize = 0;
     while i < n {
-        out[i] = key_at(file, at + 20 * i, by_index) * 4096 + (i as u64);
+        out[i] = key_at(file, at + 20 * i, by_index) * sort::PACKED_PLACES + (i as u64);
         i += 1;
     }
     out
@@ -119,13 +120,13 @@ fn same_position(file: &[u8], a: usize, b: usize) -> bool
 
 // Whether two entries have one key and their points may not stand together.
 fn entries_clash(file: &[u8], at: usize, by_index: bool, a: u64, b: u64) -> bool
-    requires { ⌜ (at + 20 * (a % 4096) + 20 ≤ length (now file)) × (at + 20 * (b % 4096) + 20 ≤ length (now file)) ⌝ }
+    requires { ⌜ (at + 20 * (a % packedPlaces) + 20 ≤ length (now file)) × (at + 20 * (b % packedPlaces) + 20 ≤ length (now file)) ⌝ }
     ensures { λ r. ⌜ r ≡ entriesClash (now (file .entry)) at «by_index» a b ⌝ }
 {
-    if a / 4096 == b / 4096 {
+    if a / sort::PACKED_PLACES == b / sort::PACKED_PLACES {
         if by_index {
-            let p = (a % 4096) as usize;
-            let q = (b % 4096) as usize;
+            let p = (a % sort::PACKED_PLACES) as usize;
+            let q = (b % sort::PACKED_PLACES) as usize;
             return !same_position(file, at + 20 * p, at + 20 * q);
         }
         return true;
@@ -153,13 +154,13 @@ fn some_clash(file: &[u8], at: usize, n: usize, by_index: bool, entries: &[u64; 
 // The keys of the cells.
 fn keys(entries: &[u64; MAX_POINTS], n: usize) -> Words
     requires { ⌜ n ≤ maxPoints ⌝ }
-    requires { ⌜ ((k : ℕ) → k < n → getD (now entries) k 0 / 4096 < 0x1_0000_0000) ⌝ }
-    ensures { λ r. ⌜ r ≡ column maxPoints 0 n (λ (k : ℕ). getD (now (entries .entry)) k 0 / 4096) ⌝ }
+    requires { ⌜ ((k : ℕ) → k < n → getD (now entries) k 0 / packedPlaces < 0x1_0000_0000) ⌝ }
+    ensures { λ r. ⌜ r ≡ column maxPoints 0 n (λ (k : ℕ). getD (now (entries .entry)) k 0 / packedPlaces) ⌝ }
 {
     let mut out = [0u32; MAX_POINTS];
     let mut i: usize = 0;
     while i < n {
-        out[i] = (entries[i] / 4096) as u32;
+        out[i] = (entries[i] / sort::PACKED_PLACES) as u32;
         i += 1;
     }
     out
@@ -173,7 +174,7 @@ fn indices(file: &[u8], at: usize, n: usize, entries: &[u64; MAX_POINTS]) -> Wor
     let mut out = [0u32; MAX_POINTS];
     let mut i: usize = 0;
     while i < n {
-        let p = (entries[i] % 4096) as usize;
+        let p = (entries[i] % sort::PACKED_PLACES) as usize;
         out[i] = sheet_file::u32_at(file, at + 20 * p + 8);
         i += 1;
     }
@@ -189,13 +190,13 @@ fn coordinates(
     entries: &[u64; MAX_POINTS],
 ) -> Floats
     requires { ⌜ CoordinatesHeld (now file) at field n (now entries) ⌝ }
-    ensures { λ r. ⌜ r ≡ column maxPoints nan n (λ (k : ℕ). floatAt (now (file .entry)) (at + 20 * (getD (now (entries .entry)) k 0 % 4096) + field)) ⌝ }
+    ensures { λ r. ⌜ r ≡ column maxPoints nan n (λ (k : ℕ). floatAt (now (file .entry)) (at + 20 * (getD (now (entries .entry)) k 0 % packedPlaces) + field)) ⌝ }
 {
     let none: f32 = 0.0 / 0.0;
     let mut out = [none; MAX_POINTS];
     let mut i: usize = 0;
     while i < n {
-        let p = (entries[i] % 4096) as usize;
+        let p = (entries[i] % sort::PACKED_PLACES) as usize;
         out[i] = sheet_file::float_at(file, at + 20 * p + field);
         i += 1;
     }

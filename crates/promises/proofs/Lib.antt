@@ -9,5 +9,6 @@ pub mod Moving
 pub mod MovingMap
 pub mod OnMap
 pub mod Unswitched
+pub mod Limit
 pub mod Theorems
 pub mod Cosines

@@ -3,3 +3,4 @@ pub mod Promises
 pub mod Map
 pub mod Tally
 pub mod Runs
+pub mod Limit

@@ -121,7 +121,7 @@ RunListingPromise = (r : Run) (a b : List Call) → OtherListings a b → SameRu
 pub record RunSizePromise : Type 0 where
   -- nothing wraps, from any record of u32s on
   pub fits : (r : Run) (calls : List Call) → FitsU32 r → FitsU32 (runThrough r calls)
-  -- from its start on a run counts at most 65,535 sheets, and each adds at most 2,048 to a sum: far below 2^31
+  -- from its start on a run counts at most 65,535 sheets, and each adds at most maxPoints to a sum: far below 2^31
   pub bounded : (old : List ℕ) (calls : List Call) → Bounded (runThrough (runFrom old) calls)
   -- none of its first 65,535 sheets gets 11
   pub none-eleven : (old : List ℕ) (calls : List Call) → length calls ≤ mostSheets → NoneEleven (runFrom old) calls

@@ -8,3 +8,5 @@ pub mod Order
 pub mod Offset
 pub mod MovedFile
 pub mod Switches
+pub mod Limit
+pub mod Board

@@ -4,3 +4,4 @@ pub mod Header
 pub mod Order
 pub mod Offset
 pub mod Switches
+pub mod Limit

@@ -126,11 +126,11 @@ large-first-eleven = refl
 -- ---- nothing wraps
 
 -- the largest numbers with which a record still takes a sheet, and the largest sheet
-at-limits : runWith (evenly (2 ^ 32 - 1) 65534 (2 ^ 31 - 1)) (tallied 2048 2048 2048 2048 2048) ≡ evenly (2 ^ 32 - 1) 65535 (2 ^ 31 + 2047)
+at-limits : runWith (evenly (2 ^ 32 - 1) 65534 (2 ^ 31 - 1)) (tallied maxPoints maxPoints maxPoints maxPoints maxPoints) ≡ evenly (2 ^ 32 - 1) 65535 (2 ^ 31 - 1 + maxPoints)
 unfolding runWith
 at-limits = refl
 
--- with a number above 2,048 a sum may reach 2^32
+-- with a number above maxPoints a sum may reach 2^32
 large-wraps : runWith (recordAt 0 (2 ^ 31 - 1)) (keeping (2 ^ 31 + 1)) ≡ recordAt 1 (2 ^ 32)
 unfolding runWith
 large-wraps = refl
@@ -151,15 +151,12 @@ three-bounded = from-start .stays (runFrom old) three three-small (from-start .s
 three-none-full : NoneFull (runFrom old) three
 three-none-full = from-start .none-full (runFrom old) three three-small (from-start .start old) (omega arith)
 
--- 65,535 sheets of 2,048 points
-largest-sum : maxPoints * mostSheets ≡ 134215680
-largest-sum = refl
-
-largest-low : ltb 134215680 sumLimit ≡ true
+-- as many sheets as a run counts, each of as many points as one has
+largest-low : ltb (maxPoints * mostSheets) sumLimit ≡ true
 largest-low = refl
 
--- one sheet with one more than 2,048
-one-over : getD (runOver newRun (keeping 2049 ∷ []) .«new_sums») 0 0 ≡ maxPoints * 1 + 1
+-- one sheet with one more than maxPoints
+one-over : getD (runOver newRun (keeping (maxPoints + 1) ∷ []) .«new_sums») 0 0 ≡ maxPoints * 1 + 1
 unfolding runOver
 one-over = refl
 

@@ -61,7 +61,7 @@ pub record FitsU32 (r : Run) : Type 0 where
 abbrev pub FitsPromise : Type 0
 FitsPromise = (r : Run) (sheets : List Yield) → All SmallYield sheets → FitsU32 r → FitsU32 (runOver r sheets)
 
--- at most 65,535 sheets, each of which adds at most 2,048 to a sum
+-- at most 65,535 sheets, each of which adds at most maxPoints to a sum
 pub record Bounded (r : Run) : Type 0 where
   pub few : r .sheets ≤ mostSheets
   pub each : (i : ℕ) → getD (r .«new_sums») i 0 ≤ maxPoints * r .sheets

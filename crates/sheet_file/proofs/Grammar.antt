@@ -1,4 +1,4 @@
--- Exactly the well-framed files are not refused with 1. Assumes nothing.
+-- Exactly the well-framed files are not refused with 1, and their points are counted. Assumes nothing.
 use mathlib.Core.Path.{_≡_, refl, sym, ap, _∙_}
 use mathlib.Core.Bool.{Bool, true, false, true≢false}
 use mathlib.Core.Logic.{_⊎_, inl, inr}
@@ -12,7 +12,7 @@ use lib.Seq.{drop-cons, drop-drop, drop-length, getD-append-add, length-take-le}
 use borrow.Author.Tests.{le-leb, eq-eqb, ne-eqb}
 use Rattle.folds.proofs.Below.{and-false}
 use Rattle.sheet_file.specs.Bytes.{Bytes, byteAt, le16}
-use Rattle.sheet_file.specs.Frame.{fieldAt, pointsFrom, gateFrom, framingOf}
+use Rattle.sheet_file.specs.Frame.{fieldAt, pointsFrom, gateFrom, framingOf, layoutOf}
 use Rattle.sheet_file.specs.Grammar.{field, Optional, absent, present, WellFramed}
 use Rattle.sheet_file.specs.Refusals.{misframing, misframed}
 use Rattle.sheet_file.specs.declared.Layout.{Layout}
@@ -113,22 +113,32 @@ module _ (file : List ℕ) where
     ends : at + 3 + n ≡ length file
     twenties : n % 20 ≡ 0
 
-  points-framed : (at n : ℕ) (full gated : Bool) → LastIn at n → misframing (pointsFrom file at full gated) ≡ false
-  unfolding pointsFrom
-  points-framed at n full gated h = rw (h .last .size-is, found (h .last), eq-eqb (n % 20) 0 (h .twenties), eq-eqb (at + 3 + n) (length file) (h .ends))
+  -- a framing with n points
+  record Counted (x : Framing) (n : ℕ) : Type 0 where
+    layout : Layout
+    framed : x ≡ Framed layout
+    counted : layout .count ≡ n
 
-  gate-framed : (at n : ℕ) (full : Bool) → FieldIn file at 2 17 → LastIn (at + 20) n → misframing (gateFrom file at full) ≡ false
+  points-framed : (at n : ℕ) (full gated : Bool) → LastIn at n → Counted (pointsFrom file at full gated) (n / 20)
+  unfolding pointsFrom
+  points-framed at n full gated h = record {
+    layout = record { full = full; gated = gated; points = at + 3; count = n / 20 };
+    framed = rw (h .last .size-is, found (h .last), eq-eqb (n % 20) 0 (h .twenties), eq-eqb (at + 3 + n) (length file) (h .ends));
+    counted = refl;
+  }
+
+  gate-framed : (at n : ℕ) (full : Bool) → FieldIn file at 2 17 → LastIn (at + 20) n → Counted (gateFrom file at full) (n / 20)
   unfolding gateFrom
   gate-framed at n full g h = rw (found g) (points-framed (at + 20) n full true h)
 
-  no-gate-framed : (at n : ℕ) (full : Bool) → LastIn at n → misframing (gateFrom file at full) ≡ false
+  no-gate-framed : (at n : ℕ) (full : Bool) → LastIn at n → Counted (gateFrom file at full) (n / 20)
   unfolding gateFrom
   no-gate-framed at n full h = rw (other-tag at 17 3 n 2 (h .last) (λ e. omega arith)) (points-framed at n full false h)
 
-  settings-framed : (n : ℕ) → (n ≡ 21) ⊎ (n ≡ 4) → FieldIn file 0 1 n → ((full : Bool) → misframing (gateFrom file (3 + n) full) ≡ false) → misframed file ≡ false
+  settings-framed : (n m : ℕ) → (n ≡ 21) ⊎ (n ≡ 4) → FieldIn file 0 1 n → ((full : Bool) → Counted (gateFrom file (3 + n) full) m) → Counted (framingOf file) m
   unfolding framingOf
-  settings-framed n (inl e) h g = rw (found (rw e at h)) (rw e at (g true))
-  settings-framed n (inr e) h g = rw (other-length 0 21 1 n h (λ d. omega arith), found (rw e at h)) (rw e at (g false))
+  settings-framed n m (inl e) h g = rw (found (rw e at h)) (rw e at (g true))
+  settings-framed n m (inr e) h g = rw (other-length 0 21 1 n h (λ d. omega arith), found (rw e at h)) (rw e at (g false))
 
   -- tag 3 after other fields
   last-in : (l p : List ℕ) (at : ℕ) → length l ≡ at → file ≡ l ++ field 3 p → length p % 20 ≡ 0 → LastIn at (length p)
@@ -138,8 +148,8 @@ module _ (file : List ℕ) where
     twenties = z;
   }
 
-  pub well-framed : WellFramed file → misframed file ≡ false
-  well-framed w = settings-framed (length (w .settings)) (w .settings-size) first (λ full. go full (w .gate-optional))
+  fields-framed : (w : WellFramed file) → Counted (framingOf file) (length (w .points) / 20)
+  fields-framed w = settings-framed (length (w .settings)) (length (w .points) / 20) (w .settings-size) first (λ full. go full (w .gate-optional))
     where
       at : ℕ
       at = 3 + length (w .settings)
@@ -147,12 +157,19 @@ module _ (file : List ℕ) where
       first : FieldIn file 0 1 (length (w .settings))
       first = rw (w .in-order) (field-there [] (w .settings) (w .gate ++ field 3 (w .points)) 1 0 (length (w .settings)) refl refl)
 
-      go : (full : Bool) → Optional 2 17 (w .gate) → misframing (gateFrom file at full) ≡ false
+      go : (full : Bool) → Optional 2 17 (w .gate) → Counted (gateFrom file at full) (length (w .points) / 20)
       go full (absent e) = no-gate-framed at (length (w .points)) full (last-in (field 1 (w .settings)) (w .points) at (omega arith) (rw e at (w .in-order)) (w .twenties))
       go full (present g n e) =
           let q : file ≡ field 1 (w .settings) ++ (field 2 g ++ field 3 (w .points)) = rw e at (w .in-order) in
           gate-framed at (length (w .points)) full (rw q (field-there (field 1 (w .settings)) g (field 3 (w .points)) 2 at 17 (omega arith) n))
           (last-in (field 1 (w .settings) ++ field 2 g) (w .points) (at + 20) (simp length-append (omega arith)) (q ∙ sym (append-assoc (field 1 (w .settings)) (field 2 g) (field 3 (w .points)))) (w .twenties))
+
+  pub well-framed : WellFramed file → misframed file ≡ false
+  well-framed w = rw (fields-framed w .framed)
+
+  -- "length 20 times the number of points": as many are counted
+  pub points-counted : (w : WellFramed file) → layoutOf file .count ≡ length (w .points) / 20
+  points-counted w = rw (fields-framed w .framed) (fields-framed w .counted)
 
   pub accepted-well : Bytes file → misframed file ≡ false → WellFramed file
   accepted-well b e = go (framingOf file) refl e

@@ -1,11 +1,12 @@
 -- A file longer than `longest` is misframed, and a file of that length can be well framed. Assumes nothing.
-use mathlib.Core.Path.{_≡_, refl}
+use mathlib.Core.Path.{_≡_, refl, sym, _∙_}
 use mathlib.Core.Bool.{Bool, true, false}
 use mathlib.Core.Logic.{inl}
-use mathlib.Core.List.{List, _++_}
-use Prim.Native.Nat.{ℕ, _+_, _*_, _≤_, _<_}
+use mathlib.Core.List.{List, _++_, append-assoc}
+use Prim.Native.Nat.{ℕ, _+_, _*_, _/_, _≤_, _<_}
 use native.Mathlib.Omega.{arith}
-use lib.ListN.{length, replicate, length-append, length-replicate}
+use lib.ListN.{length, getD, replicate, length-append, length-replicate}
+use lib.Seq.{getD-append-add}
 use Rattle.sheet_file.specs.Bytes.{Bytes}
 use Rattle.sheet_file.specs.Frame.{framingOf, pointsFrom}
 use Rattle.sheet_file.specs.Grammar.{field, present, WellFramed, mostRecords, longest}
@@ -37,6 +38,14 @@ module _ (file : List ℕ) (b : Bytes file) where
       go : (x : Framing) → framingOf file ≡ x → x ≡ Misframed
       go (Framed f) e = absurd (omega (arith, framed-end f (fields-of file f e)))
       go Misframed e = refl
+
+-- more records than `mostRecords` cannot be framed
+pub most-points : (file : List ℕ) → Bytes file → (w : WellFramed file) → length (w .points) / 20 ≤ mostRecords
+most-points file b w =
+    let l = field 1 (w .settings) ++ w .gate in
+    let q : file ≡ l ++ field 3 (w .points) = w .in-order ∙ sym (append-assoc (field 1 (w .settings)) (w .gate) (field 3 (w .points))) in
+    let hi : getD file (length l + 2) 0 ≡ length (w .points) / 256 = rw q (getD-append-add l (field 3 (w .points)) 2 0) in
+    omega (arith, b (length l + 2))
 
 -- a well-framed file of this length
 pub record Attained : Type 0 where

@@ -87,7 +87,7 @@ misframing Misframed = true
 abbrev pub misframed : List ℕ → Bool
 misframed file = misframing (framingOf file)
 
--- "2. There are more than 2,048 points."
+-- "2. There are more than 2,048 points"; document 02, A.4, makes it 2,304
 abbrev pub tooMany : Layout → Bool
 tooMany f = ltb maxPoints (f .count)
 

@@ -11,8 +11,11 @@ ghost use Rattle.sheet_file.specs.Limit.{outside};
 ghost use Rattle.sheet_file.specs.Frame.{fieldAt, endFrom, pointsFrom, gateFrom, framingOf, gateStart, Held};
 ghost use Rattle.sheet_file.specs.Refusals.{floatAt, defaultsFor, settingsIn, gateIn, edgeShapeOf, settingsOf, noFlag, badFlag, settingsFloats, gateFloats, badFloat, FloatHeld, SettingsHeld, GateHeld, FloatsHeld, readingIn, readingOf};
 
+// The most records of a field: the most points whose length, 20 times their number, is a two-byte number.
+const MOST_RECORDS: usize = 65535 / 20;
+
 // One byte more than the longest well-framed file. The ruling on a longer file is that on its first FILE_SIZE bytes (`cut-ruling`, in ruling).
-pub const FILE_SIZE: usize = 24 + 20 + 3 + 20 * 3276 + 1;
+pub const FILE_SIZE: usize = 24 + 20 + 3 + 20 * MOST_RECORDS + 1;
 
 // The number that the specifications use is the code's.
 pub fn file_size() -> usize

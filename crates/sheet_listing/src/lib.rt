@@ -13,15 +13,21 @@ pub fn list_sheet(file: &[u8], out: &mut [u8]) -> Written
     let sheet = ruling::read(file, ROWS_SIZE);
     let settings = sheet.settings;
     let n = sheet.count;
-    let table = sheet.table;
-    let number = table.number;
+    let number = sheet.table.number;
     if number == 0 {
-        let keys = table.keys;
-        let idx = table.idx;
         let mut counts = [0u8; FIGURE_COUNTS_SIZE];
         let mut measures = [0.0f32; FIGURE_MEASURES_SIZE];
-        let j = judging::judge(settings, n, table, &mut counts, &mut measures);
-        return listing::write_listing(n, &keys, &idx, j, &counts, out);
+        let j = judging::judge(
+            settings,
+            n,
+            &sheet.table.keys,
+            &sheet.table.idx,
+            &sheet.table.x,
+            &sheet.table.y,
+            &mut counts,
+            &mut measures,
+        );
+        return listing::write_listing(n, &sheet.table.keys, &sheet.table.idx, j, &counts, out);
     }
     text::write_refusal(number, out)
 }

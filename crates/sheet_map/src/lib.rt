@@ -4,32 +4,38 @@ use judged::figures::FIGURE_MEASURES_SIZE;
 use map_lines::spans;
 use map_lines::spans::Axis;
 use ruling::ROWS_SIZE;
-use ruling::Sheet;
+use sheet_file::Settings;
 use text::Written;
+use view::Floats;
+use view::Words;
 ghost use Rattle.judging.specs.Judging.{Arrays};
 ghost use Rattle.text.specs.Answer.{Shows};
 ghost use Rattle.sheet_map.specs.Text.{mapTextOf};
 ghost use Rattle.sheet_map.specs.Table.{drawnBy};
 
-// Writes the map of an accepted sheet, or `refused 10`.
-fn draw(sheet: Sheet, out: &mut [u8]) -> Written
-    requires { ⌜ Arrays (sheet .count) (sheet .table) ⌝ }
-    ensures { λ r. ⌜ Shows (drawnBy sheet) (now (out .entry)) (now (out .exit)) r ⌝ }
+// Writes the map of n points in cell order, or `refused 10`.
+fn draw<'a>(
+    s: Settings,
+    n: usize,
+    keys: &'a Words,
+    idx: &'a Words,
+    x: &'a Floats,
+    y: &'a Floats,
+    out: &mut [u8],
+) -> Written
+    requires { ⌜ Arrays n (now keys) (now x) (now y) ⌝ }
+    ensures { λ r. ⌜ Shows (drawnBy s n (now (keys .entry)) (now (idx .entry)) (now (x .entry)) (now (y .entry))) (now (out .entry)) (now (out .exit)) r ⌝ }
 {
-    let settings = sheet.settings;
-    let n = sheet.count;
-    let table = sheet.table;
-    let keys = table.keys;
-    let u = spans::span_along(&keys, n, Axis::AlongU);
-    let v = spans::span_along(&keys, n, Axis::AlongV);
+    let u = spans::span_along(keys, n, Axis::AlongU);
+    let v = spans::span_along(keys, n, Axis::AlongV);
     if map_lines::too_wide(u, v) {
         return text::write_refusal(10, out);
     }
     let mut counts = [0u8; FIGURE_COUNTS_SIZE];
     let mut measures = [0.0f32; FIGURE_MEASURES_SIZE];
-    let j = judging::judge(settings, n, table, &mut counts, &mut measures);
+    let j = judging::judge(s, n, keys, idx, x, y, &mut counts, &mut measures);
     let marks = j.marks;
-    map_lines::write_map(n, &keys, &marks, u, v, out)
+    map_lines::write_map(n, keys, &marks, u, v, out)
 }
 
 // Writes the map of a sheet file, or `refused` and the number.
@@ -41,5 +47,13 @@ pub fn draw_sheet(file: &[u8], out: &mut [u8]) -> Written
     if 0 < number {
         return text::write_refusal(number, out);
     }
-    draw(sheet, out)
+    draw(
+        sheet.settings,
+        sheet.count,
+        &sheet.table.keys,
+        &sheet.table.idx,
+        &sheet.table.x,
+        &sheet.table.y,
+        out,
+    )
 }

@@ -11,9 +11,9 @@ use Rattle.folds.specs.Below.{some, tally}
 use Rattle.offsets.specs.declared.Offset.{Offset}
 use Rattle.offsets.specs.Offsets.{own, squareSides, placeOf}
 
--- the most points of a sheet ("There are more than 2,048 points")
+-- the most points of a sheet ("There are more than 2,048 points"; document 02, A.4: "2,304 points pass and 2,305 give refusal 2")
 abbrev pub maxPoints : ℕ
-maxPoints = 2048
+maxPoints = 2304
 
 -- ---- the table of ranks: 25 neighbours for each point, then its row, its column and the place of its index, each in a block of its own
 

@@ -11,7 +11,7 @@ ghost use Rattle.folds.specs.Marked.{bit};
 ghost use Rattle.offsets.specs.Offsets.{isNear, placeOf};
 
 // Every array with an entry for each point has this length.
-pub const MAX_POINTS: usize = 2048;
+pub const MAX_POINTS: usize = 2304;
 
 // The table of ranks: 25 neighbours for each point, then its row, its column and the place of its index, each in a block of its own.
 pub const RANKS_SIZE: usize = 28 * MAX_POINTS;

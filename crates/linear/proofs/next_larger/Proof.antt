@@ -20,14 +20,14 @@ returns c =
     let l = c .before .before .before .before in
     let a = l .before .before .before .args in
     let t = c .before .before .before .loop-test .taken in
-    next-found (a .m .now) (a .i) (a .best) (l .loop .k) t (l .before .abs .ensures) (c .before .abs2 .ensures) (c .if1 .taken) ∙ l .loop .inv
+    next-found (a .m .now) (a .i) (a .best) (l .loop .k) t (l .before .magnitude .ensures) (c .before .magnitude2 .ensures) (c .if1 .taken) ∙ l .loop .inv
 
 loop-again : tie.Need-loop-again Inv-loop μ-loop
 loop-again c =
     let l = c .before .before .before .before in
     let a = l .before .before .before .args in
     let t = c .before .before .before .loop-test .taken in
-    next-passed (a .m .now) (a .i) (a .best) (l .loop .k) t (l .before .abs .ensures) (c .before .abs2 .ensures) (c .if1 .left) ∙ l .loop .inv
+    next-passed (a .m .now) (a .i) (a .best) (l .loop .k) t (l .before .magnitude .ensures) (c .before .magnitude2 .ensures) (c .if1 .left) ∙ l .loop .inv
 
 returns-2 : tie.Need-returns-2 Inv-loop μ-loop
 unfolding nextLarger

@@ -1,26 +1,21 @@
-use mathlib.Core.Path.{_≡_, _∙_, sym}
-use Prim.Native.Nat.{_-_}
-use Rattle.folds.specs.Run.{run}
-use Rattle.folds.proofs.Run.{run-step, run-done}
-use Rattle.linear.specs.Linear.{reduceEntry, reduceRow}
+use mathlib.Core.Path.{_∙_}
+use native.Mathlib.Omega.{arith}
+use Rattle.folds.proofs.Run.{run-parts}
+use Rattle.linear.specs.Linear.{reduceRow}
 use borrow.Author.Needs.{needs}
 use Rattle.linear.proofs.reduce_row.Statement.{statement}
 use Rattle.linear.proofs.reduce_row.Tie as tie
 
-abbrev Inv-loop : tie.InvT-loop
-Inv-loop m₀ p i inverse k t j₀ m j = run (reduceEntry p k t) j 8 m ≡ run (reduceEntry p k t) j₀ 8 m₀
-
-abbrev μ-loop : tie.MeasureT-loop
-μ-loop m₀ p i inverse k t j₀ m j = 8 - j
-
-loop-again : tie.Need-loop-again Inv-loop μ-loop
-unfolding reduceEntry
-loop-again c = sym (run-step _ _ _ _ (c .before .before .loop-test .taken)) ∙ c .before .before .before .loop .inv
-
-returns : tie.Need-returns Inv-loop μ-loop
+returns : tie.Need-returns
 unfolding reduceRow
-returns c = sym (run-done _ _ _ _ (c .loop-test .left)) ∙ c .before .loop .inv
+returns c =
+    let h = c .before .before .before .before .if1 .taken in
+    c .reduce-entries2 .ensures ∙ rw (c .before .before .reduce-entries .ensures) (run-parts _ _ _ _ _ (omega (arith, h)) (omega arith))
+
+returns-2 : tie.Need-returns-2
+unfolding reduceRow
+returns-2 c = c .reduce-entries3 .ensures
 
 pub reduce-row-spec : {M : Type 1} → statement M
 reduce-row-spec = tie.close
-    (tie.spec Inv-loop μ-loop (λ c. search needs) (λ c. search needs) (λ c. search needs) (λ c. search needs) (λ c. search needs) (λ c. search needs) (λ c. search needs) (λ c. search needs) (λ c. search needs) (λ c. search needs) (λ c. search needs) (λ c. search needs) (λ c. search needs) (λ c. search needs) (λ c. search needs) (λ c. search needs) (λ c. search needs) (λ c. search needs) (λ c. search needs) (λ c. search needs) (λ c. search needs) (λ c. search needs) loop-again returns)
+    (tie.spec (λ c. search needs) (λ c. search needs) (λ c. search needs) (λ c. search needs) (λ c. search needs) (λ c. search needs) (λ c. search needs) (λ c. search needs) (λ c. search needs) (λ c κs. search needs) (λ c κs. search needs) returns (λ c. search needs) (λ c κs. search needs) returns-2)

@@ -1,5 +1,6 @@
 -- `points::coordinates` meets its contract: the column is filled from its front. Assumes nothing.
 use Rattle.sheet_file.specs.Refusals.{floatAt}
+use Rattle.sort.specs.Packed.{packedPlaces}
 use lib.Ieee.{nan, div, ofBits}
 use Rattle.folds.specs.Column.{Filling}
 use Rattle.folds.proofs.Column.{fill-start, fill-more, filled}
@@ -13,7 +14,7 @@ use Rattle.points.proofs.coordinates.Statement.{statement}
 use Rattle.points.proofs.coordinates.Tie as tie
 
 abbrev Inv-loop : tie.InvT-loop
-Inv-loop file at field n entries none out₀ i₀ out i = (i ≤ n) × Filling out₀ nan (λ (k : ℕ). floatAt file (at + 20 * (getD entries k 0 % 4096) + field)) i out
+Inv-loop file at field n entries none out₀ i₀ out i = (i ≤ n) × Filling out₀ nan (λ (k : ℕ). floatAt file (at + 20 * (getD entries k 0 % packedPlaces) + field)) i out
 
 abbrev μ-loop : tie.MeasureT-loop
 μ-loop file at field n entries none out₀ i₀ out i = n - i
@@ -22,7 +23,7 @@ loop-holds : tie.Need-loop-holds Inv-loop μ-loop
 loop-holds c = (search needs, fill-start _ nan _)
 
 -- the place of the entry in hand
-placed : (c : tie.In-loop Inv-loop μ-loop) → let a = c .before .before .before .args in getD (now (a .entries)) (c .before .loop .i) 0 % 4096 < a .n
+placed : (c : tie.In-loop Inv-loop μ-loop) → let a = c .before .before .before .args in getD (now (a .entries)) (c .before .loop .i) 0 % packedPlaces < a .n
 placed c = c .before .before .before .pre .held .placed (c .before .loop .i) (c .loop-test .taken)
 
 mul-float-at : tie.Need-mul-float-at Inv-loop μ-loop

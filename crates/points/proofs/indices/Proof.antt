@@ -1,5 +1,6 @@
 -- `points::indices` meets its contract: the column is filled from its front. Assumes nothing.
 use Rattle.points.specs.Entries.{entryPoint}
+use Rattle.sort.specs.Packed.{packedPlaces}
 use Rattle.folds.specs.Column.{Filling}
 use Rattle.folds.proofs.Column.{fill-start, fill-more, filled}
 use denote.Ref.{now}
@@ -21,7 +22,7 @@ loop-holds : tie.Need-loop-holds Inv-loop μ-loop
 loop-holds c = (search needs, fill-start _ 0 _)
 
 -- the place of the entry in hand
-placed : (c : tie.In-loop Inv-loop μ-loop) → let a = c .before .before .before .args in getD (now (a .entries)) (c .before .loop .i) 0 % 4096 < a .n
+placed : (c : tie.In-loop Inv-loop μ-loop) → let a = c .before .before .before .args in getD (now (a .entries)) (c .before .loop .i) 0 % packedPlaces < a .n
 placed c = c .before .before .before .pre .placed (c .before .loop .i) (c .loop-test .taken)
 
 mul-u32-at : tie.Need-mul-u32-at Inv-loop μ-loop

@@ -1,4 +1,5 @@
 -- `points::keys` meets its contract: the column is filled from its front. Assumes nothing.
+use Rattle.sort.specs.Packed.{packedPlaces}
 use Rattle.folds.specs.Column.{Filling}
 use Rattle.folds.proofs.Column.{fill-start, fill-more, filled}
 use native.Mathlib.Omega.{arith}
@@ -10,7 +11,7 @@ use Rattle.points.proofs.keys.Statement.{statement}
 use Rattle.points.proofs.keys.Tie as tie
 
 abbrev Inv-loop : tie.InvT-loop
-Inv-loop entries n out₀ i₀ out i = (i ≤ n) × Filling out₀ 0 (λ (k : ℕ). getD entries k 0 / 4096) i out
+Inv-loop entries n out₀ i₀ out i = (i ≤ n) × Filling out₀ 0 (λ (k : ℕ). getD entries k 0 / packedPlaces) i out
 
 abbrev μ-loop : tie.MeasureT-loop
 μ-loop entries n out₀ i₀ out i = n - i

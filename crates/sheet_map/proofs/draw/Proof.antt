@@ -23,25 +23,25 @@ returns c =
     let w = c .before .before in
     let t = w .before .before in
     let v = t .before .before in
-    let u = v .before .before in
+    let u = v .before in
     rw (of-spans (u .span-along .ensures) (v .span-along2 .ensures) ∙ sym (t .before .too-wide .ensures) ∙ t .if1 .taken) (w .write-refusal .ensures)
 
 write-map-requires : tie.Need-write-map-requires
 write-map-requires c κs =
-    let t = c .before .before .before .before .before .before .before in
+    let t = c .before .before .before .before .before .before in
     let v = t .before .before in
-    let u = v .before .before in
-    let s = u .before .before .before .before .before .before in
-    (s .pre .keys .few, u .span-along .ensures, v .span-along2 .ensures, of-spans (u .span-along .ensures) (v .span-along2 .ensures) ∙ sym (t .before .too-wide .ensures) ∙ t .if1 .left)
+    let u = v .before in
+    let s = u .before .before in
+    (s .pre .keyed .few, u .span-along .ensures, v .span-along2 .ensures, of-spans (u .span-along .ensures) (v .span-along2 .ensures) ∙ sym (t .before .too-wide .ensures) ∙ t .if1 .left)
 
 returns-2 : tie.Need-returns-2
 unfolding judgedFrom
 returns-2 c =
     let w = c .before .before in
-    let j = w .before .before .before .before .before in
-    let t = w .before .before .before .before .before .before .before .before in
+    let j = w .before .before .before .before in
+    let t = w .before .before .before .before .before .before .before in
     let v = t .before .before in
-    let u = v .before .before in
+    let u = v .before in
     rw (of-spans (u .span-along .ensures) (v .span-along2 .ensures) ∙ sym (t .before .too-wide .ensures) ∙ t .if1 .left)
     (rw (ap (λ (x : Judged). x .marks) (j .judge .ensures)) at (w .write-map .ensures))
 
