@@ -41,20 +41,24 @@ extern "C" {
 /* The version of this header and of the library that is installed with it. A change that breaks a
    caller raises the first number, an addition the second, anything else the third. */
 #define HIGLAUPTH_VERSION_MAJOR 2
-#define HIGLAUPTH_VERSION_MINOR 0
-#define HIGLAUPTH_VERSION_PATCH 1
-#define HIGLAUPTH_VERSION "2.0.1"
+#define HIGLAUPTH_VERSION_MINOR 1
+#define HIGLAUPTH_VERSION_PATCH 0
+#define HIGLAUPTH_VERSION "2.1.0"
 
 /* Sizes, in bytes but for the first three. */
-#define HIGLAUPTH_MOST_POINTS 2048  /* a sheet with more is refused */
+#define HIGLAUPTH_MOST_POINTS 2304  /* a sheet with more is refused */
 #define HIGLAUPTH_MAP_COLUMNS 72    /* values of u that a map has room for */
 #define HIGLAUPTH_MAP_LINES 60      /* values of v that a map has room for */
 #define HIGLAUPTH_ROW_SIZE 28       /* a row */
-#define HIGLAUPTH_ROWS_SIZE 57344   /* 2,048 rows: a buffer of this size always suffices */
 #define HIGLAUPTH_MAP_SIZE 4860     /* 60 lines of a map: a buffer of this size always suffices */
-#define HIGLAUPTH_FILE_SIZE 41007   /* the longest file that can be accepted */
-#define HIGLAUPTH_READ_SIZE 65568   /* read so much of a file whose length is not known */
-#define HIGLAUPTH_STACK_SIZE 786432 /* stack to have free; the note at the functions */
+#define HIGLAUPTH_STACK_SIZE 491520 /* stack to have free; the note at the functions */
+
+/* The rows of the most points: a buffer of this size always suffices. */
+#define HIGLAUPTH_ROWS_SIZE (HIGLAUPTH_ROW_SIZE * HIGLAUPTH_MOST_POINTS)
+/* The longest file that can be accepted: tags 1 and 2, and tag 3 with the most points. */
+#define HIGLAUPTH_FILE_SIZE (3 + 21 + 3 + 17 + 3 + 20 * HIGLAUPTH_MOST_POINTS)
+/* Read so much of a file whose length is not known. */
+#define HIGLAUPTH_READ_SIZE (3 + 21 + 3 + 17 + 3 + 20 * (65535 / 20) + 1)
 
 /* Limits of a run: a record that has reached one, or is over it, takes no more sheets. */
 #define HIGLAUPTH_MOST_SHEETS 65535     /* accepted sheets that it counts */
@@ -65,7 +69,7 @@ extern "C" {
  * settings, 3 + 17 of the gate, 3 + 65,520 of points, 3,276 of them. A longer file is refused
  * with 1, and so are its first HIGLAUPTH_READ_SIZE bytes: a reader that stops there gets the
  * whole file's answer. One that stops at HIGLAUPTH_FILE_SIZE may cut a file into one that is
- * accepted though the whole is refused: an accepted file of 41,007 bytes and a byte after it.
+ * accepted though the whole is refused: an accepted file of that size and a byte after it.
  */
 
 /*
@@ -84,7 +88,7 @@ extern "C" {
 enum higlaupth_refusal {
     HIGLAUPTH_MISFRAMED = 1,       /* The fields, their order, their lengths or the end of the
                                       file differ from the list above. */
-    HIGLAUPTH_TOO_MANY_POINTS = 2, /* There are more than 2,048 points. */
+    HIGLAUPTH_TOO_MANY_POINTS = 2, /* There are more than 2,304 points. */
     HIGLAUPTH_SHORT_BUFFER = 3,    /* The result buffer is shorter than 28 bytes per point. */
     HIGLAUPTH_BAD_SWITCH = 4,      /* The step flag or a switch is neither 0 nor 1. */
     HIGLAUPTH_BAD_SETTING = 5,     /* A float of tag 1 or 2 is not finite or exceeds 16,384 in
@@ -190,8 +194,8 @@ enum higlaupth_present {
  *   exceptions. The call neither reads nor changes that register's modes; like any arithmetic it
  *   may set its sticky exception bits. It uses no x87 and no instruction beyond SSE2.
  * - HIGLAUPTH_STACK_SIZE bytes of the calling thread's stack are free. No proof bounds the
- *   stack: this is the deepest use that was measured, docs/TESTING.md, rounded up. The usual
- *   8 MiB of a main thread and the 2 MiB of a Rust thread suffice. The code touches its stack
+ *   stack: this is the deepest use that was measured, docs/TESTING.md, rounded up to a page. The
+ *   usual 8 MiB of a main thread and the 2 MiB of a Rust thread suffice. The code touches its stack
  *   page by page, so that a stack too small ends in a fault at its guard page.
  */
 
@@ -230,7 +234,7 @@ static inline const char *higlaupth_refusal_text(unsigned number) {
     case HIGLAUPTH_MISFRAMED:
         return "the fields, their order, their lengths or the end of the file are wrong";
     case HIGLAUPTH_TOO_MANY_POINTS:
-        return "there are more than 2,048 points";
+        return "there are more than 2,304 points";
     case HIGLAUPTH_SHORT_BUFFER:
         return "the result buffer is shorter than 28 bytes per point";
     case HIGLAUPTH_BAD_SWITCH:
@@ -256,7 +260,7 @@ static inline const char *higlaupth_refusal_text(unsigned number) {
 
 /*
  * Of a number that higlaupth_keep or higlaupth_keep_in_run returned and that is no refusal: how
- * many points, hence rows; 0 to 2,048.
+ * many points, hence rows; 0 to HIGLAUPTH_MOST_POINTS.
  * Example:
  *
  *     for (unsigned k = 0; k < higlaupth_points(returned); k++) {
@@ -440,7 +444,8 @@ void higlaupth_run_from_old_sums(const higlaupth_old_sums *old_sums, higlaupth_r
  * A refusal leaves buffer and record as they were.
  *
  * Any record may be handed in, and no sum wraps. A run that one of the two functions above started
- * stays far below HIGLAUPTH_SUM_LIMIT: 65,535 sheets of 2,048 indices make 134,215,680.
+ * stays far below HIGLAUPTH_SUM_LIMIT: its new sums are at most HIGLAUPTH_MOST_SHEETS *
+ * HIGLAUPTH_MOST_POINTS.
  * Example:
  *
  *     returned = higlaupth_keep_in_run(file, file_len, rows, sizeof rows, &older_run);

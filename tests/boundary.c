@@ -13,8 +13,18 @@
 #include <sys/mman.h>
 
 enum { PAINT = 0xA5, MOST_RECORDS = 65535 / 20, LINE_SIZE = 6 + 1 + HIGLAUPTH_MAP_COLUMNS + 1 + 1 };
+/* The height of the sheets that are written here: no list of points is then too wide for a map. */
+enum { HEIGHT = 48 };
 /* The record of a run as an array: how many numbers, and where those after the old sums stand. */
 enum { NUMBERS = 11, SHEETS = 5, NEW_SUMS = 6, SUMS = 5 };
+
+/* The sizes are constants for the preprocessor too, each one operand. */
+#if HIGLAUPTH_ROWS_SIZE / HIGLAUPTH_ROWS_SIZE != 1 || HIGLAUPTH_FILE_SIZE - HIGLAUPTH_FILE_SIZE != 0
+#error "HIGLAUPTH_ROWS_SIZE or HIGLAUPTH_FILE_SIZE"
+#endif
+#if HIGLAUPTH_READ_SIZE - HIGLAUPTH_READ_SIZE != 0 || HIGLAUPTH_READ_SIZE <= HIGLAUPTH_FILE_SIZE
+#error "HIGLAUPTH_READ_SIZE"
+#endif
 
 typedef struct {
     int u, v;
@@ -114,7 +124,8 @@ static uint8_t *write_point(uint8_t *at, point p) {
 }
 
 /* Writes into `file` tag 1 of length 21, tag 2 with the original's values, and tag 3 with so many
-   points in columns of 46. Returns the length. */
+   points in columns of HEIGHT; of more than MOST_RECORDS its length is cut to two bytes. Returns the
+   length of all. */
 static size_t write_sheet(unsigned points) {
     uint8_t *at = write_number(file, 1, 1);
     at = write_number(at, 21, 2);
@@ -135,7 +146,7 @@ static size_t write_sheet(unsigned points) {
     at = write_number(at, 3, 1);
     at = write_number(at, 20 * points, 2);
     for (unsigned k = 0; k < points; k++) {
-        int u = (int)(k / 46), v = (int)(k % 46);
+        int u = (int)k / HEIGHT, v = (int)k % HEIGHT;
         point p = {u, v, k, (float)(100 * u), (float)(100 * v)};
         at = write_point(at, p);
     }
@@ -198,9 +209,9 @@ static void check_numbers(const char *version) {
             HIGLAUPTH_VERSION_PATCH);
     CHECK(strcmp(HIGLAUPTH_VERSION, version) == 0);
     CHECK(strcmp(numbers, version) == 0);
-    CHECK(HIGLAUPTH_ROWS_SIZE == HIGLAUPTH_ROW_SIZE * HIGLAUPTH_MOST_POINTS);
-    CHECK(HIGLAUPTH_FILE_SIZE == 3 + 21 + 3 + 17 + 3 + 20 * HIGLAUPTH_MOST_POINTS);
-    CHECK(HIGLAUPTH_READ_SIZE == 1 + 3 + 21 + 3 + 17 + 3 + 20 * MOST_RECORDS);
+    CHECK(HIGLAUPTH_MOST_POINTS == 2304 && HIGLAUPTH_ROWS_SIZE == 64512);
+    CHECK(HIGLAUPTH_READ_SIZE == 65567 + 1);
+    CHECK((uint64_t)HIGLAUPTH_MOST_SHEETS * HIGLAUPTH_MOST_POINTS < HIGLAUPTH_SUM_LIMIT);
     CHECK(HIGLAUPTH_MAP_SIZE == LINE_SIZE * HIGLAUPTH_MAP_LINES && LINE_SIZE == 80 + 1);
     CHECK(HIGLAUPTH_NO_ROOM > HIGLAUPTH_MAP_SIZE && HIGLAUPTH_NO_ROOM + 1 == 0);
     CHECK(HIGLAUPTH_MOST_SHEETS == 65535 && HIGLAUPTH_SUM_LIMIT == (uint64_t)1 << 31);
@@ -277,7 +288,11 @@ static void check_lengths(void) {
     CHECK(!higlaupth_refused(returned) && higlaupth_points(returned) == HIGLAUPTH_MOST_POINTS);
     CHECK(keep(HIGLAUPTH_FILE_SIZE + 1, HIGLAUPTH_ROWS_SIZE) == HIGLAUPTH_MISFRAMED);
     CHECK(keep(HIGLAUPTH_FILE_SIZE - 1, HIGLAUPTH_ROWS_SIZE) == HIGLAUPTH_MISFRAMED);
+    CHECK(keep(HIGLAUPTH_FILE_SIZE, HIGLAUPTH_ROWS_SIZE - 1) == HIGLAUPTH_SHORT_BUFFER);
 
+    const size_t more = write_sheet(HIGLAUPTH_MOST_POINTS + 1), one_row = HIGLAUPTH_ROW_SIZE;
+    CHECK(keep(more, HIGLAUPTH_ROWS_SIZE + one_row) == HIGLAUPTH_TOO_MANY_POINTS);
+    CHECK(keep(write_sheet(MOST_RECORDS + 1), HIGLAUPTH_ROWS_SIZE) == HIGLAUPTH_MISFRAMED);
     CHECK(write_sheet(MOST_RECORDS) == HIGLAUPTH_READ_SIZE - 1);
     CHECK(keep(HIGLAUPTH_READ_SIZE - 1, HIGLAUPTH_ROWS_SIZE) == HIGLAUPTH_TOO_MANY_POINTS);
     CHECK(keep(HIGLAUPTH_READ_SIZE, HIGLAUPTH_ROWS_SIZE) == HIGLAUPTH_MISFRAMED);
@@ -389,9 +404,10 @@ static void check_page(void) {
     CHECK(higlaupth_map(NULL, 0, after, 10) == 10 && memcmp(after, "refused 1\n", 10) == 0);
 
     CHECK(write_sheet(HIGLAUPTH_MOST_POINTS) == HIGLAUPTH_FILE_SIZE);
-    CHECK(map(HIGLAUPTH_FILE_SIZE, HIGLAUPTH_MAP_SIZE) == 46 * LINE_SIZE);
+    CHECK(map(HIGLAUPTH_FILE_SIZE, HIGLAUPTH_MAP_SIZE) == HEIGHT * LINE_SIZE);
     check_both_refused(HIGLAUPTH_FILE_SIZE + 1);
     check_both_refused(write_sheet(HIGLAUPTH_MOST_POINTS + 1));
+    check_both_refused(write_sheet(MOST_RECORDS + 1));
     CHECK(write_sheet(MOST_RECORDS) == HIGLAUPTH_READ_SIZE - 1);
     check_both_refused(HIGLAUPTH_READ_SIZE - 1);
     check_both_refused(HIGLAUPTH_READ_SIZE);

@@ -18,16 +18,17 @@ use std::io::{Read, Write};
 use std::mem::MaybeUninit;
 use std::process::ExitCode;
 
+const MOST_POINTS: usize = 2304;
 const ROW_SIZE: usize = 28;
-const ROWS_SIZE: usize = 57_344;
+const ROWS_SIZE: usize = ROW_SIZE * MOST_POINTS;
 const MAP_SIZE: usize = 4_860;
-const READ_SIZE: u64 = 65_568;
+const READ_SIZE: u64 = 3 + 21 + 3 + 17 + 3 + 20 * (65_535 / 20) + 1;
 
 /// The texts of the header's refusals; the tenth is of `higlaupth_map` alone, the eleventh of
 /// `higlaupth_keep_in_run`.
 const REFUSALS: [&str; 11] = [
     "the fields, their order, their lengths or the end of the file are wrong",
-    "there are more than 2,048 points",
+    "there are more than 2,304 points",
     "the result buffer is shorter than 28 bytes per point",
     "the step flag or a switch is neither 0 nor 1",
     "a float of tag 1 or 2 is not finite or exceeds 16,384 in magnitude",

@@ -7,6 +7,7 @@ mod compare;
 mod floats;
 mod generate;
 mod guarded;
+mod header;
 mod library;
 mod limits;
 mod load;
@@ -271,7 +272,8 @@ fn main() -> ExitCode {
             .iter()
             .for_each(|(kind, text)| println!("{kind:?}: {text}")),
         ["second", buffer @ ..] => {
-            let buffer = buffer.first().map_or(1 << 16, |b| b.parse().unwrap_or(0));
+            let buffer = buffer.first();
+            let buffer = buffer.map_or(second::ROOM, |b| b.parse().unwrap_or(0));
             output(
                 second::answer(&input(), buffer, Fault::None)
                     .listing()

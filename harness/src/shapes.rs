@@ -6,6 +6,9 @@ use crate::second::MAX_POINTS;
 use crate::sheet::{Gate, Point, Rest, Settings, Sheet};
 use std::collections::HashSet;
 
+/// The side of the largest square board that a sheet has room for.
+pub const SIDE: i32 = MAX_POINTS.isqrt() as i32;
+
 /// Which cells are taken.
 #[derive(Clone, Copy, Debug, PartialEq)]
 pub enum Cells {
@@ -281,10 +284,10 @@ impl Index {
 
 const CELLS: [Cells; 16] = [
     Cells::Board(32),
-    Cells::Board(45),
+    Cells::Board(SIDE),
     Cells::Board(2),
     Cells::Board(4),
-    Cells::Ragged(45),
+    Cells::Ragged(SIDE),
     Cells::Ragged(4),
     Cells::Patches,
     Cells::Isolated,
@@ -372,6 +375,59 @@ pub fn change(r: &mut Random, s: &mut Shape) {
         }
         _ => s.seed = r.bits(),
     }
+}
+
+/// A straight board in columns of some height, its cells 100 pixels wide or as wide as they may be, with
+/// the short settings and no gate. It may have more points than a sheet.
+pub fn columns(count: usize, height: usize) -> Sheet {
+    let extent = height.max(count.div_ceil(height));
+    let cell_size = 100f32.min(16384.0 / extent as f32);
+    let point = |k: usize| {
+        let (u, v) = (k / height, k % height);
+        Point {
+            u: u as i32,
+            v: v as i32,
+            index: k as u32,
+            x: cell_size * u as f32,
+            y: cell_size * v as f32,
+        }
+    };
+    Sheet {
+        settings: Settings {
+            cell_size,
+            rest: None,
+        },
+        gate: None,
+        points: (0..count).map(point).collect(),
+    }
+}
+
+/// A row of points one pixel apart where a cell is 100 pixels wide: each lies close to others.
+pub fn close_row(count: usize) -> Sheet {
+    let mut sheet = columns(count, 1);
+    sheet.settings.cell_size = 100.0;
+    for (k, point) in sheet.points.iter_mut().enumerate() {
+        point.x = k as f32;
+    }
+    sheet
+}
+
+/// The board of `columns` with its second half mirrored: the last column stands where the first of that
+/// half stood.
+pub fn half_mirrored(count: usize, height: usize) -> Sheet {
+    let mut sheet = columns(count, height);
+    let width = count.div_ceil(height) as i32;
+    let half = sheet.points.iter_mut().filter(|p| p.u >= width / 2);
+    half.for_each(|p| p.x = sheet.settings.cell_size * (width / 2 + width - 1 - p.u) as f32);
+    sheet
+}
+
+/// The same as `columns` with all settings and the gate.
+pub fn gated_columns(count: usize, height: usize) -> Sheet {
+    let mut sheet = columns(count, height);
+    sheet.settings.rest = Some(all_filters());
+    sheet.gate = Some(default_gate());
+    sheet
 }
 
 /// Any shape of this many points.

@@ -59,6 +59,9 @@ pub struct Sheet {
     pub points: Vec<Point>,
 }
 
+/// The most points that a field holds: its length has two bytes, and a point twenty.
+pub const MOST_RECORDS: usize = u16::MAX as usize / 20;
+
 /// One field: tag, length, data. The length is cut to two bytes.
 pub fn field(tag: u8, data: &[u8]) -> Vec<u8> {
     let mut out = vec![tag];

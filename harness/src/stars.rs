@@ -1,9 +1,11 @@
 //! The sheets that document 01 names, with what it says of them, one on which the Rust's acos
-//! differs, and maps, tallies and calls in a run written out from document 02, A.1 and A.2.
+//! differs, maps, tallies and calls in a run written out from document 02, A.1 and A.2, and sheets
+//! about A.4's limit of points.
 
+mod points;
 mod runs;
 
-use crate::second::{self, over_30_degrees, Answer, Fault};
+use crate::second::{self, over_30_degrees, Answer, Fault, ROOM};
 use crate::text;
 
 /// Document 01's sheet of five points, its index 7 twice, and the same torn.
@@ -191,7 +193,7 @@ fn marks(listing: &str) -> Vec<&str> {
 }
 
 fn listing_of(sheet: &str) -> String {
-    second::answer(&file(sheet), 1 << 16, Fault::None).listing()
+    second::answer(&file(sheet), ROOM, Fault::None).listing()
 }
 
 /// The whole text that the beginnings of a map's lines stand for.
@@ -205,13 +207,6 @@ fn whole_map(lines: &[&str]) -> String {
 
 fn map_of(sheet: &str) -> String {
     second::map_text(&second::map(&file(sheet), Fault::None))
-}
-
-/// A row of n points, the settings on top.
-fn row(n: usize) -> String {
-    (0..n).fold("cell 100\n".into(), |text, k| {
-        text + &format!("{k} 0 {k} {k} 0\n")
-    })
 }
 
 fn file(sheet: &str) -> Vec<u8> {
@@ -229,12 +224,8 @@ pub fn small_files() -> Vec<Vec<u8>> {
 /// The files of the named sheets.
 pub fn files() -> Vec<Vec<u8>> {
     let mut out: Vec<Vec<u8>> = SHEETS.iter().map(|(_, sheet, _)| file(sheet)).collect();
-    out.extend([
-        file(&row(2048)),
-        file(&row(2049)),
-        file(REPEATED_AND_INFINITE),
-        Vec::new(),
-    ]);
+    out.extend([file(REPEATED_AND_INFINITE), Vec::new()]);
+    out.extend(points::files());
     out.extend(MAPS.iter().map(|(_, sheet, _)| file(sheet)));
     out
 }
@@ -244,17 +235,7 @@ fn maps() -> Vec<(String, bool)> {
     let check = |(name, sheet, lines): &(&str, &str, &[&str])| {
         (name.to_string(), map_of(sheet) == whole_map(lines))
     };
-    let mut out: Vec<(String, bool)> = MAPS.iter().map(check).collect();
-    let mut also = |name: &str, holds: bool| out.push((name.to_string(), holds));
-    also(
-        "the map of 2,048 points",
-        map_of(&row(2048)) == "refused 10\n",
-    );
-    also(
-        "the map of 2,049 points",
-        map_of(&row(2049)) == "refused 2\n",
-    );
-    out
+    MAPS.iter().map(check).collect()
 }
 
 /// Each check with whether it holds.
@@ -269,14 +250,10 @@ pub fn checks() -> Vec<(String, bool)> {
         out.push((name.to_string(), holds));
     }
     out.extend(maps());
+    out.extend(points::checks());
     out.extend(runs::tallies());
     out.extend(runs::calls());
     let mut also = |name: &str, holds: bool| out.push((name.to_string(), holds));
-    also("2,049 points", listing_of(&row(2049)) == "refused 2\n");
-    also(
-        "2,048 points",
-        listing_of(&row(2048)).starts_with("points 2048 "),
-    );
     also(
         "a repeated cell with an infinite position",
         listing_of(REPEATED_AND_INFINITE) == "refused 7\n",

@@ -12,7 +12,7 @@
 //! ```
 //! A float is a decimal number or its eight hexadecimal digits after `0x`.
 
-use crate::sheet::{Gate, Point, Rest, Settings, Sheet};
+use crate::sheet::{Gate, Point, Rest, Settings, Sheet, MOST_RECORDS};
 use std::fmt::Write;
 use std::str::FromStr;
 
@@ -159,8 +159,8 @@ pub fn from_text(text: &str) -> Result<Sheet, String> {
     if !set {
         return Err("no line `cell` or `settings`".into());
     }
-    if sheet.points.len() > 3276 {
-        return Err("a field holds at most 3,276 points".into());
+    if sheet.points.len() > MOST_RECORDS {
+        return Err(format!("a field holds at most {MOST_RECORDS} points"));
     }
     Ok(sheet)
 }

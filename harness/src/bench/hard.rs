@@ -3,7 +3,7 @@
 use super::{ours, whole, Rounds};
 use crate::random::Random;
 use crate::second::MAX_POINTS;
-use crate::shapes::{self, Cells, Index, Order, Place, Shape};
+use crate::shapes::{self, Cells, Index, Order, Place, Shape, SIDE};
 
 /// Shapes that are hard on one part or another, with the step flag and the edge gate on.
 pub fn hard_shapes(n: usize) -> Vec<(&'static str, Shape)> {
@@ -13,7 +13,7 @@ pub fn hard_shapes(n: usize) -> Vec<(&'static str, Shape)> {
         shape
     };
     let plain = |cells: Cells| with(cells, &|_| {});
-    let board = Cells::Board(45);
+    let board = Cells::Board(SIDE);
     vec![
         ("board", plain(board)),
         (
@@ -105,7 +105,7 @@ fn dearest(n: usize) -> Shape {
     }
 }
 
-/// Looks for the dearest call on 2,048 points: shapes at random, then changes to the dearest ones.
+/// Looks for the dearest call on the most points: shapes at random, then changes to the dearest ones.
 pub fn worst(tries: usize, seed: u64) {
     const KEPT: usize = 12;
     let mut r = Random::new(seed);

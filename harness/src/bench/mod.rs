@@ -8,7 +8,7 @@ use crate::clock::processor;
 use crate::library;
 use crate::run_original::Prepared;
 use crate::second::{self, Fault, Record, MAX_POINTS};
-use crate::shapes::{Cells, Shape};
+use crate::shapes::{Cells, Shape, SIDE};
 use crate::sheet::Sheet;
 use hard::{hard_shapes, DEAREST};
 use std::cell::{Cell, RefCell};
@@ -107,20 +107,22 @@ fn theirs(rounds: &Rounds, sheet: &Sheet) -> Option<f64> {
     Some(rounds.least(|| prepared.drop_set()))
 }
 
-/// A number for a table: whole, grouped by commas, or a dash.
-fn whole(number: Option<f64>) -> String {
-    let Some(number) = number else {
-        return "–".into();
-    };
-    let digits = format!("{number:.0}");
+/// A whole number, grouped by commas.
+fn grouped(number: usize) -> String {
+    let digits = number.to_string();
     let mut out = String::new();
     for (k, digit) in digits.chars().enumerate() {
-        if k > 0 && (digits.len() - k) % 3 == 0 {
+        if k > 0 && (digits.len() - k).is_multiple_of(3) {
             out.push(',');
         }
         out.push(digit);
     }
     out
+}
+
+/// A number for a table: whole, or a dash.
+fn whole(number: Option<f64>) -> String {
+    number.map_or("–".into(), |n| grouped(n.round_ties_even() as usize))
 }
 
 fn one_place(number: Option<f64>) -> String {
@@ -131,15 +133,18 @@ fn ratio(theirs: Option<f64>, ours: Option<f64>) -> Option<f64> {
     Some(theirs? / ours?)
 }
 
-/// The 45 by 45 board through all programs.
+/// The largest square board through all programs.
 fn whole_board(out: &mut Text, rounds: &Rounds) {
-    out.line("A 45 by 45 board, 2,025 points, every filter on; µs:\n");
+    let points = grouped((SIDE * SIDE) as usize);
+    out.line(&format!(
+        "A {SIDE} by {SIDE} board, {points} points, every filter on; µs:\n"
+    ));
     out.line("| | without the edge gate | with it |\n|---|---|---|");
-    let sheets = [false, true].map(|gated| board(45, gated));
+    let sheets = [false, true].map(|gated| board(SIDE, gated));
     let validate = |s: &Sheet| Prepared::new(s).map(|p| rounds.least(|| p.validate()));
     let second = |s: &Sheet| {
         let file = s.to_file();
-        Some(rounds.least(|| second::answer(&file, 1 << 16, Fault::None)))
+        Some(rounds.least(|| second::answer(&file, second::ROOM, Fault::None)))
     };
     let original = sheets.each_ref().map(|s| theirs(rounds, s));
     let library = sheets.each_ref().map(|s| ours(rounds, s));
@@ -155,24 +160,31 @@ fn whole_board(out: &mut Text, rounds: &Rounds) {
     line("`drop_set` / this library", a, b);
 }
 
-/// Boards, ragged sheets and sheets of several patches by size.
+/// Boards, that of 45 by 45 for comparison with older figures, ragged sheets and sheets of several
+/// patches, with their numbers of points.
+fn by_size() -> Vec<(&'static str, Cells, usize)> {
+    let boards = [(1, 0), (10, 100), (20, 400), (40, 1000), (45, 2025)];
+    let boards = boards.into_iter().chain([(SIDE, MAX_POINTS)]);
+    let board = |(height, n)| match n {
+        0 => ("no points", Cells::Board(height), n),
+        _ => ("board", Cells::Board(height), n),
+    };
+    let sizes = [100, 400, 1000, MAX_POINTS];
+    let ragged = sizes.map(|n| {
+        let height = (n * 3 / 2).isqrt() as i32 + 1;
+        ("ragged, a third missing", Cells::Ragged(height), n)
+    });
+    let patches = sizes.map(|n| ("patches of 25", Cells::Patches, n));
+    boards.map(board).chain(ragged).chain(patches).collect()
+}
+
+/// The times of these.
 fn sizes(out: &mut Text, rounds: &Rounds) {
     out.line("\nBy size, every filter on, without and with the edge gate; µs:\n");
     out.line("| sheet | points | library | a point | original | ratio | library, gate | a point | original, gate | ratio |");
     out.line("|---|---|---|---|---|---|---|---|---|---|");
-    let boards = [(10, 100), (20, 400), (40, 1000), (45, 2025), (64, 2048)];
-    let none = ("no points", Cells::Board(1), 0);
-    let boards = boards.map(|(height, n)| ("board", Cells::Board(height), n));
-    let ragged = [(13, 100), (25, 400), (39, 1000), (56, 2048)];
-    let ragged = ragged.map(|(height, n)| ("ragged, a third missing", Cells::Ragged(height), n));
-    let patches = [100, 400, 1000, 2048].map(|n| ("patches of 25", Cells::Patches, n));
-    for (name, cells, n) in [none]
-        .into_iter()
-        .chain(boards)
-        .chain(ragged)
-        .chain(patches)
-    {
-        let mut line = format!("| {name} | {} ", whole(Some(n as f64)));
+    for (name, cells, n) in by_size() {
+        let mut line = format!("| {name} | {} ", grouped(n));
         for gated in [false, true] {
             let mut shape = Shape::new(cells, n);
             shape.gate = shape.gate.filter(|_| gated);
@@ -193,7 +205,10 @@ fn sizes(out: &mut Text, rounds: &Rounds) {
 
 /// The hard shapes at full size.
 fn hard(out: &mut Text, rounds: &Rounds) {
-    out.line("\n2,048 points, step flag and edge gate on; µs:\n");
+    let points = grouped(MAX_POINTS);
+    out.line(&format!(
+        "\n{points} points, step flag and edge gate on; µs:\n"
+    ));
     out.line(
         "| shape | library, least | median | original, least | ratio |\n|---|---|---|---|---|",
     );
@@ -216,7 +231,9 @@ fn hard(out: &mut Text, rounds: &Rounds) {
 /// How the cost grows with the number of points.
 fn growth(out: &mut Text, rounds: &Rounds) {
     out.line("\nHow the cost grows, step flag and edge gate on; µs:\n");
-    out.line("| shape | 256 | 512 | 1,024 | 2,048 |\n|---|---|---|---|---|");
+    let sizes = [256, 512, 1024, 2048, MAX_POINTS];
+    let heads = sizes.map(grouped).join(" | ");
+    out.line(&format!("| shape | {heads} |\n|---|---|---|---|---|---|"));
     let names = [
         "board",
         "board, cell size 16,384: every pair is close",
@@ -226,7 +243,7 @@ fn growth(out: &mut Text, rounds: &Rounds) {
         DEAREST,
     ];
     for name in names {
-        let times = [256, 512, 1024, 2048].map(|n| {
+        let times = sizes.map(|n| {
             let shape = hard_shapes(n).into_iter().find(|(one, _)| *one == name);
             whole(ours(rounds, &shape.unwrap().1.sheet()))
         });
@@ -234,21 +251,31 @@ fn growth(out: &mut Text, rounds: &Rounds) {
     }
 }
 
+/// Sheets by what their maps are: boards as wide and as tall as a map may be among them.
+fn pages() -> Vec<(String, Cells, usize)> {
+    let most = MAX_POINTS as i32;
+    let board = |width: i32, height: i32| {
+        let name = format!("{width} by {height} board");
+        (name, Cells::Board(height), (width * height) as usize)
+    };
+    let ragged = Cells::Ragged(60);
+    vec![
+        ("no points".into(), Cells::Board(1), 0),
+        board(10, 10),
+        board(SIDE, SIDE),
+        board(72, most / 72),
+        board(most / 60, 60),
+        ("ragged, a third missing".into(), ragged, MAX_POINTS),
+        ("one row, too wide".into(), Cells::Row, MAX_POINTS),
+    ]
+}
+
 /// The calls in a run and for the map beside that for the rows.
 fn others(out: &mut Text, rounds: &Rounds) {
     out.line("\nA run and the map beside the rows, step flag and edge gate on; µs:\n");
     out.line("| sheet | points | lines | rows | in a run | run / rows | map | map / rows | the second program's map |");
     out.line("|---|---|---|---|---|---|---|---|---|");
-    let sheets = [
-        ("no points", Cells::Board(1), 0),
-        ("10 by 10 board", Cells::Board(10), 100),
-        ("45 by 45 board", Cells::Board(45), 2025),
-        ("72 by 28 board", Cells::Board(28), 2016),
-        ("34 by 60 board", Cells::Board(60), 2040),
-        ("ragged, a third missing", Cells::Ragged(60), MAX_POINTS),
-        ("one row, too wide", Cells::Row, MAX_POINTS),
-    ];
-    for (name, cells, n) in sheets {
+    for (name, cells, n) in pages() {
         let sheet = Shape::new(cells, n).sheet();
         let file = sheet.to_file();
         let lines = second::map(&file, Fault::None).map_or(0, |text| text.lines().count());
@@ -263,7 +290,7 @@ fn others(out: &mut Text, rounds: &Rounds) {
             one_place(ratio(map, rows)),
             whole(Some(second)),
         ];
-        let points = whole(Some(n as f64));
+        let points = grouped(n);
         out.line(&format!(
             "| {name} | {points} | {lines} | {} |",
             times.join(" | ")

@@ -2,6 +2,7 @@
 
 use crate::random::Random;
 use crate::second::MAX_POINTS;
+use crate::shapes::SIDE;
 use crate::sheet::{Point, Settings, Sheet};
 
 /// A map from cells to positions that a camera might give.
@@ -95,13 +96,9 @@ pub fn varied(r: &mut Random) -> Sheet {
 
 pub fn large(r: &mut Random) -> Sheet {
     match r.below(40) {
-        0 => board(r, 45, 45),
+        0 => board(r, SIDE, SIDE),
         1 => full(r),
-        2 => {
-            let mut s = board(r, 1, MAX_POINTS as i32);
-            s.points.truncate(MAX_POINTS);
-            s
-        }
+        2 => board(r, 1, MAX_POINTS as i32),
         _ => {
             let (width, height) = (r.whole(6, 16), r.whole(6, 16));
             let mut s = board(r, width, height);
@@ -113,7 +110,7 @@ pub fn large(r: &mut Random) -> Sheet {
 
 /// A board of the most points.
 pub fn full(r: &mut Random) -> Sheet {
-    let mut s = board(r, 46, 45);
+    let mut s = board(r, (MAX_POINTS as i32 - 1) / SIDE + 1, SIDE);
     s.points.truncate(MAX_POINTS);
     s
 }

@@ -3,7 +3,7 @@
 use super::{pages, sheet, Case, Expected, Kind};
 use crate::random::Random;
 use crate::second::{MAX_POINTS, ROW};
-use crate::sheet::{field, Gate, Point, Rest, Sheet};
+use crate::sheet::{field, Gate, Point, Rest, Sheet, MOST_RECORDS};
 
 /// A sheet of any accepted kind, kept short.
 fn whole_sheet(r: &mut Random) -> Sheet {
@@ -139,7 +139,12 @@ fn tear_index(r: &mut Random, s: &mut Sheet) {
 
 /// More points than are allowed, and at most as many as a field can hold.
 fn too_many(r: &mut Random, s: &mut Sheet) {
-    let n = r.pick(&[MAX_POINTS + 1, MAX_POINTS + 2, 2304, 3276]);
+    let n = r.pick(&[
+        MAX_POINTS + 1,
+        MAX_POINTS + 2,
+        MOST_RECORDS - 1,
+        MOST_RECORDS,
+    ]);
     let base = s.points[0];
     let first = fresh_index(s).max(100_000);
     for k in s.points.len()..n {
@@ -216,6 +221,12 @@ pub fn put_in(r: &mut Random, s: &mut Sheet, chosen: &[u8]) -> usize {
     }
 }
 
+/// Points in as many bytes as a field may have, or one point more than it holds: the length is cut.
+fn long_field(r: &mut Random) -> Vec<u8> {
+    let length = r.pick(&[usize::from(u16::MAX), 20 * (MOST_RECORDS + 1)]);
+    field(3, &vec![0; length])
+}
+
 /// A file that differs from the list of fields, at times with other damages too.
 pub fn framing(r: &mut Random, seed: u64) -> Case {
     let mut s = whole_sheet(r);
@@ -240,7 +251,7 @@ pub fn framing(r: &mut Random, seed: u64) -> Case {
         8 => [first, field(2, &[0; 16]), third].concat(),
         9 => [first, field(2, &[0; 18]), third].concat(),
         10 => [first, second, field(3, &[0; 7])].concat(),
-        11 => [first, second, field(3, &vec![0; 65535])].concat(),
+        11 => [first, second, long_field(r)].concat(),
         12 => Vec::new(),
         13 => [
             field(r.pick(&[0, 2, 3, 4, 255]), &first[3..]),

@@ -74,11 +74,11 @@ fn holes(r: &mut Random) -> Sheet {
     s
 }
 
-/// Lines without a gap: a board as wide or as tall as a map may be.
+/// Lines without a gap: a board as wide or as tall as a map may be, at times as large as a sheet may.
 fn full_lines(r: &mut Random) -> Sheet {
     let (width, height) = match r.below(10) {
-        0 => (WIDTH, 28),
-        1 => (34, HEIGHT),
+        0 => (WIDTH, MAX_POINTS as i32 / WIDTH),
+        1 => (MAX_POINTS as i32 / HEIGHT, HEIGHT),
         2..5 => (WIDTH, r.whole(1, 5)),
         5..8 => (r.whole(1, 5), HEIGHT),
         8 => (WIDTH, r.whole(6, 12)),

@@ -1,8 +1,10 @@
 //! The limits of the map.
 
 use super::{Limit, Limits};
-use crate::second::ROW;
+use crate::second::{MAX_POINTS, ROW};
 use crate::sheet::{Point, Sheet};
+
+const MOST: i32 = MAX_POINTS as i32;
 
 /// An accepted sheet that has points.
 pub struct Seen {
@@ -76,8 +78,12 @@ impl Limits for Seen {
         ("lines below and above 0", |s| s.vs.0 < 0 && s.vs.1 > 0),
         ("a row without points", |s| s.hole(s.vs, |p| p.v)),
         ("a column without points", |s| s.hole(s.us, |p| p.u)),
-        ("72 by 28 without a gap", |s| s.full(72, 28)),
-        ("34 by 60 without a gap", |s| s.full(34, 60)),
+        ("full lines of 72 cells, as many as may be", |s| {
+            s.full(72, MOST / 72)
+        }),
+        ("60 full lines, as wide as may be", |s| {
+            s.full(MOST / 60, 60)
+        }),
         ("V and O at a point", |s| s.marked(3)),
         ("V and W at a point", |s| s.marked(5)),
         ("O and W at a point", |s| s.marked(6)),

@@ -5,7 +5,7 @@ use crate::library::MAP_SIZE;
 use crate::random::Random;
 use crate::second::{MAX_POINTS, ROW};
 use crate::shapes::{self, any_bits};
-use crate::sheet::{field, Gate, Point, Rest, Settings, Sheet};
+use crate::sheet::{field, Gate, Point, Rest, Settings, Sheet, MOST_RECORDS};
 
 #[derive(Clone, Copy, Debug, PartialEq)]
 pub enum Form {
@@ -16,11 +16,12 @@ pub enum Form {
     Resized,
     Fields,
     Full,
+    Fixed,
 }
 
 impl Form {
-    /// Every form with what it holds and its share in a hundred files.
-    pub const ALL: [(Form, &'static str, usize); 7] = [
+    /// Every form with what it holds and its share in a hundred files; the fixed ones are in every run.
+    pub const ALL: [(Form, &'static str, usize); 8] = [
         (Form::Noise, "random bytes, 0 to 66,000", 15),
         (Form::Framed, "right frame, the rest random", 15),
         (Form::Whole, "generated sheets of every kind", 27),
@@ -28,6 +29,7 @@ impl Form {
         (Form::Resized, "the same, cut or prolonged", 10),
         (Form::Fields, "the same, fields swapped, repeated, lost", 15),
         (Form::Full, "large sheets of any shape", 3),
+        (Form::Fixed, "fixed ones about the most points", 0),
     ];
 }
 
@@ -55,16 +57,24 @@ fn float(r: &mut Random, bounded: bool) -> f32 {
     }
 }
 
-/// A right frame. Of the rest, a number of conditions holds from the first on; beyond that all is
-/// random.
-fn framed(r: &mut Random) -> Sheet {
-    let count = match r.below(8) {
+/// A number of points, at times about the most of a sheet or of a field.
+fn any_count(r: &mut Random) -> usize {
+    match r.below(8) {
         0..4 => r.below(9),
         4 | 5 => r.below(300),
-        6 => r.pick(&[2046, 2047, 2048, 2049, 3275, 3276]),
-        _ => r.below(3277),
-    };
-    let right = r.below(7);
+        6 => r.pick(&[
+            MAX_POINTS - 2,
+            MAX_POINTS - 1,
+            MAX_POINTS,
+            MAX_POINTS + 1,
+            MOST_RECORDS - 1,
+            MOST_RECORDS,
+        ]),
+        _ => r.below(MOST_RECORDS + 1),
+    }
+}
+
+fn any_settings(r: &mut Random, right: usize) -> Settings {
     let flag = |r: &mut Random| r.bits() as u8 & if right >= 1 { 1 } else { 255 };
     let rest = |r: &mut Random| Rest {
         line_tolerance: float(r, right >= 2),
@@ -75,15 +85,14 @@ fn framed(r: &mut Random) -> Sheet {
         wrong_label: flag(r),
         largest_patch: flag(r),
     };
-    let settings = Settings {
+    Settings {
         cell_size: float(r, right >= 2),
         rest: r.one_in(2).then(|| rest(r)),
-    };
-    let gate = r.one_in(2).then(|| Gate {
-        minimum_degree: r.bits() as u8,
-        floats: [(); 4].map(|()| float(r, right >= 2)),
-    });
-    // From here on a cell is in range; from 5 on, cells lie close together and are distinct.
+    }
+}
+
+/// From 3 on a cell is in range; from 5 on, cells lie close together and are distinct.
+fn any_points(r: &mut Random, right: usize, count: usize) -> Vec<Point> {
     let height = r.whole(1, 50);
     let indices = r.pick(&[2, count + 1, 1 << 32, 1 << 32, 1 << 32]);
     let points = (0..count as i32).map(|k| {
@@ -108,11 +117,23 @@ fn framed(r: &mut Random) -> Sheet {
             y: float(from, right >= 4),
         }
     });
-    let points = points.collect();
+    points.collect()
+}
+
+/// A right frame. Of the rest, a number of conditions holds from the first on; beyond that all is
+/// random.
+fn framed(r: &mut Random) -> Sheet {
+    let count = any_count(r);
+    let right = r.below(7);
+    let settings = any_settings(r, right);
+    let gate = r.one_in(2).then(|| Gate {
+        minimum_degree: r.bits() as u8,
+        floats: [(); 4].map(|()| float(r, right >= 2)),
+    });
     Sheet {
         settings,
         gate,
-        points,
+        points: any_points(r, right, count),
     }
 }
 
@@ -208,19 +229,23 @@ pub fn map_buffer(r: &mut Random, length: usize) -> usize {
     }
 }
 
+/// A form by the shares.
+fn any_form(r: &mut Random) -> Form {
+    let mut left = r.below(100);
+    for (form, _, share) in Form::ALL {
+        if left < share {
+            return form;
+        }
+        left -= share;
+    }
+    unreachable!("the shares add up to a hundred")
+}
+
 /// The file of a seed.
 pub fn nth(seed: u64) -> Load {
     let mut random = Random::new(seed);
     let r = &mut random;
-    let mut left = r.below(100);
-    let mut form = Form::Full;
-    for (one, _, share) in Form::ALL {
-        if left < share {
-            form = one;
-            break;
-        }
-        left -= share;
-    }
+    let form = any_form(r);
     let file = match form {
         Form::Noise => {
             let most = r.pick(&[4, 60, 500, 66_000]);
@@ -235,6 +260,7 @@ pub fn nth(seed: u64) -> Load {
         Form::Resized => resized(r),
         Form::Fields => fields(r),
         Form::Full => full(r),
+        Form::Fixed => unreachable!("their share is 0"),
     };
     let exact = ROW * claimed(&file).unwrap_or_else(|| r.below(100));
     let buffer = match r.below(20) {

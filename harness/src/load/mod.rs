@@ -2,6 +2,7 @@
 //! not be touched, on a stack of the size that the header asks for. Each goes through every function.
 
 mod files;
+mod fixed;
 mod report;
 mod runner;
 mod wrong;
@@ -11,23 +12,22 @@ use crate::library;
 use crate::random::Random;
 use crate::second::{self, Answer, Fault, Map, Record};
 use files::Load;
+use fixed::{Origin, FIXED_FILES};
 use report::Report;
 use runner::{Function, Job, Runner, FUNCTIONS};
 use std::ops::Range;
-use std::sync::atomic::{AtomicUsize, Ordering};
+use std::sync::atomic::{AtomicU64, Ordering};
 use std::time::{Duration, Instant};
 
 /// A call that takes more processor time fails.
 const LIMIT: Duration = Duration::from_millis(50);
 
-/// The case under way, for the message of a fault.
-static CASE: AtomicUsize = AtomicUsize::new(0);
+/// The file under way, for the message of a fault.
+static CASE: AtomicU64 = AtomicU64::new(0);
 
 extern "C" fn on_fault(_: i32) {
-    eprintln!(
-        "a call touched a guard page: --files 1 --seed {}",
-        CASE.load(Ordering::Relaxed)
-    );
+    let origin = Origin::of_number(CASE.load(Ordering::Relaxed));
+    eprintln!("a call touched a guard page: {origin}");
     std::process::exit(3)
 }
 
@@ -40,11 +40,11 @@ fn report_faults() {
     unsafe { signal(SEGMENT_VIOLATION, on_fault) };
 }
 
-/// One file, its seed, and what it goes through.
+/// One file, where it comes from, and what it goes through.
 struct One<'a> {
     runner: &'a mut Runner,
     report: &'a mut Report,
-    case: u64,
+    origin: Origin,
     load: &'a Load,
     r: Random,
 }
@@ -61,53 +61,57 @@ impl One<'_> {
         let records = [Record::new(); 2];
         let job = Job::new(self.load, Function::Keep, number, written, records);
         let (returned, time, wrong) = self.runner.run(&job, &mut self.r);
-        self.report.add(self.load, self.case, returned, time);
+        self.report.add(self.load, self.origin, returned, time);
         wrong
     }
 
     fn map(&mut self, map: &Map) -> Option<String> {
         let text = second::map_text(map);
-        let buffer = files::map_buffer(&mut self.r, text.len());
+        let buffer = self.origin.map_buffer(&mut self.r, text.len());
         let (number, written) = library::expected_map(&text, buffer);
         let records = [Record::new(); 2];
         let mut job = Job::new(self.load, Function::Map, number, written, records);
         job.buffer = buffer;
         let (returned, time, wrong) = self.runner.run(&job, &mut self.r);
-        self.report.add_map(&job, self.case, map, returned, time);
+        self.report.add_map(&job, self.origin, map, returned, time);
         wrong.map(|text| format!("map: {text}"))
     }
 
-    /// With a record that a run may begin with.
+    /// With a record that a run may begin with; of a fixed file with a new one, which takes a sheet.
     fn in_run(&mut self) -> Option<String> {
         let Load { file, buffer, .. } = self.load;
-        let before = generate::start(&mut self.r).record(Fault::None);
+        let before = match self.origin {
+            Origin::Seed(_) => generate::start(&mut self.r).record(Fault::None),
+            Origin::Fixed(_) => Record::new(),
+        };
         let handed = second::keep_in_run(file, *buffer, &before, Fault::None);
         let number = library::expected(&handed.answer).0;
         let (written, records) = (&handed.written, [before, handed.record]);
         let job = Job::new(self.load, Function::KeepInRun, number, written, records);
         let (returned, time, wrong) = self.runner.run(&job, &mut self.r);
-        self.report.add_run(&job, self.case, returned, time);
+        self.report.add_run(&job, self.origin, returned, time);
         wrong.map(|text| format!("run: {text}"))
     }
 }
 
-/// Runs the files of some seeds; ends at the first failure if `short`.
+/// Runs the fixed files and those of some seeds; ends at the first failure if `short`.
 fn pass(runner: &mut Runner, seeds: Range<u64>, short: bool) -> Report {
     let mut report = Report::default();
-    for case in seeds {
-        CASE.store(case as usize, Ordering::Relaxed);
-        let load = files::nth(case);
+    let fixed = (0..FIXED_FILES).map(Origin::Fixed);
+    for origin in fixed.chain(seeds.map(Origin::Seed)) {
+        CASE.store(origin.number(), Ordering::Relaxed);
+        let load = origin.load();
         let one = One {
             runner,
             report: &mut report,
-            case,
+            origin,
             load: &load,
-            r: Random::new(!case),
+            r: Random::new(!origin.number()),
         };
         for text in one.run().into_iter().flatten() {
             report.failed += 1;
             if report.failed <= 20 {
-                println!("failed: {:?}, --files 1 --seed {case}: {text}", load.form);
+                println!("failed: {:?}, {origin}: {text}", load.form);
             }
         }
         if short && report.failed > 0 {
@@ -122,7 +126,8 @@ fn without_library() -> bool {
     false
 }
 
-/// Runs `files` files from a seed on; with `wrong`, through calls with that deliberate fault.
+/// Runs the fixed files and `files` ones from a seed on; with `wrong`, through calls with that deliberate
+/// fault.
 pub fn run(files: u64, seed: u64, heap: bool, wrong: Option<usize>) -> bool {
     let Some(right) = library::functions() else {
         return without_library();
@@ -133,7 +138,10 @@ pub fn run(files: u64, seed: u64, heap: bool, wrong: Option<usize>) -> bool {
     let mut runner = Runner::new(calls, heap);
     let report = pass(&mut runner, seed..seed + files, wrong.is_some());
     report.print(runner.deepest(), start.elapsed());
-    println!("{files} files, {} failed", report.failed);
+    println!(
+        "{files} files and {FIXED_FILES} fixed ones, {} failed",
+        report.failed
+    );
     report.failed == 0
 }
 
@@ -148,7 +156,7 @@ pub fn threads(count: usize, files: u64, seed: u64) -> bool {
         let all: Vec<_> = (0..count).map(|_| scope.spawn(one)).collect();
         all.into_iter().map(|thread| thread.join().unwrap()).sum()
     });
-    println!("{count} threads, {files} files each, {failed} failed");
+    println!("{count} threads, {files} files and {FIXED_FILES} fixed ones each, {failed} failed");
     failed == 0
 }
 

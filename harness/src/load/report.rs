@@ -1,7 +1,9 @@
 //! What a run of the load met.
 
 use super::files::{Form, Load};
-use super::runner::{stack_size, Job, FUNCTIONS};
+use super::fixed::{Origin, FIXED};
+use super::runner::{Job, FUNCTIONS};
+use crate::header::STACK_SIZE;
 use crate::library::NO_ROOM;
 use crate::second::{Map, FULL, MAX_POINTS};
 use std::time::Duration;
@@ -15,28 +17,28 @@ fn micros(time: Duration) -> f64 {
 struct Times {
     all: Duration,
     longest: Duration,
-    longest_at: Option<(Form, u64)>,
+    longest_at: Option<(Form, Origin)>,
 }
 
 impl Times {
-    fn add(&mut self, form: Form, case: u64, time: Duration) {
+    fn add(&mut self, form: Form, origin: Origin, time: Duration) {
         self.all += time;
         if time > self.longest {
             self.longest = time;
-            self.longest_at = Some((form, case));
+            self.longest_at = Some((form, origin));
         }
     }
 
     fn print(&self, name: &str, deepest: Option<usize>) {
-        if let Some((form, case)) = self.longest_at {
+        if let Some((form, origin)) = self.longest_at {
             println!(
-                "{name}: longest call {:.0} µs ({form:?}, --files 1 --seed {case}); all calls {:.1} s",
+                "{name}: longest call {:.0} µs ({form:?}, {origin}); all calls {:.1} s",
                 micros(self.longest),
                 self.all.as_secs_f64()
             );
         }
         if let Some(deepest) = deepest {
-            println!("{name}: deepest stack {deepest} bytes of {}", stack_size());
+            println!("{name}: deepest stack {deepest} bytes of {STACK_SIZE}");
         }
     }
 }
@@ -48,6 +50,8 @@ pub struct Report {
     refused: [usize; 10],
     empty_buffers: usize,
     full: usize,
+    /// How many of each fixed file, and its bytes.
+    fixed: [(usize, usize); FIXED.len()],
     rows: Times,
     /// Maps drawn, their lines, maps refused by number.
     maps: usize,
@@ -66,7 +70,7 @@ pub struct Report {
 
 impl Report {
     /// Counts a call for rows.
-    pub fn add(&mut self, load: &Load, case: u64, returned: u64, time: Duration) {
+    pub fn add(&mut self, load: &Load, origin: Origin, returned: u64, time: Duration) {
         let form = &mut self.forms[load.form as usize];
         form.0 += 1;
         form.3 = form.3.max(time);
@@ -79,11 +83,15 @@ impl Report {
             self.refused[(returned as usize).min(9)] += 1;
         }
         self.empty_buffers += usize::from(load.buffer == 0);
-        self.rows.add(load.form, case, time);
+        if let Some(which) = origin.which_fixed() {
+            let (count, bytes) = &mut self.fixed[which];
+            (*count, *bytes) = (*count + 1, load.file.len());
+        }
+        self.rows.add(load.form, origin, time);
     }
 
     /// Counts a call for the map, which the second program drew or refused.
-    pub fn add_map(&mut self, job: &Job, case: u64, map: &Map, returned: u64, time: Duration) {
+    pub fn add_map(&mut self, job: &Job, origin: Origin, map: &Map, returned: u64, time: Duration) {
         match map {
             Ok(text) => {
                 self.maps += 1;
@@ -93,17 +101,26 @@ impl Report {
         }
         self.empty_map_buffers += usize::from(job.buffer == 0);
         self.no_room += usize::from(returned == NO_ROOM);
-        self.map.add(job.form, case, time);
+        self.map.add(job.form, origin, time);
     }
 
     /// Counts a call in a run.
-    pub fn add_run(&mut self, job: &Job, case: u64, returned: u64, time: Duration) {
+    pub fn add_run(&mut self, job: &Job, origin: Origin, returned: u64, time: Duration) {
         if returned >> 32 == 1 {
             self.taken += 1;
         } else {
             self.not_taken[(returned as usize).min(FULL.into())] += 1;
         }
-        self.run.add(job.form, case, time);
+        self.run.add(job.form, origin, time);
+    }
+
+    /// How many fixed files there were.
+    fn print_fixed(&self) {
+        let fixed = FIXED.iter().zip(self.fixed);
+        let each = fixed.map(|((points, _), (count, bytes))| {
+            format!("{count} of {points} points in {bytes} bytes")
+        });
+        println!("fixed: {}", each.collect::<Vec<_>>().join(", "));
     }
 
     pub fn print(&self, deepest: Option<[usize; FUNCTIONS]>, whole: Duration) {
@@ -125,6 +142,7 @@ impl Report {
             &self.refused[1..],
             self.empty_buffers
         );
+        self.print_fixed();
         println!(
             "maps: {} drawn with {} lines; refused with 1 to 10: {:?}; buffers of length 0: {}, too short for the text: {}",
             self.maps,

@@ -4,6 +4,7 @@ use super::files::{Form, Load, LONGEST_BUFFER, LONGEST_FILE};
 use super::LIMIT;
 use crate::clock::processor;
 use crate::guarded::{Area, Callee, Stack};
+use crate::header::STACK_SIZE;
 use crate::library::{Calls, Run, MAP_SIZE, NO_ROOM};
 use crate::random::Random;
 use crate::second::{Record, FULL, MAX_POINTS, NUMBERS};
@@ -16,14 +17,6 @@ const MARGIN: usize = 64;
 /// The bytes of a record.
 const RECORD: usize = 4 * NUMBERS;
 const _: () = assert!(size_of::<Run>() == RECORD);
-
-/// The stack that the header asks for.
-pub fn stack_size() -> usize {
-    let header = include_str!("../../../include/higlaupth.h");
-    let define = "#define HIGLAUPTH_STACK_SIZE ";
-    let rest = header.lines().find_map(|l| l.strip_prefix(define)).unwrap();
-    rest.split_whitespace().next().unwrap().parse().unwrap()
-}
 
 /// Which of the functions is called.
 #[derive(Clone, Copy, Debug, PartialEq)]
@@ -248,7 +241,7 @@ impl Guarded {
             file: Area::new(LONGEST_FILE),
             buffer: Area::new(LONGEST_BUFFER),
             record: Area::new(RECORD),
-            stacks: [(); FUNCTIONS].map(|()| Stack::new(stack_size())),
+            stacks: [(); FUNCTIONS].map(|()| Stack::new(STACK_SIZE)),
             longest: Default::default(),
         }
     }

@@ -3,14 +3,15 @@
 use crate::clock::processor;
 use crate::guarded::Callee;
 use crate::library::{self, Calls, Run, NO_ROOM};
-use crate::second::{self, Fault};
+use crate::second::{self, Fault, MAX_POINTS};
+use crate::sheet::MOST_RECORDS;
 use std::hint::black_box;
 use std::sync::atomic::{AtomicUsize, Ordering};
 use std::sync::Mutex;
 use std::time::Duration;
 
 /// Faults of the call for rows.
-const KEEP: [&str; 14] = [
+const KEEP: [&str; 17] = [
     "reads a byte beyond the file",
     "reads a byte before the file",
     "writes a byte beyond the buffer",
@@ -25,6 +26,9 @@ const KEEP: [&str; 14] = [
     "answers as in the call before",
     "takes 10 ms more than the limit",
     "takes 400 KB more of the stack",
+    "refuses the most points with 2",
+    "refuses with 1 what has more",
+    "refuses with 2 what no field holds",
 ];
 
 /// Faults of the call for the map.
@@ -144,6 +148,9 @@ unsafe extern "C" fn keep(file: *const u8, file_len: usize, rows: *mut u8, rows_
         11 => return earlier(returned),
         12 => linger(),
         13 => return deep(Callee::Plain(keep), file, file_len, rows, rows_len),
+        14 if points == MAX_POINTS => return 2,
+        15 if returned == 2 => return 1,
+        16 if returned == 1 && file_len > 20 * MOST_RECORDS => return 2,
         _ => {}
     }
     returned

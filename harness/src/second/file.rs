@@ -3,7 +3,9 @@
 use super::fault::Fault;
 use super::plane::Vector;
 
-pub const MAX_POINTS: usize = 2048;
+/// Document 02, A.4: "2,304 points pass and 2,305 give refusal 2". The number is the header's, and
+/// `stars/points.rs` holds it against the document's.
+pub const MAX_POINTS: usize = crate::header::MOST_POINTS;
 pub const ROW: usize = 28;
 /// A buffer of this length has room for the rows of every sheet.
 pub const ROOM: usize = ROW * MAX_POINTS;
@@ -168,7 +170,8 @@ fn bad_float(s: &Settings, gate: &Option<Gate>) -> bool {
     floats.into_iter().any(out_of_bounds)
 }
 
-fn bad_cell(p: &Point, limit: i32) -> bool {
+fn bad_cell(p: &Point, fault: Fault) -> bool {
+    let limit = 8000 - i32::from(fault == Fault::CellAtLimit);
     p.u < -limit || p.u > limit || p.v < -limit || p.v > limit
 }
 
@@ -187,11 +190,26 @@ fn torn_index(points: &[Point]) -> bool {
     keys.windows(2).any(|k| k[0].0 == k[1].0 && k[0] != k[1])
 }
 
+/// The bytes of a file of the most points, with all settings and the gate.
+const LONGEST_ACCEPTED: usize = 3 + 21 + 3 + 17 + 3 + 20 * MAX_POINTS;
+
+/// The most points of an accepted sheet.
+fn most_points(fault: Fault) -> usize {
+    match fault {
+        Fault::MostRefused => MAX_POINTS - 1,
+        Fault::OneMoreTaken => MAX_POINTS + 1,
+        _ => MAX_POINTS,
+    }
+}
+
 /// The accepted sheet, or the first number whose condition applies.
 pub fn read(file: &[u8], buffer: usize, fault: Fault) -> Result<Sheet, u8> {
+    if fault == Fault::LongGives2 && file.len() > LONGEST_ACCEPTED {
+        return Err(2);
+    }
     let mut sheet = framed(file, fault).ok_or(1)?;
     let n = sheet.points.len();
-    if n > MAX_POINTS {
+    if n > most_points(fault) {
         return Err(2);
     }
     if buffer + usize::from(fault == Fault::BufferShort) < ROW * n {
@@ -205,23 +223,15 @@ pub fn read(file: &[u8], buffer: usize, fault: Fault) -> Result<Sheet, u8> {
     if floats {
         return Err(5);
     }
-    let limit = if fault == Fault::CellAtLimit {
-        7999
-    } else {
-        8000
-    };
-    if sheet.points.iter().any(|p| bad_cell(p, limit)) {
+    if sheet.points.iter().any(|p| bad_cell(p, fault)) {
         return Err(6);
     }
     sheet.points.sort_by_key(|p| (p.u, p.v));
     if fault == Fault::CellsBeforePositions && repeated_cell(&sheet.points) {
         return Err(8);
     }
-    if sheet
-        .points
-        .iter()
-        .any(|p| out_of_bounds(p.at.x) || out_of_bounds(p.at.y))
-    {
+    let bad_position = |p: &Point| out_of_bounds(p.at.x) || out_of_bounds(p.at.y);
+    if sheet.points.iter().any(bad_position) {
         return Err(7);
     }
     if repeated_cell(&sheet.points) {

@@ -102,7 +102,7 @@ impl Record {
         }
     }
 
-    /// Adds a tally to the new sums. These are below 2^31 and a tally has at most 2,048: only a fault
+    /// Adds a tally to the new sums. These are below 2^31 and a tally has at most `MAX_POINTS`: only a fault
     /// can wrap.
     fn add(&mut self, tally: &Tally, fault: Fault) {
         let mut columns = SUMMED;

@@ -2,7 +2,7 @@
 
 use super::{file, listing_of, FIVE, TORN, TWICE};
 use crate::library;
-use crate::second::{self, Answer, Fault, Record, NUMBERS};
+use crate::second::{self, Answer, Fault, Record, NUMBERS, ROOM};
 
 /// Sheets with a repeated index and their tallies.
 const TALLIES: &[(&str, &str, &str)] = &[
@@ -146,8 +146,8 @@ pub fn tallies() -> impl Iterator<Item = (String, bool)> {
 pub fn calls() -> impl Iterator<Item = (String, bool)> {
     let holds = |(name, before, sheet, number, after): &InRun| {
         let (file, before) = (file(sheet), Record::from_numbers(*before));
-        let handed = second::keep_in_run(&file, 1 << 16, &before, Fault::None);
-        let own = second::answer(&file, 1 << 16, Fault::None);
+        let handed = second::keep_in_run(&file, ROOM, &before, Fault::None);
+        let own = second::answer(&file, ROOM, Fault::None);
         let answer = match number {
             0 => own,
             number => Answer::Refused(*number),
@@ -155,7 +155,7 @@ pub fn calls() -> impl Iterator<Item = (String, bool)> {
         let right = handed.answer == answer
             && handed.written == answer.rows()
             && handed.record.numbers() == *after;
-        let library = library::run_difference(&file, 1 << 16, &before, &handed);
+        let library = library::run_difference(&file, ROOM, &before, &handed);
         (name.to_string(), right && library.is_none())
     };
     CALLS.iter().map(holds)

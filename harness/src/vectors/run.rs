@@ -12,7 +12,11 @@
 use super::sheet_file::{long, short, spoilt};
 use super::Vectors;
 use crate::generate::{self, Case, Kind, Step};
-use crate::second::{self, Answer, Fault, Record, MOST_SHEETS, NUMBERS, OLD, SUMMED, SUM_LIMIT};
+use crate::second::{
+    self, Answer, Fault, Record, MAX_POINTS, MOST_SHEETS, NUMBERS, OLD, ROW, SUMMED, SUM_LIMIT,
+};
+use crate::shapes::{columns, gated_columns, half_mirrored, SIDE};
+use crate::sheet::{Sheet, MOST_RECORDS};
 use crate::stars;
 
 /// A buffer that is longer than the rows of every small sheet.
@@ -66,6 +70,13 @@ fn any_record() -> Record {
     Record::from_numbers(std::array::from_fn(|k| 1000 + 7 * k as u32))
 }
 
+/// The fullest record that still takes a sheet.
+fn almost_full() -> Record {
+    let mut numbers = [SUM_LIMIT - 1; NUMBERS];
+    numbers[OLD] = MOST_SHEETS - 1;
+    Record::from_numbers(numbers)
+}
+
 /// A small generated sheet that counts some index under every word.
 fn counted_everywhere() -> Step {
     let cases = (0..).map(|seed| generate::case(Kind::Several, seed));
@@ -103,11 +114,9 @@ fn limits(cases: &mut Cases) {
             records.push(words);
         }
     }
-    let mut all_below = [SUM_LIMIT - 1; NUMBERS];
-    all_below[OLD] = MOST_SHEETS - 1;
     let mut all_old = any_record().numbers();
     all_old[..OLD].fill(u32::MAX);
-    records.extend([all_below, all_old, [u32::MAX; NUMBERS]]);
+    records.extend([almost_full().numbers(), all_old, [u32::MAX; NUMBERS]]);
     for words in records {
         let record = cases.call(&raises, &Record::from_numbers(words));
         cases.call(&empty, &record);
@@ -122,7 +131,7 @@ fn numbers(cases: &mut Cases) {
     by_sum.new_sums[0] = SUM_LIMIT;
     for number in 1..=9 {
         let (file, buffer) = match number {
-            2 => (short(2049).to_file(), BUFFER),
+            2 => (short(MAX_POINTS + 1).to_file(), BUFFER),
             number => spoilt(long(6), &[number]),
         };
         let step = step(file, buffer);
@@ -137,6 +146,23 @@ fn buffers(cases: &mut Cases) {
     for buffer in [0, 27, 28, 55, 56, 57] {
         cases.call(&step(short(2).to_file(), buffer), &any_record());
     }
+}
+
+/// In a run, a sheet of the most points, with several marks; one point more, the most points that a field
+/// holds, one more than these, and the longest well-framed file, each with room for all its rows. Then the
+/// most points, all kept, as the last sheet of a record with every sum just below its limit.
+fn most_points(cases: &mut Cases) {
+    let side = SIDE as usize;
+    let sheets = [
+        half_mirrored(MAX_POINTS, side),
+        columns(MAX_POINTS + 1, 1),
+        columns(MOST_RECORDS, 1),
+        columns(MOST_RECORDS + 1, 1),
+        gated_columns(MOST_RECORDS, 1),
+    ];
+    let with_room = |sheet: &Sheet| step(sheet.to_file(), ROW * sheet.points.len());
+    cases.calls(&sheets.each_ref().map(with_room), any_record());
+    cases.call(&with_room(&columns(MAX_POINTS, side)), &almost_full());
 }
 
 /// Generated runs of small files.
@@ -154,6 +180,7 @@ pub fn run() -> Vectors {
     limits(&mut cases);
     numbers(&mut cases);
     buffers(&mut cases);
+    most_points(&mut cases);
     generated(&mut cases, 8);
     let mut stdin = cases.count.to_le_bytes().to_vec();
     stdin.extend(cases.bytes);

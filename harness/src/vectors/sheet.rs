@@ -17,7 +17,8 @@
 use super::Vectors;
 use crate::compare::{self, Verdict};
 use crate::generate::{self, Case, Kind};
-use crate::second::{self, Answer, Fault, Map, ROOM};
+use crate::second::{self, Answer, Fault, Map, MAX_POINTS, ROOM};
+use crate::sheet::Sheet;
 use crate::stars;
 
 fn put(out: &mut Vec<u8>, numbers: &[usize]) {
@@ -79,7 +80,7 @@ pub struct Choice {
     pub full: usize,
     /// Cases made for the map, of at most twice `most` bytes of file each.
     pub maps: usize,
-    /// Cases of full lines, with some 2,000 points each.
+    /// Cases of full lines, with almost the most points each.
     pub full_lines: usize,
 }
 
@@ -104,19 +105,20 @@ fn first(cases: impl Iterator<Item = Case>, count: usize) -> Vec<Vec<u8>> {
 pub fn sheet(choice: &Choice) -> Vectors {
     let (seed, most) = (choice.seed, choice.most);
     let named = stars::files().into_iter().map(|file| {
-        let buffer = file.len() * 2;
+        let buffer = (file.len() * 2).min(ROOM + 100);
         let (answer, map) = second::answer_and_map(&file, buffer);
         encode(&file, buffer, &answer, &map)
     });
     let of = |kinds: &'static [_]| (0..).map(move |i| generate::nth(kinds, seed, i));
     let small = of(Kind::first()).filter(|case| case.file.len() <= most);
-    let large = (seed..)
-        .map(generate::full)
-        .filter(|case| case.buffer >= ROOM);
+    let is_full = |case: &Case| {
+        Sheet::from_file(&case.file).is_some_and(|sheet| sheet.points.len() == MAX_POINTS)
+    };
+    let large = (seed..).map(generate::full).filter(is_full);
     let maps = of(Kind::for_map()).filter(|case| case.file.len() <= 2 * most);
     let lines = (seed..)
         .map(|seed| generate::case(Kind::FullLines, seed))
-        .filter(|case| case.file.len() >= 20 * 2000);
+        .filter(|case| case.file.len() >= 20 * (MAX_POINTS - 100));
     let mut cases: Vec<Vec<u8>> = named.collect();
     cases.extend(first(small, choice.sheets));
     cases.extend(first(large, choice.full));

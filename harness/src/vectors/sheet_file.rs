@@ -5,19 +5,25 @@
 //! u32, little-endian, and the file's bytes.
 
 use super::{next, Vectors};
-use crate::second::{self, Answer, Fault};
-use crate::sheet::{field, Gate, Point, Rest, Settings, Sheet};
+use crate::second::{self, Answer, Fault, MAX_POINTS};
+use crate::shapes::SIDE;
+use crate::sheet::{field, Gate, Point, Rest, Settings, Sheet, MOST_RECORDS};
+
+/// The numbers that a small sheet can get.
+const BUT_2: [u32; 8] = [1, 3, 4, 5, 6, 7, 8, 9];
 
 const LIMIT: u32 = 0x4680_0000;
 const INFINITE: u32 = 0x7F80_0000;
 
 /// A sheet with all settings and the gate.
-pub fn long(points: u32) -> Sheet {
-    let point = |k: u32| Point {
+pub fn long(points: usize) -> Sheet {
+    // No further than a position may lie.
+    let apart = 10f32.min(16384.0 / points as f32);
+    let point = |k: usize| Point {
         u: k as i32 / 7,
         v: k as i32 % 7,
-        index: 100 + k,
-        x: k as f32 * 10.0,
+        index: 100 + k as u32,
+        x: k as f32 * apart,
         y: 1.0,
     };
     Sheet {
@@ -37,7 +43,7 @@ pub fn long(points: u32) -> Sheet {
 }
 
 /// A sheet with the short settings and no gate.
-pub fn short(points: u32) -> Sheet {
+pub fn short(points: usize) -> Sheet {
     let mut sheet = long(points);
     sheet.settings.rest = None;
     sheet.gate = None;
@@ -93,6 +99,12 @@ impl Cases {
     /// A sheet with a buffer of the exact length.
     fn sheet(&mut self, sheet: &Sheet) {
         self.add(&sheet.to_file(), 28 * sheet.points.len());
+    }
+
+    /// A sheet for which the conditions of these numbers hold.
+    fn spoilt(&mut self, sheet: &Sheet, numbers: &[u32]) {
+        let (file, room) = spoilt(sheet.clone(), numbers);
+        self.add(&file, room);
     }
 }
 
@@ -151,26 +163,27 @@ pub fn spoilt(mut sheet: Sheet, numbers: &[u32]) -> (Vec<u8>, usize) {
     (file, 28 * sheet.points.len() - short)
 }
 
-/// Each number, each pair of conditions, all from one on, and 2,048 and 2,049 points.
+/// Each number but 2, each pair of conditions, and all from one on.
 fn numbers(cases: &mut Cases) {
-    let list = [1, 3, 4, 5, 6, 7, 8, 9];
-    let mut add = |sheet: &Sheet, numbers: &[u32]| {
-        let (file, room) = spoilt(sheet.clone(), numbers);
-        cases.add(&file, room);
-    };
-    for (i, &a) in list.iter().enumerate() {
-        add(&long(6), &[a]);
-        for &b in &list[i + 1..] {
-            add(&long(6), &[a, b]);
+    let six = long(6);
+    for (i, &a) in BUT_2.iter().enumerate() {
+        cases.spoilt(&six, &[a]);
+        for &b in &BUT_2[i + 1..] {
+            cases.spoilt(&six, &[a, b]);
         }
-        add(&long(6), &list[i..]);
+        cases.spoilt(&six, &BUT_2[i..]);
     }
-    let mut many = short(2048);
+}
+
+/// The most points, one more with other conditions, the most that a field holds, and one more, whose
+/// length is cut. What is looked at too soon shows where all later conditions hold.
+fn many_points(cases: &mut Cases) {
+    let mut many = short(MAX_POINTS);
     for (k, p) in many.points.iter_mut().enumerate() {
-        (p.u, p.v) = (k as i32 % 46 - 23, -(k as i32 / 46));
+        (p.u, p.v) = (k as i32 % SIDE - SIDE / 2, -(k as i32 / SIDE));
     }
-    add(&many, &[]);
-    add(&many, &[3]);
+    cases.sheet(&many);
+    cases.spoilt(&many, &[3]);
     many.points.push(Point {
         u: 30,
         v: 30,
@@ -178,12 +191,15 @@ fn numbers(cases: &mut Cases) {
         x: 0.0,
         y: 0.0,
     });
-    add(&many, &[]);
-    for number in list {
+    cases.sheet(&many);
+    for numbers in [&[1][..], &[3], &[4], &BUT_2[1..]] {
         let mut sheet = long(0);
         sheet.points.clone_from(&many.points);
-        add(&sheet, &[number]);
+        cases.spoilt(&sheet, numbers);
     }
+    cases.sheet(&short(MOST_RECORDS));
+    cases.sheet(&short(MOST_RECORDS + 1));
+    cases.sheet(&long(MOST_RECORDS));
     many.settings.cell_size = f32::INFINITY;
     for number in 6..=9 {
         spoil(&mut many, number);
@@ -302,6 +318,7 @@ pub fn sheet_file() -> Vectors {
     let mut cases = Cases::default();
     framing(&mut cases);
     numbers(&mut cases);
+    many_points(&mut cases);
     limits(&mut cases);
     orders(&mut cases, &mut 88_172_645_463_325_252);
     Vectors {
