@@ -7,17 +7,19 @@ use Rattle.folds.specs.Arith.{f32}
 use Rattle.folds.specs.Column.{column}
 use Rattle.view.specs.View.{maxPoints}
 
--- "each point is u i32, v i32, index u32, x f32, y f32": the 32-bit patterns of these five
+-- "each point is u i32, v i32, index u32, x f32, y f32"; "one strength f32 per point": the 32-bit patterns of these six
 pub record Point : Type 0 where
   pub u : ℕ
   pub v : ℕ
   pub index : ℕ
   pub x : ℕ
   pub y : ℕ
+  -- 0 without tag 4
+  pub strength : ℕ
 
 -- what is read past the end of a list of points
 abbrev pub nowhere : Point
-nowhere = record { u = 0; v = 0; index = 0; x = 0; y = 0 }
+nowhere = record { u = 0; v = 0; index = 0; x = 0; y = 0; strength = 0 }
 
 -- ---- the key of a cell: (u + bias) * stride + (v + bias)
 
@@ -55,3 +57,7 @@ xsOf ps = column maxPoints nan (length ps) (λ (k : ℕ). f32 (getD ps k nowhere
 unfoldable pub ysOf : List Point → List Float
 unfolding column
 ysOf ps = column maxPoints nan (length ps) (λ (k : ℕ). f32 (getD ps k nowhere .y))
+
+unfoldable pub strengthsOf : List Point → List Float
+unfolding column
+strengthsOf ps = column maxPoints nan (length ps) (λ (k : ℕ). f32 (getD ps k nowhere .strength))

@@ -1,4 +1,3 @@
 pub mod Places
 pub mod Squares
-pub mod KeyOrder
 pub mod Pairs

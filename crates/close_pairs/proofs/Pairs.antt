@@ -1,35 +1,29 @@
 -- The pairs that the sweep marks are all the close pairs. Assumes nothing.
 use mathlib.Core.Path.{_≡_, refl, sym, ap, _∙_}
 use mathlib.Core.Bool.{Bool, true, false, cond, not, _&&_, _||_, true≢false}
-use mathlib.Core.List.{List, _++_}
+use mathlib.Core.List.{List}
 use Prim.Native.Nat.{ℕ, _+_, _-_, _≤_, _<_}
 use native.Mathlib.Omega.{arith}
 use native.Mathlib.Decide.{ℕ-discrete, decLt}
 use Prim.{yes, no}
 use lib.Dec.{eqb, ltb}
 use borrow.Author.Tests.{lt-ltb, le-ltb, ltb-true, eq-eqb, ne-eqb, eqb-true}
-use lib.ListN.{getD, take, drop, replicate, List·getD-append}
-use lib.Seq.{take-at}
-use Rattle.folds.specs.Lists.{listOf}
-use Rattle.folds.proofs.Lists.{length-list}
-use Rattle.sort.specs.Numbers.{sorted}
-use Rattle.sort.proofs.Numbers.{sorted-length}
+use lib.ListN.{getD}
 use lib.Ieee.{Float, nan, lt}
 use Rattle.folds.specs.Arith.{_⊖_, zeroF}
 use Rattle.folds.specs.Below.{some}
 use Rattle.folds.proofs.Below.{some-yes, some-at, some-no, both-ways, and-left, and-right, and-false, or-true}
-use Rattle.folds.specs.Column.{column}
 use Rattle.folds.proofs.Column.{column-at}
 use Rattle.folds.specs.Marked.{Marked}
 use Rattle.view.specs.View.{View, maxPoints, viewAt, Finite}
-use Rattle.sort.specs.Packed.{packed, inOrder}
+use Rattle.sort.specs.Packed.{packed}
 use Rattle.sort.proofs.Packed.{placed-below, placed-is, place-of, placed-rises}
 use Rattle.close_pairs.specs.Close.{close, squareOf, closeMark, limitOf}
-use Rattle.close_pairs.specs.Keys.{xKey, rankIn, OrderedByX}
+use Rattle.median.specs.Keys.{keyAt}
+use Rattle.close_pairs.specs.Ranks.{rankIn, OrderedByX}
 use Rattle.close_pairs.specs.Sweep.{closeIn, squareX, pairHits, sweepHits, Sweepable}
-use Rattle.close_pairs.proofs.Places.{place}
+use Rattle.close_pairs.proofs.Places.{place, rising-order}
 use Rattle.close_pairs.proofs.Squares.{far, square-turned, none-close}
-use Rattle.close_pairs.proofs.KeyOrder.{rising-order}
 
 -- ---- one pair
 
@@ -80,12 +74,12 @@ module _ (order : List ℕ) (xs ys : List Float) (n : ℕ) (few : n ≤ maxPoint
   rank i h = rw (o .is) (column-at maxPoints 0 n (rankIn xs n) i h)
 
   inside : (i : ℕ) → i < n → rankIn xs n i < n
-  inside i h = placed-below (xKey xs) n (omega arith) i h
+  inside i h = placed-below (keyAt xs) n (omega arith) i h
 
   places : (i j : ℕ) → i < j → j < n → place (getD xs (rankIn xs n i) nan) ≤ place (getD xs (rankIn xs n j) nan)
   places i j h l =
       rising-order (getD xs (rankIn xs n i) nan) (getD xs (rankIn xs n j) nan) (o .numbers (rankIn xs n i) (inside i (omega arith))) (o .numbers (rankIn xs n j) (inside j l))
-      (omega (arith, placed-rises (xKey xs) n (omega arith) i j h l, placed-is (xKey xs) n (omega arith) i (omega arith), placed-is (xKey xs) n (omega arith) j l, inside i (omega arith), inside j l))
+      (omega (arith, placed-rises (keyAt xs) n (omega arith) i j h l, placed-is (keyAt xs) n (omega arith) i (omega arith), placed-is (keyAt xs) n (omega arith) j l, inside i (omega arith), inside j l))
 
   places-le : (j k : ℕ) → j ≤ k → k < n → place (getD xs (rankIn xs n j) nan) ≤ place (getD xs (rankIn xs n k) nan)
   places-le j k h l = elim (ℕ-discrete j k) [ yes e ↦ rw e (omega arith) | no f ↦ places j k (omega (arith, f)) l ]
@@ -113,8 +107,8 @@ module _ (order : List ℕ) (xs ys : List Float) (n : ℕ) (few : n ≤ maxPoint
 
   apart : (i j : ℕ) → i < j → j < n → rankIn xs n i ≡ rankIn xs n j → ⊥
   apart i j h l e =
-      let q = ap (packed (xKey xs)) e in
-      omega (arith, placed-rises (xKey xs) n (omega arith) i j h l, placed-is (xKey xs) n (omega arith) i (omega arith), placed-is (xKey xs) n (omega arith) j l, q)
+      let q = ap (packed (keyAt xs)) e in
+      omega (arith, placed-rises (keyAt xs) n (omega arith) i j h l, placed-is (keyAt xs) n (omega arith) i (omega arith), placed-is (keyAt xs) n (omega arith) j l, q)
 
   abbrev others : Float → ℕ → ℕ → Bool
   others limit m j = not (eqb j m) && closeIn xs ys limit j m
@@ -175,8 +169,8 @@ module _ (order : List ℕ) (xs ys : List Float) (n : ℕ) (few : n ≤ maxPoint
       back : some (others limit m) n ≡ true → some (λ i. sweepHits order xs ys limit n i m) n ≡ true
       back e =
           let a = some-at (others limit m) n e in
-          let p = place-of (xKey xs) n (omega arith) m h in
-          let q = place-of (xKey xs) n (omega arith) (a .0) (a .1) in
+          let p = place-of (keyAt xs) n (omega arith) m h in
+          let q = place-of (keyAt xs) n (omega arith) (a .0) (a .1) in
           met limit m (a .0) (p .0) (q .0) (p .1) (q .1) (p .2) (q .2) (differs (a .0) m (and-left (not (eqb (a .0) m)) (closeIn xs ys limit (a .0) m) (a .2))) (and-right (not (eqb (a .0) m)) (closeIn xs ys limit (a .0) m) (a .2))
 
   -- nothing past n
@@ -196,14 +190,6 @@ module _ (order : List ℕ) (xs ys : List Float) (n : ℕ) (few : n ≤ maxPoint
         | yes l ↦ rw (lt-ltb m n l, c) (pairs-are (limitOf cell) m l)
         | no f ↦ (let g : n ≤ m = omega (arith, f) in rw (le-ltb m n g) (past-pairs (limitOf cell) m g))
       ]
-
--- ---- the sorted keys
-
-pub sorted-keys : (key : ℕ → ℕ) (n : ℕ) (a k : List ℕ) → k ≡ column maxPoints 0 n (packed key) → a ≡ sorted (take n k) ++ drop n k → (i : ℕ) → i < n → getD a i 0 ≡ getD (inOrder key n) i 0
-unfolding column inOrder
-sorted-keys key n a k e s i h =
-    let t : take n k ≡ listOf n (packed key) = rw e (take-at (listOf n (packed key)) (replicate (maxPoints - n) 0) n (length-list n (packed key))) in
-    rw (s, t) (List·getD-append (sorted (listOf n (packed key))) (drop n k) 0 i (omega (arith, sorted-length (listOf n (packed key)), length-list n (packed key))))
 
 -- where the limit is 0, no point is close to another
 pub nothing-close : (w : View) (cell : Float) (k : ℕ) → lt zeroF (limitOf cell) ≡ false → closeMark w cell k ≡ false

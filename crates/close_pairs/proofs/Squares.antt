@@ -19,7 +19,7 @@ use Rattle.float.specs.Scalar.{absOf}
 use Rattle.float.proofs.Digits.{digits, exponent}
 use Rattle.float.proofs.Order.{plain, plain-cases, plain-pair, plain-round, plain-le-inf, plain-number, square-plain, sum-plain, lt-after, lt-or-eq, nothing-over, under}
 use Rattle.close_pairs.specs.Close.{squareOf}
-use Rattle.close_pairs.specs.Keys.{Number}
+use Rattle.median.specs.Keys.{Number}
 use Rattle.close_pairs.specs.Sweep.{OverSide}
 use Rattle.close_pairs.proofs.Places.{place, apart, sub-is}
 

@@ -1,3 +1,3 @@
 pub mod Close
-pub mod Keys
+pub mod Ranks
 pub mod Sweep

@@ -8,45 +8,16 @@ ghost use mathlib.Core.Path.{_≡_};
 ghost use mathlib.Core.Bool.{_&&_, _||_};
 ghost use mathlib.Core.List.{List};
 ghost use Prim.Native.Nat.{ℕ, _+_, _*_, _%_, _≤_, _<_};
-ghost use lib.Dec.{T, eqb, ltb};
+ghost use lib.Dec.{eqb, ltb};
 ghost use lib.ListN.{getD};
 ghost use lib.Ieee.{lt};
-ghost use lib.Ieee.Scale.{finite};
 ghost use Rattle.folds.specs.Below.{some};
 ghost use Rattle.folds.specs.Marked.{Marked};
 ghost use Rattle.view.specs.View.{maxPoints, viewAt, Finite};
 ghost use Rattle.sort.specs.Packed.{packedPlaces};
 ghost use Rattle.close_pairs.specs.Close.{squareOf, closeMark};
-ghost use Rattle.close_pairs.specs.Keys.{RisingKey, Keyed, OrderedByX};
+ghost use Rattle.close_pairs.specs.Ranks.{OrderedByX};
 ghost use Rattle.close_pairs.specs.Sweep.{sweepHits, OverSide, Sweepable};
-
-// A number that rises with x, which is finite.
-fn rising(x: f32) -> u64
-    requires { ⌜ T (finite x) ⌝ }
-    ensures { λ r. ⌜ RisingKey x r ⌝ }
-{
-    if 0.0 < x {
-        return 0x8000_0001 + f32::to_bits(x) as u64;
-    }
-    if x < 0.0 {
-        return 0x7fff_ffff - f32::to_bits(-x) as u64;
-    }
-    0x8000_0000
-}
-
-// The key and the rank of each point, packed into one number.
-fn x_keys(x: &Floats, n: usize) -> [u64; MAX_POINTS]
-    requires { ⌜ (n ≤ maxPoints) × Finite n (now x) ⌝ }
-    ensures { λ r. ⌜ Keyed (now (x .entry)) n r ⌝ }
-{
-    let mut out = [0u64; MAX_POINTS];
-    let mut k = 0;
-    while k < n {
-        out[k] = rising(x[k]) * sort::PACKED_PLACES + k as u64;
-        k += 1;
-    }
-    out
-}
 
 fn rank_of(w: u64) -> u16
     ensures { λ r. ⌜ r ≡ w % packedPlaces ⌝ }
@@ -59,8 +30,7 @@ fn order_of(x: &Floats, n: usize) -> Places
     requires { ⌜ (n ≤ maxPoints) × Finite n (now x) ⌝ }
     ensures { λ r. ⌜ OrderedByX (now (x .entry)) n r ⌝ }
 {
-    let mut a = x_keys(x, n);
-    sort::sort(&mut a, n);
+    let a = median::keys_in_order(x, n);
     let mut out = [0u16; MAX_POINTS];
     let mut i = 0;
     while i < n {

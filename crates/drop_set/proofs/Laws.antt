@@ -8,15 +8,16 @@ use lib.ListN.{getD, replicate}
 use lib.Ieee.{Float}
 use native.Mathlib.Omega.{arith}
 use Rattle.folds.specs.Below.{tally}
-use Rattle.folds.proofs.Below.{tally-le}
+use Rattle.folds.proofs.Below.{tally-le, first-le}
 use Rattle.folds.specs.Column.{column}
 use Rattle.folds.proofs.Column.{filled, replicate-at}
 use Rattle.folds.specs.Marked.{bit}
 use Rattle.offsets.specs.Offsets.{places}
 use Rattle.view.specs.View.{View, maxPoints}
 use Rattle.cells.specs.Cell.{Cell}
+use Rattle.sheet_file.specs.declared.Fraction.the-variants.{Given}
 use Rattle.sheet_file.specs.declared.Settings.{Settings}
-use Rattle.marks.specs.Filters.{validate, orientation, wrong, component}
+use Rattle.marks.specs.Filters.{validate, orientation, wrong, leaf, component}
 use Rattle.marks.specs.Marks.{isSet}
 use Rattle.marks.specs.Byte.{Marking, markedBy, markedByAll}
 use Rattle.marks.specs.Tally.{countsOf}
@@ -28,6 +29,10 @@ use Rattle.validate.specs.Validate.{gateFigures, figuresOf, validateMark, valid
 use Rattle.validate.specs.Parts.{validatedOf}
 use Rattle.orientation.specs.Orientation.{orientationMark, orientationOf}
 use Rattle.wrong_label_filters.specs.WrongLabel.{wrongLabelMark, wrongLabelOf}
+use Rattle.strengths.specs.Weak.{weakOf}
+use Rattle.peel.specs.Peel.{roundsIn, peeledIn, peeledOf}
+use Rattle.peel.specs.declared.Peeled.{Peeled}
+use Rattle.peel.proofs.Theorems.{none-weak}
 use Rattle.components.specs.Components.{filterOf, patchCount}
 use Rattle.patches.specs.Patches.{patchLabels}
 use Rattle.components.specs.declared.ComponentFilter.{ComponentFilter}
@@ -36,7 +41,7 @@ use Rattle.judged.specs.Columns.{reasonFrom, figuresIn}
 use Rattle.judged.proofs.Columns.{reason-read}
 use Rattle.judged.specs.Judged.{Judged, judgedFrom}
 use Rattle.drop_set.specs.declared.DropSet.{DropSet}
-use Rattle.drop_set.specs.Filters.{sidesOf, byPoints, wrongMark, pointFilters, componentMarked, componentsIn, patchedOf, pointMarks, measuredOf, judgedOf}
+use Rattle.drop_set.specs.Filters.{sidesOf, byPoints, wrongMark, pointFilters, weakBy, noLeaves, peelOf, componentMarked, peeledMarks, componentsIn, patchedOf, pointMarks, measuredOf, judgedOf}
 use Rattle.drop_set.specs.Given.{Joined}
 
 -- ---- the first step
@@ -115,28 +120,58 @@ module _ (s : Settings) (w : View) where
       counted = sym (ap (λ (b : Bool). cond b (filterOf w (places (sidesOf s)) marks .«components_seen») 0) off);
     }
 
-    pub patched-is : {f : ComponentFilter} {m t : List ℕ} → Joined s w marks f → m ≡ markedBy (w .count) component (isSet (f .marks)) marks → t ≡ countsOf w m
-        → _≡_ {A = DropSet} (record { marks = m; components = f .«components_seen»; tally = t }) (patchedOf s w marks)
-    unfolding patchedOf markedByAll
-    patched-is {f} j e h = rw (h, e ∙ by-same (w .count) component (isSet (f .marks)) (componentMarked s w marks) marks (j .marked), j .counted)
+  -- no mark where none is weak
+  pub unpeeled : (strength : List Float) (marks : List ℕ) → weakBy (s .«score_frac») (w .count) strength ≡ replicate maxPoints 0 → w .count ≤ maxPoints
+      → noLeaves ≡ peelOf s w strength marks
+  unpeeled strength marks e h = rw e (sym (none-weak w (places (sidesOf s)) marks (replicate maxPoints 0) h (λ k l. ap (λ (m : ℕ). eqb m 1) (replicate-at maxPoints 0 k))))
+
+  pub peeled-by : (strength : List Float) (marks : List ℕ) {fraction : Float} {sides weak : List ℕ} {r : Peeled} → s .«score_frac» ≡ Given fraction → sides ≡ places (sidesOf s) → weak ≡ weakOf (w .count) strength fraction
+      → r ≡ peeledOf w sides marks weak → r ≡ peelOf s w strength marks
+  peeled-by strength marks f es ew er = rw f (er ∙ rw (es, ew))
+
+  -- the bytes that the component filter is given
+  left-is : (strength : List Float) (marks : List ℕ) → peeledMarks s w strength marks ≡ markedBy (w .count) leaf (isSet (peelOf s w strength marks .marks)) marks
+  unfolding peeledMarks
+  left-is strength marks = refl
+
+  -- what is made of them
+  patchedBy : List ℕ → ℕ → DropSet
+  patchedBy left rounds =
+      let all = markedBy (w .count) component (componentMarked s w left) left in
+      record { marks = all; components = componentsIn s w left; rounds = rounds; tally = countsOf w all }
+
+  patched-parts : (strength : List Float) (marks : List ℕ) → patchedBy (peeledMarks s w strength marks) (peelOf s w strength marks .rounds) ≡ patchedOf s w strength marks
+  unfolding patchedOf patchedBy
+  patched-parts strength marks = refl
+
+  pub patched-is : (strength : List Float) (marks : List ℕ) {p : Peeled} {l m t : List ℕ} {f : ComponentFilter} → p ≡ peelOf s w strength marks → l ≡ markedBy (w .count) leaf (isSet (p .marks)) marks
+      → Joined s w l f → m ≡ markedBy (w .count) component (isSet (f .marks)) l → t ≡ countsOf w m
+      → _≡_ {A = DropSet} (record { marks = m; components = f .«components_seen»; rounds = p .rounds; tally = t }) (patchedOf s w strength marks)
+  unfolding patchedBy
+  patched-is strength marks {p} {l} {m} {t} {f} a b j e h =
+      let left : l ≡ peeledMarks s w strength marks = b ∙ ap (λ (x : Peeled). markedBy (w .count) leaf (isSet (x .marks)) marks) a ∙ sym (left-is strength marks) in
+      let all : m ≡ markedBy (w .count) component (componentMarked s w l) l = e ∙ by-same (w .count) component (isSet (f .marks)) (componentMarked s w l) l (j .marked) in
+      rw (h, all, j .counted)
+      (ap (λ (x : List ℕ). patchedBy x (p .rounds)) left ∙ ap (λ (x : Peeled). patchedBy (peeledMarks s w strength marks) (x .rounds)) a ∙ patched-parts strength marks)
 
   -- ---- both
 
   judgedBy : Measured → List Figures → DropSet → Judged
-  judgedBy m f d = record { marks = d .marks; components = d .components; tally = d .tally; has = m .has; value = m .value; figures = f; boundary = m .boundary }
+  judgedBy m f d = record { marks = d .marks; components = d .components; rounds = d .rounds; tally = d .tally; has = m .has; value = m .value; figures = f; boundary = m .boundary }
 
-  both-parts : (cell : ℕ → Cell) → judgedBy (measuredOf s w cell) (figuresOf s w) (patchedOf s w (measuredOf s w cell .marks)) ≡ judgedOf s w cell
+  both-parts : (cell : ℕ → Cell) (strength : List Float) → judgedBy (measuredOf s w cell) (figuresOf s w) (patchedOf s w strength (measuredOf s w cell .marks)) ≡ judgedOf s w cell strength
   unfolding judgedOf judgedBy
-  both-parts cell = refl
+  both-parts cell strength = refl
 
-  pub judged-is : (cell : ℕ → Cell) (counts : List ℕ) (measures : List Float) (m : Measured) {d : DropSet} → m ≡ measuredOf s w cell → figuresIn counts measures ≡ figuresOf s w → d ≡ patchedOf s w (m .marks)
-      → judgedFrom (record { marks = d .marks; components = d .components; tally = d .tally; has = m .has; value = m .value; boundary = m .boundary }) counts measures ≡ judgedOf s w cell
+  pub judged-is : (cell : ℕ → Cell) (strength : List Float) (counts : List ℕ) (measures : List Float) (m : Measured) {d : DropSet} → m ≡ measuredOf s w cell → figuresIn counts measures ≡ figuresOf s w
+      → d ≡ patchedOf s w strength (m .marks)
+      → judgedFrom (record { marks = d .marks; components = d .components; rounds = d .rounds; tally = d .tally; has = m .has; value = m .value; boundary = m .boundary }) counts measures ≡ judgedOf s w cell strength
   unfolding judgedBy judgedFrom
-  judged-is cell counts measures m e f g =
+  judged-is cell strength counts measures m e f g =
       ap (judgedBy m (figuresIn counts measures)) g
-      ∙ ap (λ (x : List Figures). judgedBy m x (patchedOf s w (m .marks))) f
-      ∙ ap (λ (x : Measured). judgedBy x (figuresOf s w) (patchedOf s w (x .marks))) e
-      ∙ both-parts cell
+      ∙ ap (λ (x : List Figures). judgedBy m x (patchedOf s w strength (m .marks))) f
+      ∙ ap (λ (x : Measured). judgedBy x (figuresOf s w) (patchedOf s w strength (x .marks))) e
+      ∙ both-parts cell strength
 
 -- there are at most as many patches as points
 pub components-few : (s : Settings) (w : View) (marks : List ℕ) → componentsIn s w marks ≤ w .count
@@ -149,3 +184,8 @@ components-few s w marks = go (s .«apply_largest_component»)
     go : (b : Bool) → cond b (tally (λ (k : ℕ). eqb (getD labels k 0) k) (w .count)) 0 ≤ w .count
     go true = tally-le (λ (k : ℕ). eqb (getD labels k 0) k) (w .count)
     go false = omega arith
+
+-- nor more rounds
+pub rounds-few : (s : Settings) (w : View) (strength : List Float) (marks : List ℕ) → peelOf s w strength marks .rounds ≤ w .count
+unfolding peeledIn roundsIn
+rounds-few s w strength marks = first-le _ 0 (w .count) (omega arith)

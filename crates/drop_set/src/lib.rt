@@ -2,12 +2,13 @@
 use components::ComponentFilter;
 use edges::EDGES_SIZE;
 use edges::Edges;
-use judged::Findings;
 use judged::Measured;
 use judged::figures::FigureCounts;
 use judged::figures::FigureMeasures;
 use marks::Tally;
 use marks::filters;
+use peel::Peeled;
+use sheet_file::Fraction;
 use sheet_file::Settings;
 use view::Floats;
 use view::MAX_POINTS;
@@ -28,14 +29,14 @@ ghost use Rattle.marks.specs.Byte.{markedByAll};
 ghost use Rattle.wrong_label_filters.specs.EdgesReady.{EdgesReady};
 ghost use Rattle.judged.specs.Columns.{Blank, figuresIn};
 ghost use Rattle.validate.specs.Validate.{figuresOf};
-ghost use Rattle.judged.specs.Judged.{judgedFrom};
-ghost use Rattle.drop_set.specs.Given.{Celled, Joined};
-ghost use Rattle.drop_set.specs.Filters.{byPoints, wrongMark, patchedOf, measuredOf, judgedOf};
+ghost use Rattle.drop_set.specs.Given.{Celled, Weighed, Joined};
+ghost use Rattle.drop_set.specs.Filters.{byPoints, wrongMark, noLeaves, peelOf, patchedOf, measuredOf};
 
-// The bytes of marks, how many patches the survivors have, and the tally.
+// The bytes of marks, how many patches the survivors have, how many rounds removed a weak end, and the tally.
 pub struct DropSet {
     pub marks: Marks,
     pub components: usize,
+    pub rounds: usize,
     pub tally: Tally,
 }
 
@@ -112,49 +113,54 @@ fn component_marks(s: Settings, ranks: &Ranks, marks: &Marks, n: usize) -> Compo
     }
 }
 
-// The filters that go by the marks before them: the bytes with their marks too, the count of patches, and the tally.
-pub fn drop_patches(s: Settings, ranks: &Ranks, marks: &Marks, n: usize) -> DropSet
-    requires { ⌜ Ranked n (now ranks) ⌝ }
-    ensures { λ r. ⌜ ((xs ys : List Float) → r ≡ patchedOf s (viewAt n (now (ranks .entry)) xs ys) (now (marks .entry))) ⌝ }
+// No weak ends, and no rounds.
+fn no_leaves() -> Peeled
+    ensures { λ r. ⌜ r ≡ noLeaves ⌝ }
 {
-    let filter = component_marks(s, ranks, marks, n);
-    let mark = filter.marks;
-    let all = marks::marked_by(marks, &mark, filters::COMPONENT, n);
-    DropSet {
-        marks: all,
-        components: filter.components_seen,
-        tally: marks::tally(ranks, &all, n),
+    Peeled {
+        marks: [0; MAX_POINTS],
+        rounds: 0,
     }
 }
 
-// The judged sheet, its edge figures into empty tables.
-pub fn judge<'a>(
+// The weak ends of what the marks leave, and the rounds; none without tag 4.
+fn leaf_marks(s: Settings, ranks: &Ranks, strength: &Floats, marks: &Marks, n: usize) -> Peeled
+    requires { ⌜ Weighed n (now ranks) (now strength) ⌝ }
+    ensures { λ r. ⌜ ((xs ys : List Float) → r ≡ peelOf s (viewAt n (now (ranks .entry)) xs ys) (now (strength .entry)) (now (marks .entry))) ⌝ }
+{
+    let fraction = s.score_frac;
+    match fraction {
+        Fraction::Missing => no_leaves(),
+        Fraction::Outside => no_leaves(),
+        Fraction::Given(x) => {
+            let weak = strengths::weak_marks(strength, n, x);
+            let sides = patches::square_sides();
+            peel::weak_leaf_peel(ranks, marks, &weak, &sides, n)
+        }
+    }
+}
+
+// The filters that go by the marks before them: the bytes with their marks too, the count of patches, the rounds, and the tally.
+pub fn drop_patches(
     s: Settings,
     ranks: &Ranks,
-    keys: &'a Words,
-    x: &'a Floats,
-    y: &'a Floats,
+    strength: &Floats,
+    marks: &Marks,
     n: usize,
-    counts: &mut FigureCounts,
-    measures: &mut FigureMeasures,
-) -> Findings
-    requires { ⌜ Celled n (now ranks) (now keys) (now x) (now y) × Blank (now counts) (now measures) ⌝ }
-    ensures { λ r. ⌜ judgedFrom r (now (counts .exit)) (now (measures .exit)) ≡ judgedOf s (viewAt n (now (ranks .entry)) (now (x .entry)) (now (y .entry))) (cellsAt (now (keys .entry))) ⌝ }
+) -> DropSet
+    requires { ⌜ Weighed n (now ranks) (now strength) ⌝ }
+    ensures { λ r. ⌜ ((xs ys : List Float) → r ≡ patchedOf s (viewAt n (now (ranks .entry)) xs ys) (now (strength .entry)) (now (marks .entry))) ⌝ }
 {
-    let m = measure(s, ranks, keys, x, y, n, counts, measures);
-    let measured = m.marks;
-    let d = drop_patches(s, ranks, &measured, n);
-    let marks = d.marks;
-    let tally = d.tally;
-    let has = m.has;
-    let value = m.value;
-    let boundary = m.boundary;
-    Findings {
-        marks,
-        components: d.components,
-        tally,
-        has,
-        value,
-        boundary,
+    let peeled = leaf_marks(s, ranks, strength, marks, n);
+    let leaf = peeled.marks;
+    let left = marks::marked_by(marks, &leaf, filters::LEAF, n);
+    let filter = component_marks(s, ranks, &left, n);
+    let mark = filter.marks;
+    let all = marks::marked_by(&left, &mark, filters::COMPONENT, n);
+    DropSet {
+        marks: all,
+        components: filter.components_seen,
+        rounds: peeled.rounds,
+        tally: marks::tally(ranks, &all, n),
     }
 }

@@ -6,20 +6,19 @@ use Prim.Native.Nat.{ℕ, _+_, _-_, _*_, _≤_, _<_}
 use native.Mathlib.Omega.{arith}
 use lib.ListN.{length, getD}
 use borrow.Author.Tests.{lt-ltb, le-ltb, ltb-true}
-use Rattle.folds.proofs.Below.{first-holds, first-hit, not-true}
 use Rattle.folds.proofs.Column.{column-at, length-column}
 use Rattle.offsets.specs.declared.Offset.{Offset}
 use Rattle.offsets.specs.Offsets.{isNear, offsetOf}
 use Rattle.offsets.proofs.Places.{offset-near, offset-place}
 use Rattle.view.specs.View.{maxPoints, rankAt}
 use Rattle.cells.specs.Points.{Point, nowhere, keyOf, keysOf}
-use Rattle.cells.specs.Cell.{Cell, cellOf, InRange, before, coincide, offsetBy, cellsOf}
-use Rattle.cells.proofs.Edges.{coincide-same, coincide-true, offset-back}
+use Rattle.cells.specs.Cell.{Cell, cellOf, InRange, before, offsetBy, cellsOf}
 use Rattle.cells.proofs.Keys.{key-cell, key-order, cell-at}
-use Rattle.grid.specs.Tables.{entryIn, neighbourOf, Keys}
+use Rattle.grid.specs.Tables.{entryIn, Keys}
 use Rattle.grid.specs.Views.{viewOf}
 use Rattle.grid.specs.InOrder.{CellOrder}
 use Rattle.grid.proofs.Views.{near-read}
+use Rattle.grid.proofs.Mirror.{neighbour-means, neighbour-found, neighbour-back}
 
 -- ---- by keys
 
@@ -63,33 +62,24 @@ module _ (ps : List Point) (o : CellOrder ps) where
       let p = getD ps j nowhere in
       true≢false (sym (o .rising i j ij h) ∙ ap (λ (c : Cell). before c (cell j)) e ∙ sym (key-order p p (o .inside j h) (o .inside j h)) ∙ le-ltb (keyOf p) (keyOf p) (omega arith))
 
+  no-two : (i j : ℕ) → i < j → j < length ps → cellsOf ps i ≡ cellsOf ps j → ⊥
+  no-two i j ij h e = apart i j ij h (sym (cell-at ps i (omega arith)) ∙ e ∙ cell-at ps j h)
+
   -- the rank at an offset holds the point of the cell at (u + du, v + dv) ..
   pub near-means : (k : ℕ) (d : Offset) (j : ℕ) → k < length ps → isNear d ≡ true → j < length ps → rankAt (viewOf ps) k d ≡ j → cell j ≡ offsetBy d (cell k)
-  unfolding neighbourOf
   near-means k d j h l m e =
-      let f : neighbourOf (length ps) (cellsOf ps) k d ≡ j = sym (near-read ps (o .few) k d h l) ∙ e in
-      let g = first-holds (λ (j : ℕ). coincide (cellsOf ps j) (offsetBy d (cellsOf ps k))) 0 (length ps) (omega (arith, f)) in
-      rw (f, cell-at ps j m, cell-at ps k h) at (coincide-true (cellsOf ps (neighbourOf (length ps) (cellsOf ps) k d)) (offsetBy d (cellsOf ps k)) g)
+      sym (cell-at ps j m) ∙ neighbour-means (length ps) (cellsOf ps) no-two k d j m (sym (near-read ps (o .few) k d h l) ∙ e) ∙ ap (offsetBy d) (cell-at ps k h)
 
   -- .. and if there is such a point, its rank stands there
   pub near-found : (k : ℕ) (d : Offset) (j : ℕ) → k < length ps → isNear d ≡ true → j < length ps → cell j ≡ offsetBy d (cell k) → rankAt (viewOf ps) k d ≡ j
-  unfolding neighbourOf
   near-found k d j h l m e =
-      near-read ps (o .few) k d h l
-      ∙ first-hit (λ (j : ℕ). coincide (cellsOf ps j) (offsetBy d (cellsOf ps k))) (length ps) j m (coincide-same (cellsOf ps j) (offsetBy d (cellsOf ps k)) (there j m e))
-      (λ i b. not-true (coincide (cellsOf ps i) (offsetBy d (cellsOf ps k))) (λ t. apart i j b m (cells-at i (omega arith) (coincide-true (cellsOf ps i) (offsetBy d (cellsOf ps k)) t) ∙ sym e)))
-    where
-      there : (j : ℕ) → j < length ps → cell j ≡ offsetBy d (cell k) → cellsOf ps j ≡ offsetBy d (cellsOf ps k)
-      there j m e = cell-at ps j m ∙ e ∙ ap (offsetBy d) (sym (cell-at ps k h))
-
-      cells-at : (i : ℕ) → i < length ps → cellsOf ps i ≡ offsetBy d (cellsOf ps k) → cell i ≡ offsetBy d (cell k)
-      cells-at i m e = sym (cell-at ps i m) ∙ e ∙ ap (offsetBy d) (cell-at ps k h)
+      near-read ps (o .few) k d h l ∙ neighbour-found (length ps) (cellsOf ps) no-two k d j m (cell-at ps j m ∙ e ∙ ap (offsetBy d) (sym (cell-at ps k h)))
 
   -- j stands at place d of k just where k stands at place 24 - d of j
   pub mirrored : (k j d : ℕ) → k < length ps → j < length ps → d < 25 → viewOf ps .near (25 * k + d) ≡ j → viewOf ps .near (25 * j + (24 - d)) ≡ k
   mirrored k j d hk hj hd e =
-      let there = near-means k (offsetOf d) j hk (offset-near d hd) hj (at-place k d ∙ e) in
-      sym (at-place j (24 - d)) ∙ near-found j (offsetOf (24 - d)) k hj (offset-near (24 - d) (omega arith)) hk (sym (offset-back d (cell k) hd) ∙ ap (offsetBy (offsetOf (24 - d))) (sym there))
+      sym (at-place j (24 - d)) ∙ near-read ps (o .few) j (offsetOf (24 - d)) hj (offset-near (24 - d) (omega arith))
+      ∙ neighbour-back (length ps) (cellsOf ps) no-two k j d hk hj hd (sym (near-read ps (o .few) k (offsetOf d) hk (offset-near d hd)) ∙ at-place k d ∙ e)
     where
       at-place : (k d : ℕ) → rankAt (viewOf ps) k (offsetOf d) ≡ viewOf ps .near (25 * k + d)
       at-place k d = ap (λ (i : ℕ). viewOf ps .near (25 * k + i)) (offset-place d)

@@ -7,6 +7,7 @@ pub mod Firsts
 pub mod Indices
 pub mod Filled
 pub mod Views
+pub mod Mirror
 pub mod InOrder
 pub mod Joined
 pub mod Alike

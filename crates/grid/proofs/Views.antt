@@ -37,7 +37,7 @@ module _ (n : ℕ) (keys indices : List ℕ) (few : n ≤ maxPoints) where
   abbrev index : ℕ → ℕ
   index = entryIn indices
 
-  held : (i : ℕ) → entryIn (ranksOf n keys indices) i ≡ tableOf n cell index i
+  pub held : (i : ℕ) → entryIn (ranksOf n keys indices) i ≡ tableOf n cell index i
   unfolding ranksOf
   held = blocks-list n (neighbourEntry n cell) (firstInRow n cell) (firstInColumn n cell) (lastWithIndex n index) few
 

@@ -4,7 +4,7 @@ use lib.IntN.{ℤ}
 use Rattle.cells.specs.Points.{Point}
 use Rattle.cells.specs.Cell.{cellOf, InRange, moved}
 
--- "An offset is one whole number added to every u and one to every v, of either sign; index, position .. stay": q is p, moved, and both are in range
+-- "An offset is one whole number added to every u and one to every v, of either sign; index, position .. stay": q is p, moved, with its strength, and both are in range
 pub record Moved (a b : ℤ) (p q : Point) : Type 0 where
   pub old : InRange p
   pub new : InRange q
@@ -12,3 +12,4 @@ pub record Moved (a b : ℤ) (p q : Point) : Type 0 where
   pub index : q .index ≡ p .index
   pub x : q .x ≡ p .x
   pub y : q .y ≡ p .y
+  pub strength : q .strength ≡ p .strength

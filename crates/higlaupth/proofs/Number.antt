@@ -8,44 +8,67 @@ use Prim.Native.Nat.{ℕ, _+_, _-_, _*_, _/_, _%_, _^_, _≤_, _<_}
 use native.Mathlib.Decide.{decLt}
 use native.Mathlib.Omega.{arith}
 use borrow.Author.Tests.{le-leb, lt-leb}
+use lib.Dec.{eqb}
 use lib.ListN.{length}
+use Rattle.folds.specs.Among.{anyIn}
 use Rattle.view.specs.View.{maxPoints}
 use Rattle.sheet_file.specs.Bytes.{Bytes}
+use Rattle.ruling.specs.Ruling.{sheetNumbers}
+use Rattle.ruling.proofs.Given.{sheet-number}
 use Rattle.runs.specs.Run.{full}
 use Rattle.runs.specs.declared.Run.{Run}
 use Rattle.kept.specs.Answer.{answerOf}
 use Rattle.kept.specs.declared.Answer.{Answer}
 use Rattle.kept.specs.declared.Answer.the-variants.{Refused, Accepted}
-use Rattle.kept.proofs.Bounds.{counts-bounded, refusal-bounded}
+use Rattle.kept.specs.declared.Counts.{Counts}
+use Rattle.kept.proofs.Bounds.{counts-bounded, refusal-listed}
 use Rattle.kept_in_run.specs.InRun.{answerInRun}
 use Rattle.map_lines.specs.Map.{mapSize}
 use Rattle.sheet_map.specs.Text.{mapTextOf}
 use Rattle.sheet_map.proofs.Whole.{text-fits}
-use Rattle.higlaupth.specs.Number.{numberOf, Countable, Returned, refusal, counts, InRunReturned, run-full, as-sheet, textNumber, MapReturned}
+use Rattle.higlaupth.specs.Number.{numberOf, SheetCounts, Countable, Returned, refusal, counts, InRunReturned, run-full, as-sheet, textNumber, MapReturned}
 
 -- ---- of higlaupth_keep
+
+few : (file : List ℕ) (room : ℕ) → Bytes file → {c : Counts} → answerOf file room ≡ Accepted c → SheetCounts (c .points) (c .components) (c .rounds)
+few file room b e = let r = counts-bounded file room b e in record { few-components = r .components; few-rounds = r .rounds; few-points = r .points }
 
 pub returned : (file : List ℕ) (room : ℕ) → Bytes file → Returned (numberOf (answerOf file room))
 returned file room b = go (answerOf file room) refl
   where
     go : (a : Answer) → answerOf file room ≡ a → Returned (numberOf a)
-    go (Refused k) e = let r = refusal-bounded file room e in refusal k (r .0) (r .1)
-    go (Accepted c) e = let r = counts-bounded file room b e in counts (c .points) (c .components) (r .0) (r .1)
+    go (Refused k) e = refusal k (refusal-listed file room e)
+    go (Accepted c) e = counts (c .points) (c .components) (c .rounds) (few file room b e)
 
 pub countable : (file : List ℕ) (room : ℕ) → Bytes file → Countable (answerOf file room)
 countable file room b = go (answerOf file room) refl
   where
     go : (a : Answer) → answerOf file room ≡ a → Countable a
     go (Refused k) e = tt
-    go (Accepted c) e = counts-bounded file room b e
+    go (Accepted c) e = few file room b e
 
--- taken apart: above the low 32 bits a refusal has 0, and the counts have 1, 16 bits of points below it, and 16 bits of components
-pub refusal-apart : (number : ℕ) → number ≤ 9 → number / 2 ^ 32 ≡ 0
-refusal-apart k h = omega arith
+-- taken apart: above the low 32 bits a refusal has 0; the counts have an odd number there, above it 16 bits of rounds, and below it 16 bits of
+-- points and 16 bits of components
+pub refusal-apart : (number : ℕ) → anyIn (eqb number) sheetNumbers ≡ true → number / 2 ^ 32 ≡ 0
+refusal-apart k h = omega (arith, sheet-number k h .high)
 
-pub counts-apart : (points components : ℕ) → components ≤ points → points ≤ maxPoints
-    → let n = 2 ^ 32 + 2 ^ 16 * points + components in (n / 2 ^ 32 ≡ 1) × (n / 2 ^ 16 % 2 ^ 16 ≡ points) × (n % 2 ^ 16 ≡ components)
-counts-apart p c h l = (omega arith, omega arith, omega arith)
+pub record Apart (n points components rounds : ℕ) : Type 0 where
+  pub accepted : n / 2 ^ 32 % 2 ^ 16 ≡ 1
+  pub points-are : n / 2 ^ 16 % 2 ^ 16 ≡ points
+  pub components-are : n % 2 ^ 16 ≡ components
+  pub rounds-are : n / 2 ^ 48 ≡ rounds
+
+pub counts-apart : (points components rounds : ℕ) → SheetCounts points components rounds → Apart (2 ^ 48 * rounds + 2 ^ 32 + 2 ^ 16 * points + components) points components rounds
+counts-apart p c r h = record {
+  accepted = omega (arith, h .few-components, h .few-points);
+  points-are = omega (arith, h .few-components, h .few-points);
+  components-are = omega (arith, h .few-components, h .few-points);
+  rounds-are = omega (arith, h .few-components, h .few-points);
+}
+
+-- 2,304 points in one patch, of which a chain has lost one a round but for the last
+pub full-chain : numberOf (Accepted (record { points = 2304; components = 1; rounds = 2303 })) ≡ 648236875810603009
+full-chain = refl
 
 -- ---- of higlaupth_keep_in_run
 

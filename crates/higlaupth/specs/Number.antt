@@ -1,29 +1,36 @@
 -- The numbers that the calls hand to C. Assumes nothing.
 use mathlib.Core.Path.{_≡_}
-use mathlib.Core.Bool.{cond}
+use mathlib.Core.Bool.{true, cond}
 use mathlib.Core.Logic.{_⊎_}
 use Prim.Native.Nat.{ℕ, _+_, _-_, _*_, _^_, _≤_, _<_}
-use lib.Dec.{leb}
+use lib.Dec.{eqb, leb}
+use Rattle.folds.specs.Among.{anyIn}
 use Rattle.view.specs.View.{maxPoints}
+use Rattle.ruling.specs.Ruling.{sheetNumbers}
 use Rattle.kept.specs.declared.Answer.{Answer}
 use Rattle.kept.specs.declared.Answer.the-variants.{Refused, Accepted}
 use Rattle.map_lines.specs.Map.{mapSize}
 
--- the refusal number, or the counts of points and of components above 2^32
+-- the refusal number, or the counts of points, of components and of rounds above 2^32
 abbrev pub numberOf : Answer → ℕ
 numberOf (Refused number) = number
-numberOf (Accepted counts) = 2 ^ 32 + 2 ^ 16 * counts .points + counts .components
+numberOf (Accepted counts) = 2 ^ 48 * counts .rounds + 2 ^ 32 + 2 ^ 16 * counts .points + counts .components
 
--- an answer whose counts are those of a sheet: no more components than points, no more points than the most of a sheet
+-- counts as a sheet has them: no more components than points, no more rounds, no more points than the most of a sheet
+pub record SheetCounts (points components rounds : ℕ) : Type 0 where
+  pub few-components : components ≤ points
+  pub few-rounds : rounds ≤ points
+  pub few-points : points ≤ maxPoints
+
+-- an answer whose counts are so
 abbrev pub Countable : Answer → Type 0
 Countable (Refused number) = Unit {0}
-Countable (Accepted counts) = (counts .components ≤ counts .points) × (counts .points ≤ maxPoints)
+Countable (Accepted counts) = SheetCounts (counts .points) (counts .components) (counts .rounds)
 
--- what the number that higlaupth_keep returns is: a refusal, 1 to 9, or 2^32 + 2^16 · points + components, no more components than points, no
--- more points than the most of a sheet
+-- what the number that higlaupth_keep returns is: that of a refusal of a sheet, or 2^48 · rounds + 2^32 + 2^16 · points + components
 pub data Returned : ℕ → Type 0 where
-  refusal : (number : ℕ) → 1 ≤ number → number ≤ 9 → Returned number
-  counts : (points components : ℕ) → components ≤ points → points ≤ maxPoints → Returned (2 ^ 32 + 2 ^ 16 * points + components)
+  refusal : (number : ℕ) → anyIn (eqb number) sheetNumbers ≡ true → Returned number
+  counts : (points components rounds : ℕ) → SheetCounts points components rounds → Returned (2 ^ 48 * rounds + 2 ^ 32 + 2 ^ 16 * points + components)
 
 -- what the number that higlaupth_keep_in_run returns is: the same, or 11
 pub data InRunReturned : ℕ → Type 0 where

@@ -15,7 +15,7 @@ ghost use Rattle.sheet_map.specs.Text.{mapTextOf};
 ghost use Rattle.higlaupth.specs.Number.{numberOf, Countable, textNumber};
 ghost use Rattle.higlaupth.specs.Words.{wordsOf, runIn, wordsAfter};
 
-// The number of an answer: that of a refusal; else 2^32 + 2^16 * points + components.
+// The number of an answer: that of a refusal; else 2^48 * rounds + 2^32 + 2^16 * points + components.
 fn number_of(a: Answer) -> u64
     requires { ⌜ Countable a ⌝ }
     ensures { λ r. ⌜ r ≡ numberOf a ⌝ }
@@ -25,12 +25,16 @@ fn number_of(a: Answer) -> u64
         Answer::Accepted(counts) => {
             let points = counts.points;
             let components = counts.components;
-            0x1_0000_0000 + 0x1_0000 * (points as u64) + components as u64
+            let rounds = counts.rounds;
+            0x1_0000_0000_0000 * (rounds as u64)
+                + 0x1_0000_0000
+                + 0x1_0000 * (points as u64)
+                + components as u64
         }
     }
 }
 
-// 1 to 9 for a refusal; else 2^32 + 2^16 * points + components.
+// 1 to 9, 12, 13 or 14 for a refusal; else 2^48 * rounds + 2^32 + 2^16 * points + components.
 #[no_mangle]
 pub extern "C" fn higlaupth_keep(file: &[u8], rows: &mut [u8]) -> u64
     ensures number { λ r. ⌜ r ≡ numberOf (answerOf (now (file .entry)) (length (now (rows .entry)))) ⌝ }
@@ -51,7 +55,7 @@ fn run_in(words: &RunWords) -> Run
     ensures { λ r. ⌜ r ≡ runIn (now (words .entry)) ⌝ }
 {
     let old_sums = [words[0], words[1], words[2], words[3], words[4]];
-    let new_sums = [words[6], words[7], words[8], words[9], words[10]];
+    let new_sums = [words[6], words[7], words[8], words[9], words[10], words[11]];
     Run {
         old_sums,
         sheets: words[5],
@@ -77,6 +81,7 @@ fn words_of(run: Run) -> RunWords
         new[2],
         new[3],
         new[4],
+        new[5],
     ]
 }
 

@@ -3,17 +3,15 @@ use mathlib.Core.Path.{_≡_, refl, sym, ap, _∙_}
 use mathlib.Core.List.{List, [], _∷_, _++_, List·Permᴰ, List·Permᴰ·cons, List·Permᴰ·swap, List·Permᴰ·trans, Permᴰ·refl}
 use Prim.Native.Nat.{ℕ}
 use native.Mathlib.Omega.{arith}
-use lib.Dec.{eqb}
-use lib.ListN.{getD, replicate}
-use borrow.Author.Tests.{eqb-true}
+use lib.ListN.{replicate}
 use Rattle.folds.specs.Below.{every}
-use Rattle.folds.proofs.Below.{every-at}
 use Rattle.cells.specs.Points.{Point}
 use Rattle.sheet_file.specs.Bytes.{Bytes}
 use Rattle.sheet_file.specs.Frame.{framingOf, layoutOf}
 use Rattle.sheet_file.specs.declared.Framing.the-variants.{Framed}
 use Rattle.sheet_file.specs.declared.Layout.{Layout}
 use Rattle.ruling.specs.Order.{recordsIn, Relisted}
+use Rattle.ruling.proofs.Weights.{bytes-by, headed-by}
 use Rattle.kept.specs.Answer.{answerOf, rowsAfter}
 use Rattle.kept.specs.declared.Answer.the-variants.{Accepted}
 use Rattle.sheet_listing.specs.Text.{textOf}
@@ -22,7 +20,6 @@ use Rattle.promises.proofs.Theorems.{another-order}
 use Rattle.stars.specs.Stars.{rules-compute, settings}
 use Rattle.stars.specs.Listed.{file, file-computes, answered, shown, printed, rows-left}
 use Rattle.instances.specs.Files.{point, shortFile, ten, eleven, twelve, thirteen, fourteen, zeroSize, answeredComponents, marksOf}
-use Rattle.instances.proofs.Computed.{bytes-by}
 use Rattle.instances.proofs.KeptPatch.{file-bytes}
 
 -- ---- the sheet of five points, its first two and its next two points the other way round
@@ -40,7 +37,7 @@ framed = refl
 pub is-relisted : Relisted file turned (layoutOf file)
 unfolding file-computes recordsIn every
 is-relisted = record {
-  rest = record { size = refl; head = λ k h. eqb-true (getD turned k 0) (getD file k 0) (every-at (λ (k : ℕ). eqb (getD turned k 0) (getD file k 0)) 10 refl k h) };
+  rest = headed-by file turned (layoutOf file) refl refl refl;
   records = List·Permᴰ·trans (List·Permᴰ·swap refl refl) (List·Permᴰ·cons refl (List·Permᴰ·cons refl (List·Permᴰ·swap refl refl)));
 }
 
@@ -49,7 +46,7 @@ pub turned-same : SameResult file turned
 turned-same = another-order file turned (layoutOf file) file-bytes framed is-relisted
 
 -- so the counts, the text and the rows of the one file are those of the other
-pub turned-answered : answerOf turned 140 ≡ Accepted (record { points = 5; components = 2 })
+pub turned-answered : answerOf turned 140 ≡ Accepted (record { points = 5; components = 2; rounds = 0 })
 turned-answered = turned-same .answer 140 ∙ answered
 
 pub turned-printed : textOf turned ≡ shown
@@ -74,7 +71,7 @@ pub near-framed : framingOf nearFile ≡ Framed (layoutOf nearFile)
 unfolding file-computes
 near-framed = refl
 
-pub records-same : recordsIn nearFile (layoutOf nearFile .points) (layoutOf nearFile .count) ≡ recordsIn zeroSizeFile (layoutOf nearFile .points) (layoutOf nearFile .count)
+pub records-same : recordsIn nearFile (layoutOf nearFile) ≡ recordsIn zeroSizeFile (layoutOf nearFile)
 unfolding recordsIn file-computes
 records-same = refl
 
@@ -87,11 +84,11 @@ pub zero-size-marks : marksOf zeroSize near ≡ 0 ∷ 0 ∷ []
 unfolding rules-compute
 zero-size-marks = refl
 
-near-answered : answerOf nearFile 56 ≡ Accepted (record { points = 2; components = 0 })
+near-answered : answerOf nearFile 56 ≡ Accepted (record { points = 2; components = 0; rounds = 0 })
 unfolding answerOf file-computes rules-compute
 near-answered = refl
 
-zero-size-answered : answerOf zeroSizeFile 56 ≡ Accepted (record { points = 2; components = 1 })
+zero-size-answered : answerOf zeroSizeFile 56 ≡ Accepted (record { points = 2; components = 1; rounds = 0 })
 unfolding answerOf file-computes rules-compute
 zero-size-answered = refl
 
@@ -100,7 +97,7 @@ not-same r = let z : _≡_ {A = ℕ} 1 0 = ap answeredComponents (sym zero-size-
 
 -- so the promise needs its condition on the rest of the file
 pub rest-needed : ((file other : List ℕ) (f : Layout) → Bytes file → framingOf file ≡ Framed f
-    → List·Permᴰ (recordsIn file (f .points) (f .count)) (recordsIn other (f .points) (f .count)) → SameResult file other) → ⊥
+    → List·Permᴰ (recordsIn file f) (recordsIn other f) → SameResult file other) → ⊥
 rest-needed f =
     let l = layoutOf nearFile in
-    not-same (f nearFile zeroSizeFile l (bytes-by nearFile refl) near-framed (rw (← records-same) (Permᴰ·refl (recordsIn nearFile (l .points) (l .count)))))
+    not-same (f nearFile zeroSizeFile l (bytes-by nearFile refl) near-framed (rw (← records-same) (Permᴰ·refl (recordsIn nearFile l))))

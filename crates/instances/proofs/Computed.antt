@@ -1,20 +1,17 @@
 -- What the promises ask and say of a small sheet, from what is computed of it once. Assumes nothing.
 use mathlib.Core.Path.{_≡_, refl, sym, ap, _∙_, fun-ext}
 use mathlib.Core.Bool.{Bool, true, false, not, _&&_, _||_, true≢false}
-use mathlib.Core.List.{List, [], _∷_}
-use Prim.Native.Nat.{ℕ, zero, suc, _<_}
-use native.Mathlib.Omega.{arith}
+use mathlib.Core.List.{List}
+use Prim.Native.Nat.{ℕ, _<_}
 use lib.Dec.{eqb, ltb}
 use lib.IntN.{ℤ}
 use lib.ListN.{length, getD}
 use lib.Seq.{getD-take}
-use borrow.Author.Tests.{eqb-true, eq-eqb, ltb-true, ltb-false}
-use Rattle.folds.specs.Among.{anyIn}
+use borrow.Author.Tests.{eqb-true, eq-eqb, ltb-true}
 use Rattle.folds.specs.Below.{every}
-use Rattle.folds.proofs.Below.{every-at, and-under, and-left, and-right, or-none}
+use Rattle.folds.proofs.Below.{every-at, and-under, and-left, and-right}
 use Rattle.cells.specs.Points.{Point, nowhere}
 use Rattle.cells.specs.Cell.{Cell, within, cellOf, moved, joinedBy}
-use Rattle.sheet_file.specs.Bytes.{Bytes}
 use Rattle.sheet_file.specs.declared.Settings.{Settings}
 use Rattle.ruling.specs.Offset.{StaysInRange}
 use Rattle.patches.specs.Reach.{Reach, here, step}
@@ -25,13 +22,6 @@ use Rattle.promises.specs.Words.{DistinctIndices, otherMark, marksIn, survivor,
 use Rattle.instances.specs.Files.{marksOf}
 
 -- ---- the conditions
-
--- no element is over 255
-pub bytes-by : (file : List ℕ) → anyIn (ltb 255) file ≡ false → Bytes file
-bytes-by [] e zero = omega arith
-bytes-by [] e (suc k) = omega arith
-bytes-by (b ∷ file) e zero = omega (arith, ltb-false 255 b (or-none (ltb 255 b) (anyIn (ltb 255) file) e .0))
-bytes-by (b ∷ file) e (suc k) = bytes-by file (or-none (ltb 255 b) (anyIn (ltb 255) file) e .1) k
 
 -- every pair of k below n passes a test
 abbrev everyPair : (ℕ → ℕ → Bool) → ℕ → Bool

@@ -17,6 +17,7 @@ use Rattle.sheet_file.specs.declared.Settings.{Settings}
 use Rattle.sheet_file.specs.Refusals.{defaultsFor, settingsIn}
 use Rattle.ruling.specs.Ruling.{accepted, rulingOf}
 use Rattle.ruling.specs.Switches.{switched}
+use Rattle.ruling.proofs.Weights.{bytes-by}
 use Rattle.patches.specs.Reach.{here, step}
 use Rattle.components.specs.WholePatches.{WholePatch, Smallest}
 use Rattle.promises.specs.Words.{DistinctIndices, otherMark, survivor, joined, keptRank}
@@ -25,7 +26,7 @@ use Rattle.promises.proofs.Theorems.{kept-patch, component-count}
 use Rattle.stars.specs.Stars.{rules-compute, settings}
 use Rattle.stars.specs.Listed.{file, file-computes, answered}
 use Rattle.instances.specs.Files.{point, shortFile, longFile, five, zeroSize, answeredComponents, marksOf}
-use Rattle.instances.proofs.Computed.{bytes-by, distinct-by, marks-are, alive-is, link-is, kept-is, reached-in, patch-by}
+use Rattle.instances.proofs.Computed.{distinct-by, marks-are, alive-is, link-is, kept-is, reached-in, patch-by}
 
 -- ---- the sheet of five points
 

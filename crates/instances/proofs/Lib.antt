@@ -3,6 +3,7 @@ pub mod KeptPatch
 pub mod AnotherOrder
 pub mod Offset
 pub mod Switches
+pub mod WeakEnds
 pub mod Map
 pub mod MovedMap
 pub mod Tally

@@ -1,5 +1,5 @@
--- "A map on one page": its lines, its numbers and its characters, of small files; another order; and of files without the conditions.
--- Assumes nothing.
+-- "A map on one page": its lines, its numbers and its characters, of small files, one with strengths; another order; and of files without the
+-- conditions. Assumes nothing.
 use mathlib.Core.Path.{_≡_, refl, sym, ap, _∙_}
 use mathlib.Core.Bool.{true, false}
 use mathlib.Core.Logic.{inl, inr}
@@ -19,7 +19,8 @@ use Rattle.sheet_file.specs.declared.Layout.{Layout}
 use Rattle.sheet_file.specs.declared.Settings.{Settings}
 use Rattle.ruling.specs.Ruling.{refused, accepted, pointsOf, rulingOf, rowsSize}
 use Rattle.ruling.specs.Order.{recordsIn}
-use Rattle.marks.specs.Filters.{filterCount, component}
+use Rattle.ruling.proofs.Weights.{bytes-by}
+use Rattle.marks.specs.Filters.{filterCount, leaf, component}
 use Rattle.marks.specs.Byte.{hasMark, firstMark}
 use Rattle.text.specs.Text.{bytes, refusalOf}
 use Rattle.text.proofs.Stores.{each-long}
@@ -32,11 +33,12 @@ use Rattle.promises.proofs.MovingMap.{drawn-text}
 use Rattle.promises.specs.Map.{onMap, Lines, PointsShown}
 use Rattle.promises.proofs.Theorems.{map-of-lines, map-points, map-numbers, map-texts, ten-alone}
 use Rattle.stars.specs.Stars.{rules-compute, settings}
-use Rattle.stars.specs.Listed.{file, file-computes}
+use Rattle.stars.specs.Listed.{file, file-computes, rowFile}
 use Rattle.instances.specs.Files.{point, shortFile, five, zeroSize, marksOf}
-use Rattle.instances.proofs.Computed.{bytes-by, marks-are}
+use Rattle.instances.proofs.Computed.{marks-are}
 use Rattle.instances.proofs.KeptPatch.{file-bytes, fifthMarked, five-marks}
 use Rattle.instances.proofs.AnotherOrder.{turned, turned-same, nearFile, zeroSizeFile, near-framed, records-same, near, near-marks, zero-size-marks}
+use Rattle.instances.proofs.WeakEnds.{row, rowSettings, row-bytes, endsMarked, row-marked, turnedRow, row-same}
 
 -- what is printed of a file that is drawn, by the marks that were computed of its points
 pub drawn-by : (file : List ℕ) (s : Settings) (ps : List Point) (m : List ℕ) → rulingOf file rowsSize ≡ accepted s ps → tooWide (length ps) (cellsOf ps) ≡ false → marksOf s ps ≡ m
@@ -149,12 +151,40 @@ zero-size-drawn = drawn-by zeroSizeFile zeroSize near (0 ∷ 0 ∷ []) zero-size
 
 -- so the same map needs the condition on the rest of the file
 pub rest-needed-for-map : ((file other : List ℕ) (f : Layout) → Bytes file → framingOf file ≡ Framed f
-    → List·Permᴰ (recordsIn file (f .points) (f .count)) (recordsIn other (f .points) (f .count)) → mapTextOf other ≡ mapTextOf file) → ⊥
+    → List·Permᴰ (recordsIn file f) (recordsIn other f) → mapTextOf other ≡ mapTextOf file) → ⊥
 rest-needed-for-map f =
     let l = layoutOf nearFile in
-    let same = f nearFile zeroSizeFile l (bytes-by nearFile refl) near-framed (rw (← records-same) (Permᴰ·refl (recordsIn nearFile (l .points) (l .count)))) in
+    let same = f nearFile zeroSizeFile l (bytes-by nearFile refl) near-framed (rw (← records-same) (Permᴰ·refl (recordsIn nearFile l))) in
     let z : _≡_ {A = ℕ} 35 87 = ap (λ (t : List ℕ). getD t 7 0) (sym zero-size-drawn ∙ same ∙ near-drawn) in
     omega arith
+
+-- ---- the row of three with strengths: its first two points have the L mark
+
+row-ruled : rulingOf rowFile rowsSize ≡ accepted rowSettings row
+unfolding file-computes rules-compute
+row-ruled = refl
+
+row-narrow : tooWide 3 (cellsOf row) ≡ false
+unfolding cellsOf span
+row-narrow = refl
+
+pub row-drawn : mapTextOf rowFile ≡ bytes "     0 LL#..................................................................... \n"
+unfolding mapOf cellsOf
+row-drawn = drawn-by rowFile rowSettings row endsMarked row-ruled row-narrow row-marked
+
+-- by the promise it is the letter of the filter
+pub row-shown : PointsShown (mapTextOf rowFile) rowSettings row
+row-shown = map-points rowFile rowSettings row row-bytes (map-numbers rowFile .none rowSettings row row-ruled row-narrow)
+
+pub row-letter : onMap (mapTextOf rowFile) (row-shown .line 0) (row-shown .column 0) ≡ bytes "L"
+unfolding firstMark
+row-letter =
+    let e = marks-are rowSettings row endsMarked row-marked 0 (omega arith) in
+    row-shown .letter 0 leaf (omega arith) (omega arith) (ap (hasMark leaf) e) (λ g l. ap (hasMark g) e ∙ first-before (λ (f : ℕ). hasMark f 16) 0 filterCount g (omega arith) l)
+
+-- its last two points the other way round, with their strengths
+pub turned-row-drawn : mapTextOf turnedRow ≡ bytes "     0 LL#..................................................................... \n"
+turned-row-drawn = row-same .map ∙ row-drawn
 
 -- ---- two points, (0,0) and one other: what they span
 
@@ -301,9 +331,9 @@ lowest-drawn = refl
 
 -- ---- the characters
 
--- "# a kept one, else the letter of the first filter": of a byte without marks, with the last mark, with the first two, and with a bit that no
--- filter has
-pub letters-shown : pointCharacter 0 ++ pointCharacter 8 ++ pointCharacter 3 ++ pointCharacter 16 ≡ bytes "#CV#"
+-- "# a kept one, else the letter of the first filter": of a byte without marks, with the last mark, with the last two, with the first two, and
+-- with a bit that no filter has
+pub letters-shown : pointCharacter 0 ++ pointCharacter 8 ++ pointCharacter 24 ++ pointCharacter 3 ++ pointCharacter 32 ≡ bytes "#CLV#"
 unfolding firstMark
 letters-shown = refl
 

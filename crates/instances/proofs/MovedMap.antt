@@ -15,6 +15,7 @@ use Rattle.sheet_file.specs.Bytes.{Bytes}
 use Rattle.sheet_file.specs.declared.Settings.{Settings}
 use Rattle.ruling.specs.Ruling.{refused, accepted, rulingOf, rowsSize}
 use Rattle.ruling.specs.Offset.{movedFile, StaysInRange}
+use Rattle.ruling.proofs.Weights.{bytes-by}
 use Rattle.marks.specs.Filters.{validate}
 use Rattle.marks.specs.Byte.{hasMark}
 use Rattle.text.specs.Text.{bytes}
@@ -27,7 +28,7 @@ use Rattle.promises.proofs.Theorems.{map-numbers, moved-file-map}
 use Rattle.stars.specs.Stars.{rules-compute, settings}
 use Rattle.stars.specs.Listed.{file, file-computes}
 use Rattle.instances.specs.Files.{shortFile, five}
-use Rattle.instances.proofs.Computed.{bytes-by, in-range-by}
+use Rattle.instances.proofs.Computed.{in-range-by}
 use Rattle.instances.proofs.KeptPatch.{file-bytes}
 use Rattle.instances.proofs.Offset.{shifted, shifted-is, sixLess, in-range, validate-stays, bent, given, oneMore, given-marks, one-more-marks}
 use Rattle.instances.proofs.Map.{drawn-by, file-ruled, file-map-ruled, pair, pairFile, wide-accepted, wide-refused}

@@ -6,7 +6,7 @@ use Prim.Native.Nat.{ℕ, _+_, _<_}
 use native.Mathlib.Omega.{arith}
 use lib.Dec.{eqb, ltb}
 use lib.IntN.{ℤ, pos, negsuc}
-use lib.ListN.{getD}
+use lib.ListN.{length, getD}
 use Rattle.folds.specs.Below.{some, every}
 use Rattle.folds.proofs.Below.{some-fails}
 use Rattle.cells.specs.Points.{Point}
@@ -16,6 +16,7 @@ use Rattle.sheet_file.specs.Bytes.{Bytes}
 use Rattle.sheet_file.specs.declared.Settings.{Settings}
 use Rattle.ruling.specs.Ruling.{refused, accepted, rulingOf}
 use Rattle.ruling.specs.Offset.{movedFile, StaysInRange}
+use Rattle.ruling.proofs.Weights.{bytes-by}
 use Rattle.marks.specs.Filters.{validate}
 use Rattle.marks.specs.Byte.{hasMark}
 use Rattle.validate.specs.Validate.{validateMark}
@@ -26,13 +27,22 @@ use Rattle.promises.proofs.Theorems.{moved-file}
 use Rattle.stars.specs.Stars.{rules-compute, settings}
 use Rattle.stars.specs.Listed.{file, file-computes}
 use Rattle.instances.specs.Files.{point, shortFile, five, marksOf}
-use Rattle.instances.proofs.Computed.{bytes-by, in-range-by, marks-are, kept-is}
+use Rattle.instances.proofs.Computed.{in-range-by, marks-are, kept-is}
 use Rattle.instances.proofs.KeptPatch.{file-bytes, file-accepted, fifthMarked, five-marks}
 
 -- the points of which the promise speaks are those that the moved file's ruling names
-points-are : {other : List ℕ} {room : ℕ} {a b : ℤ} {s : Settings} {ps qs : List Point} (p : MovedMarks other room a b s ps)
+pub points-are : {other : List ℕ} {room : ℕ} {a b : ℤ} {s : Settings} {ps qs : List Point} (p : MovedMarks other room a b s ps)
     → rulingOf other room ≡ accepted s qs → p .along .points ≡ qs
 points-are {s = s} {qs = qs} p e = let q : accepted s (p .along .points) ≡ accepted s qs = sym (p .along .ruling) ∙ e in cc
+
+-- two sheets of as many points without a validate mark have the same validate marks
+pub none-marked : (s : Settings) (ps qs : List Point) (m : List ℕ) → marksOf s ps ≡ m → length qs ≡ length ps → some (λ (k : ℕ). hasMark validate (getD m k 0)) (length ps) ≡ false
+    → some (validateMark s (viewOf qs) (cellsOf qs)) (length ps) ≡ false → (k : ℕ) → k < length ps → hasMark validate (marksIn s qs k) ≡ hasMark validate (marksIn s ps k)
+none-marked s ps qs m e size old new k h =
+    validate-in s qs k (omega (arith, size, h))
+    ∙ some-fails (validateMark s (viewOf qs) (cellsOf qs)) (length ps) new k h
+    ∙ sym (some-fails (λ (k : ℕ). hasMark validate (getD m k 0)) (length ps) old k h)
+    ∙ sym (ap (hasMark validate) (marks-are s ps m e k h))
 
 -- ---- the sheet of five points, moved by (-6, 7)
 
@@ -80,11 +90,7 @@ unfolding rules-compute
 none-after = refl
 
 pub validate-stays : (k : ℕ) → k < 5 → hasMark validate (marksIn settings sixLess k) ≡ hasMark validate (marksIn settings five k)
-validate-stays k h =
-    validate-in settings sixLess k h
-    ∙ some-fails (validateMark settings (viewOf sixLess) (cellsOf sixLess)) 5 none-after k h
-    ∙ sym (some-fails (λ (k : ℕ). hasMark validate (getD fifthMarked k 0)) 5 none-before k h)
-    ∙ sym (ap (hasMark validate) (marks-are settings five fifthMarked five-marks k h))
+validate-stays = none-marked settings five sixLess fifthMarked five-marks refl none-before none-after
 
 -- so the marks are those of the sheet before, and "the kept patch has moved along"
 pub marks-moved : (k : ℕ) → marksIn settings sixLess k ≡ marksIn settings five k

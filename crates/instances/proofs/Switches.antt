@@ -1,13 +1,12 @@
--- Demand 3 (d), the switches, of a file of which each filter marks some point with the one switches or the other. No file shows what its
--- condition, settings of length 21, is for: those of length 4 have no switches, "the rest is `ValidationParams::default` with both switches 1".
+-- Demand 3 (d), the switches, of a file of which each filter that goes without strengths marks some point with the one switches or the
+-- other. No file shows what its condition, settings of length 21, is for: those of length 4 have no switches, "the rest is `ValidationParams::default` with both switches 1".
 -- Assumes nothing.
 use mathlib.Core.Path.{_≡_, refl, sym, ap, _∙_}
-use mathlib.Core.Bool.{true}
+use mathlib.Core.Bool.{true, false}
 use mathlib.Core.List.{List, [], _∷_}
 use mathlib.Core.Logic.{_⊎_, inl, inr}
 use Prim.Native.Nat.{ℕ, _+_, _-_, _≤_, _<_}
 use native.Mathlib.Omega.{arith}
-use lib.Dec.{eqb}
 use lib.ListN.{length, getD, drop}
 use lib.Seq.{getD-drop}
 use borrow.Author.Tests.{eqb-true}
@@ -15,21 +14,33 @@ use Rattle.folds.specs.Arith.{f32}
 use Rattle.folds.specs.Below.{every}
 use Rattle.folds.proofs.Below.{every-at}
 use Rattle.cells.specs.Points.{Point}
-use Rattle.sheet_file.specs.Bytes.{Bytes}
+use Rattle.sheet_file.specs.Bytes.{Bytes, byteAt}
 use Rattle.sheet_file.specs.Frame.{layoutOf}
-use Rattle.sheet_file.specs.Refusals.{defaultsFor, settingsIn, gateIn}
+use Rattle.sheet_file.specs.Refusals.{defaultsFor, settingsIn, gateIn, noFlag}
 use Rattle.sheet_file.specs.declared.EdgeGate.the-variants.{On}
+use Rattle.sheet_file.specs.declared.Fraction.the-variants.{Missing}
 use Rattle.sheet_file.specs.declared.Settings.{Settings}
 use Rattle.edge_shape.specs.Figures.{indexFigures}
 use Rattle.ruling.specs.Ruling.{accepted, rulingOf}
 use Rattle.ruling.specs.Switches.{Switched, switched}
 use Rattle.ruling.proofs.Switches.{switches}
+use Rattle.ruling.proofs.Weights.{bytes-by, sameByte}
 use Rattle.promises.specs.Promises.{SameRowBits}
 use Rattle.promises.proofs.Theorems.{switched-rows}
 use Rattle.stars.specs.Stars.{rules-compute}
 use Rattle.stars.specs.Listed.{file-computes}
 use Rattle.instances.specs.Files.{point, gatedFile, marksOf}
-use Rattle.instances.proofs.Computed.{bytes-by}
+
+-- another file with other switches, by a test of its bytes before them and after
+pub switched-by : (file other : List ℕ) → length other ≡ length file → every (sameByte file other) 22 ≡ true → drop 24 other ≡ drop 24 file → noFlag (byteAt other 22) ≡ false
+    → noFlag (byteAt other 23) ≡ false → Switched file other
+switched-by file other size before after f g = record { size = size; rest = same; first = f; second = g }
+  where
+    same : (k : ℕ) → (k < 22) ⊎ (24 ≤ k) → getD other k 0 ≡ getD file k 0
+    same k (inl h) = eqb-true (getD other k 0) (getD file k 0) (every-at (sameByte file other) 22 before k h)
+    same k (inr h) =
+        let e : 24 + (k - 24) ≡ k = omega arith in
+        rw e at (sym (getD-drop 24 other (k - 24) 0) ∙ ap (λ (l : List ℕ). getD l (k - 24) 0) after ∙ getD-drop 24 file (k - 24) 0)
 
 -- Three points in a corner at (0,0), three at (5,5) that turn the other way; (10,0) and (11,0), 19 pixels apart; (20,0) and (21,0), 100 pixels
 -- apart; and (30,0) with no neighbour
@@ -60,6 +71,7 @@ settings =
       «cell_opposite_cos_min» = f32 0;
       «cell_opposite_length_ratio_max» = f32 0x4080_0000;
     }))
+    Missing
 
 pub both-accepted : rulingOf both 308 ≡ accepted settings points
 unfolding file-computes rules-compute settingsIn gateIn
@@ -73,14 +85,7 @@ both-marks = refl
 -- the other switches, and nothing else
 is-switched : Switched both largestOnly
 unfolding every
-is-switched = record { size = refl; rest = same; first = refl; second = refl }
-  where
-    same : (k : ℕ) → (k < 22) ⊎ (24 ≤ k) → getD largestOnly k 0 ≡ getD both k 0
-    same k (inl h) = eqb-true (getD largestOnly k 0) (getD both k 0) (every-at (λ (k : ℕ). eqb (getD largestOnly k 0) (getD both k 0)) 22 refl k h)
-    same k (inr h) =
-        let e : 24 + (k - 24) ≡ k = omega arith in
-        let tail : drop 24 largestOnly ≡ drop 24 both = refl in
-        rw e at (sym (getD-drop 24 largestOnly (k - 24) 0) ∙ ap (λ (l : List ℕ). getD l (k - 24) 0) tail ∙ getD-drop 24 both (k - 24) 0)
+is-switched = switched-by both largestOnly refl refl refl refl refl
 
 long : layoutOf both .full ≡ true
 unfolding file-computes

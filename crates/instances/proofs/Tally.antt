@@ -9,6 +9,7 @@ use Rattle.cells.specs.Points.{Point}
 use Rattle.sheet_file.specs.Bytes.{Bytes}
 use Rattle.sheet_file.specs.declared.Settings.{Settings}
 use Rattle.ruling.specs.Ruling.{accepted, rulingOf}
+use Rattle.ruling.proofs.Weights.{bytes-by}
 use Rattle.marks.specs.Filters.{filterCount}
 use Rattle.marks.specs.Tally.{isUnder}
 use Rattle.judging.specs.Judging.{judgedFor}
@@ -19,7 +20,6 @@ use Rattle.promises.proofs.Theorems.{tally-by-index}
 use Rattle.stars.specs.Stars.{rules-compute, settings}
 use Rattle.stars.specs.Listed.{file, file-computes}
 use Rattle.instances.specs.Files.{point, shortFile, five, zeroSize, doubled, doubledFile}
-use Rattle.instances.proofs.Computed.{bytes-by}
 use Rattle.instances.proofs.KeptPatch.{file-accepted}
 
 -- ---- five points with five indices: four are kept, one has the component mark
@@ -27,7 +27,7 @@ use Rattle.instances.proofs.KeptPatch.{file-accepted}
 five-tally : FileTally file 140 settings five
 five-tally = tally-by-index file 140 settings five file-accepted
 
-pub five-counted : tallyOf file 140 ≡ option.some (0 ∷ 0 ∷ 0 ∷ 1 ∷ 4 ∷ [])
+pub five-counted : tallyOf file 140 ≡ option.some (0 ∷ 0 ∷ 0 ∷ 0 ∷ 1 ∷ 4 ∷ [])
 unfolding tallyOf file-computes rules-compute
 five-counted = refl
 
@@ -43,11 +43,11 @@ doubled-accepted = refl
 pub doubled-tally : FileTally doubledFile 56 zeroSize doubled
 doubled-tally = tally-by-index doubledFile 56 zeroSize doubled doubled-accepted
 
-pub doubled-counted : tallyOf doubledFile 56 ≡ option.some (0 ∷ 0 ∷ 0 ∷ 0 ∷ 1 ∷ [])
+pub doubled-counted : tallyOf doubledFile 56 ≡ option.some (0 ∷ 0 ∷ 0 ∷ 0 ∷ 0 ∷ 1 ∷ [])
 unfolding tallyOf file-computes rules-compute
 doubled-counted = refl
 
-counts-of-doubled : judgedFor zeroSize doubled .tally ≡ 0 ∷ 0 ∷ 0 ∷ 0 ∷ 1 ∷ []
+counts-of-doubled : judgedFor zeroSize doubled .tally ≡ 0 ∷ 0 ∷ 0 ∷ 0 ∷ 0 ∷ 1 ∷ []
 unfolding rules-compute
 counts-of-doubled = refl
 
@@ -64,7 +64,7 @@ one-in-all = sym (doubled-tally .counts .sum) ∙ ap total counts-of-doubled
 
 -- ---- the old count has two
 
-points-of-doubled : pointCounts 2 (judgedFor zeroSize doubled .marks) ≡ 0 ∷ 0 ∷ 0 ∷ 0 ∷ 2 ∷ []
+points-of-doubled : pointCounts 2 (judgedFor zeroSize doubled .marks) ≡ 0 ∷ 0 ∷ 0 ∷ 0 ∷ 0 ∷ 2 ∷ []
 unfolding pointCounts pointsUnder rules-compute
 points-of-doubled = refl
 
@@ -77,6 +77,6 @@ distinct-needed-for-tally f =
 
 -- ---- at cells that no edge joins, the index has the component mark, and is counted once under it
 
-pub apart-counted : tallyOf (shortFile 0 (point 0 0 7 0 0 ∷ point 5 5 7 0 0 ∷ [])) 56 ≡ option.some (0 ∷ 0 ∷ 0 ∷ 1 ∷ 0 ∷ [])
+pub apart-counted : tallyOf (shortFile 0 (point 0 0 7 0 0 ∷ point 5 5 7 0 0 ∷ [])) 56 ≡ option.some (0 ∷ 0 ∷ 0 ∷ 0 ∷ 1 ∷ 0 ∷ [])
 unfolding tallyOf file-computes rules-compute
 apart-counted = refl

@@ -1,5 +1,5 @@
--- The bytes of small sheet files; the sheet of five points; settings with cell size 0; the marks of points, and the component count of an
--- answer; a repeated index; a file cut short. Assumes nothing.
+-- The bytes of small sheet files; the sheet of five points; settings with cell size 0; the marks of points, and the component count and the
+-- rounds of an answer; a repeated index; a file cut short. Assumes nothing.
 use mathlib.Core.List.{List, [], _∷_, _++_}
 use Prim.Native.Nat.{ℕ}
 use lib.ListN.{length, take}
@@ -8,6 +8,7 @@ use Rattle.cells.specs.Points.{Point}
 use Rattle.sheet_file.specs.Grammar.{field}
 use Rattle.sheet_file.specs.Refusals.{defaultsFor}
 use Rattle.sheet_file.specs.declared.EdgeGate.the-variants.{Off}
+use Rattle.sheet_file.specs.declared.Fraction.the-variants.{Missing}
 use Rattle.sheet_file.specs.declared.Settings.{Settings}
 use Rattle.judging.specs.Judging.{judgedFor}
 use Rattle.kept.specs.declared.Answer.{Answer}
@@ -15,9 +16,9 @@ use Rattle.kept.specs.declared.Answer.the-variants.{Refused, Accepted}
 use Rattle.rows.specs.Rows.{littleEndian}
 use Rattle.stars.specs.Listed.{file}
 
--- a point: the patterns of its cell, its index, and the patterns of its position
+-- a point without tag 4: the patterns of its cell, its index, and the patterns of its position
 abbrev pub point : ℕ → ℕ → ℕ → ℕ → ℕ → Point
-point u v i x y = record { u = u; v = v; index = i; x = x; y = y }
+point u v i x y = record { u = u; v = v; index = i; x = x; y = y; strength = 0 }
 
 -- "each point is u i32, v i32, index u32, x f32, y f32"
 abbrev pub recordOf : Point → List ℕ
@@ -46,6 +47,32 @@ gatedFile size wrong largest degree ps =
     ++ (field 2 (degree ∷ (littleEndian 0 ++ littleEndian 0x4080_0000 ++ littleEndian 0 ++ littleEndian 0x4080_0000))
     ++ field 3 (recordsOf ps))
 
+-- ---- files with tag 4
+
+-- the patterns of 1 and 2
+abbrev pub one : ℕ
+one = 0x3F80_0000
+
+abbrev pub two : ℕ
+two = 0x4000_0000
+
+-- the points, each with this strength
+abbrev pub withStrength : ℕ → List Point → List Point
+withStrength s [] = []
+withStrength s (p ∷ ps) = record { u = p .u; v = p .v; index = p .index; x = p .x; y = p .y; strength = s } ∷ withStrength s ps
+
+abbrev pub strengthBytes : List Point → List ℕ
+strengthBytes [] = []
+strengthBytes (p ∷ ps) = littleEndian (p .strength) ++ strengthBytes ps
+
+-- "Tag 4, optional, after tag 3, carries a fraction f32 and one strength f32 per point, in the points' order"
+abbrev pub weights : ℕ → List Point → List ℕ
+weights fraction ps = field 4 (littleEndian fraction ++ strengthBytes ps)
+
+-- the file with the cell size and the fraction of these patterns, and these points with their strengths
+abbrev pub weighedFile : ℕ → ℕ → List Point → List ℕ
+weighedFile size fraction ps = shortFile size ps ++ weights fraction ps
+
 -- ---- the sheet of five points: its points by their indices, and in cell order
 
 abbrev pub ten : Point
@@ -70,9 +97,9 @@ five = ten ∷ twelve ∷ eleven ∷ thirteen ∷ fourteen ∷ []
 
 -- the settings of a short file with cell size 0: no two points are too close, and no line flags a point that lies on it
 abbrev pub zeroSize : Settings
-zeroSize = defaultsFor (f32 0) Off
+zeroSize = defaultsFor (f32 0) Off Missing
 
--- "Byte 0: marks, bit 0 validate, 1 orientation, 2 wrong label, 3 component": of each of the points, in cell order
+-- "Byte 0: marks, bit 0 validate, 1 orientation, 2 wrong label, 3 component", and bit 4 leaf: of each of the points, in cell order
 abbrev pub marksOf : Settings → List Point → List ℕ
 marksOf s ps = take (length ps) (judgedFor s ps .marks)
 
@@ -80,6 +107,11 @@ marksOf s ps = take (length ps) (judgedFor s ps .marks)
 abbrev pub answeredComponents : Answer → ℕ
 answeredComponents (Refused k) = 0
 answeredComponents (Accepted c) = c .components
+
+-- and its rounds
+abbrev pub answeredRounds : Answer → ℕ
+answeredRounds (Refused k) = 0
+answeredRounds (Accepted c) = c .rounds
 
 -- ---- one index at two cells, and at one position
 

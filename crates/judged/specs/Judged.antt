@@ -11,6 +11,8 @@ pub record Judged : Type 0 where
   pub marks : List ℕ
   -- how many patches the survivors have
   pub components : ℕ
+  -- "the number of rounds that removed something", of the peel
+  pub rounds : ℕ
   -- how many indices are counted under each filter, and how many are kept
   pub tally : List ℕ
   -- the residual of each rank's index, where `has` is 1
@@ -24,4 +26,13 @@ pub record Judged : Type 0 where
 unfoldable pub judgedFrom : Findings → List ℕ → List Float → Judged
 unfolding figuresIn
 judgedFrom f counts measures =
-    record { marks = f .marks; components = f .components; tally = f .tally; has = f .has; value = f .value; figures = figuresIn counts measures; boundary = f .boundary }
+    record {
+      marks = f .marks;
+      components = f .components;
+      rounds = f .rounds;
+      tally = f .tally;
+      has = f .has;
+      value = f .value;
+      figures = figuresIn counts measures;
+      boundary = f .boundary;
+    }

@@ -15,10 +15,12 @@ pub struct Measured {
     pub boundary: Marks,
 }
 
-// A judged sheet but for its edge figures: the same with the marks of all filters, how many patches the survivors have, and the tally.
+// A judged sheet but for its edge figures: the same with the marks of all filters, how many patches the survivors have, how many rounds of the
+// peel removed something, and the tally.
 pub struct Findings {
     pub marks: Marks,
     pub components: usize,
+    pub rounds: usize,
     pub tally: Tally,
     pub has: Marks,
     pub value: Floats,

@@ -11,7 +11,7 @@ use Rattle.sheet_file.specs.declared.Settings.{Settings}
 use Rattle.ruling.specs.Ruling.{Ruling, refused, accepted, rulingOf}
 use Rattle.ruling.specs.Sheet.{Ruled}
 use Rattle.ruling.specs.declared.Sheet.{Sheet}
-use Rattle.ruling.proofs.Given.{is-given}
+use Rattle.ruling.proofs.Given.{is-given, sheet-number}
 use Rattle.ruling.proofs.Standing.{Sound, sound}
 use Rattle.judging.specs.Judging.{Arrays, judgedBy, judgedFor}
 use Rattle.judging.proofs.Laws.{arrays-ready, judged-for}
@@ -27,7 +27,7 @@ pub accepted-sheet : (file : List ℕ) (room : ℕ) (r : Sheet) → Ruled (rulin
 accepted-sheet file room r h z = go (rulingOf file room) refl h
   where
     go : (x : Ruling) → rulingOf file room ≡ x → Ruled x r → AcceptedSheet file room r
-    go (refused k) e h = absurd (omega (arith, z, h .table-is .number-is, is-given file room k e .low))
+    go (refused k) e h = absurd (omega (arith, z, h .table-is .number-is, sheet-number k (is-given file room k e .listed) .low))
     go (accepted s ps) e h = record { settings = s; points = ps; ruled = e; sheet = h }
 
 -- a number other than 0 is that of the refusal
@@ -42,13 +42,13 @@ module _ (file : List ℕ) (room : ℕ) (r : Sheet) (bytes : Bytes file) (o : Ac
   standing : Sound (o .points)
   standing = sound file room (o .settings) (o .points) bytes (o .ruled)
 
-  pub sheet-arrays : Arrays (r .count) (r .table .keys) (r .table .x) (r .table .y)
-  sheet-arrays = arrays-ready (o .points) (standing .order) (standing .limits) (r .count) 0 (r .table) (o .sheet .count-is) (o .sheet .table-is)
+  pub sheet-arrays : Arrays (r .count) (r .table .keys) (r .table .x) (r .table .y) (r .table .strength)
+  sheet-arrays = arrays-ready (o .points) (standing .order) (standing .limits) (standing .strengths) (r .count) 0 (r .table) (o .sheet .count-is) (o .sheet .table-is)
 
-  pub sheet-judged : judgedBy (r .settings) (r .count) (r .table .keys) (r .table .idx) (r .table .x) (r .table .y) ≡ judgedFor (o .settings) (o .points)
+  pub sheet-judged : judgedBy (r .settings) (r .count) (r .table .keys) (r .table .idx) (r .table .x) (r .table .y) (r .table .strength) ≡ judgedFor (o .settings) (o .points)
   sheet-judged =
-      ap (λ (s : Settings). judgedBy s (r .count) (r .table .keys) (r .table .idx) (r .table .x) (r .table .y)) (o .sheet .settings-are)
-      ∙ judged-for (o .points) (standing .order) (standing .limits) (r .count) 0 (r .table) (o .sheet .count-is) (o .sheet .table-is) (o .settings)
+      ap (λ (s : Settings). judgedBy s (r .count) (r .table .keys) (r .table .idx) (r .table .x) (r .table .y) (r .table .strength)) (o .sheet .settings-are)
+      ∙ judged-for (o .points) (standing .order) (standing .limits) (standing .strengths) (r .count) 0 (r .table) (o .sheet .count-is) (o .sheet .table-is) (o .settings)
 
   pub sheet-few : r .count ≤ maxPoints
   sheet-few = rw (o .sheet .count-is) (standing .order .few)

@@ -26,7 +26,7 @@ use Rattle.kept.specs.declared.Kept.{Kept}
 use Rattle.kept.specs.declared.Answer.the-variants.{Refused, Accepted}
 
 abbrev keptBy : ℕ → Judged → Kept
-keptBy n j = record { answer = Accepted (record { points = n; components = j .components }); tally = j .tally }
+keptBy n j = record { answer = Accepted (record { points = n; components = j .components; rounds = j .rounds }); tally = j .tally }
 
 -- the buffer has room for the rows
 pub rows-fit : (file : List ℕ) (room : ℕ) (s : Settings) (ps : List Point) → rulingOf file room ≡ accepted s ps → rowSize * length ps ≤ room
@@ -37,14 +37,14 @@ module _ (file rows : List ℕ) (bytes : Bytes file) (r : Sheet) (h : Ruled (rul
   abbrev of : r .table .number ≡ 0 → AcceptedSheet file (length rows) r
   of z = accepted-sheet file (length rows) r h z
 
-  pub arrays : r .table .number ≡ 0 → Arrays (r .count) (r .table .keys) (r .table .x) (r .table .y)
+  pub arrays : r .table .number ≡ 0 → Arrays (r .count) (r .table .keys) (r .table .x) (r .table .y) (r .table .strength)
   arrays z = sheet-arrays file (length rows) r bytes (of z)
 
   pub fit : r .table .number ≡ 0 → (r .count ≤ maxPoints) × (rowSize * r .count ≤ length rows)
   fit z = let o = of z in (sheet-few file (length rows) r bytes o, rw (o .sheet .count-is) (rows-fit file (length rows) (o .settings) (o .points) (o .ruled)))
 
-  pub done : r .table .number ≡ 0 → {j : Judged} {after : List ℕ} → j ≡ judgedBy (r .settings) (r .count) (r .table .keys) (r .table .idx) (r .table .x) (r .table .y) → after ≡ rowsOver (r .count) (shownAt j) rows
-      → (_≡_ {A = Kept} (record { answer = Accepted (record { points = r .count; components = j .components }); tally = j .tally }) (keptOf file (length rows))) × (after ≡ rowsAfter file rows)
+  pub done : r .table .number ≡ 0 → {j : Judged} {after : List ℕ} → j ≡ judgedBy (r .settings) (r .count) (r .table .keys) (r .table .idx) (r .table .x) (r .table .y) (r .table .strength) → after ≡ rowsOver (r .count) (shownAt j) rows
+      → (_≡_ {A = Kept} (record { answer = Accepted (record { points = r .count; components = j .components; rounds = j .rounds }); tally = j .tally }) (keptOf file (length rows))) × (after ≡ rowsAfter file rows)
   unfolding keptOf rowsAfter
   done z {j} {after} e f =
       let o = of z in

@@ -12,10 +12,11 @@ use Rattle.kept.specs.declared.Answer.{Answer}
 use Rattle.kept.specs.declared.Answer.the-variants.{Refused, Accepted}
 use Rattle.kept.specs.declared.Kept.{Kept}
 
--- the numbers and values of document 01 for each ruling: the refusal number, or the counts of points and of components
+-- the numbers and values of document 01 for each ruling: the refusal number, or the counts of points and of components, and "the number of
+-- rounds that removed something"
 abbrev pub answerBy : Ruling → Answer
 answerBy (refused k) = Refused k
-answerBy (accepted s ps) = Accepted (record { points = length ps; components = judgedFor s ps .components })
+answerBy (accepted s ps) = Accepted (record { points = length ps; components = judgedFor s ps .components; rounds = judgedFor s ps .rounds })
 
 -- the buffer afterwards: the rows, 28 bytes a point in cell order, and what stood beyond them; or what stood before, if refused
 abbrev pub rowsBy : List ℕ → Ruling → List ℕ

@@ -1,6 +1,7 @@
 // The call on a sheet file: its rows and counts, or the number of a refusal.
 use judged::figures::FIGURE_COUNTS_SIZE;
 use judged::figures::FIGURE_MEASURES_SIZE;
+use judging::Terms;
 use marks::COUNTS;
 use marks::Tally;
 use ruling::Sheet;
@@ -13,6 +14,7 @@ ghost use Rattle.kept.specs.Answer.{answerOf, keptOf, rowsAfter};
 pub struct Counts {
     pub points: usize,
     pub components: usize,
+    pub rounds: usize,
 }
 
 pub enum Answer {
@@ -34,17 +36,18 @@ fn keep_sheet(file: &[u8], sheet: Sheet, rows: &mut [u8]) -> Kept
 {
     let settings = sheet.settings;
     let n = sheet.count;
+    let terms = Terms { settings, count: n };
     let number = sheet.table.number;
     if number == 0 {
         let mut counts = [0u8; FIGURE_COUNTS_SIZE];
         let mut measures = [0.0f32; FIGURE_MEASURES_SIZE];
         let j = judging::judge(
-            settings,
-            n,
+            terms,
             &sheet.table.keys,
             &sheet.table.idx,
             &sheet.table.x,
             &sheet.table.y,
+            &sheet.table.strength,
             &mut counts,
             &mut measures,
         );
@@ -52,6 +55,7 @@ fn keep_sheet(file: &[u8], sheet: Sheet, rows: &mut [u8]) -> Kept
         let answer = Answer::Accepted(Counts {
             points: n,
             components: j.components,
+            rounds: j.rounds,
         });
         let tally = j.tally;
         return Kept { answer, tally };

@@ -15,7 +15,8 @@ use Rattle.judging.specs.Judging.{judgedFor}
 use Rattle.kept.specs.Answer.{answerBy, tallyBy, rowsBy, answerOf, rowsAfter, tallyOf}
 use Rattle.kept.specs.declared.Answer.the-variants.{Refused, Accepted}
 use Rattle.kept.specs.declared.Counts.{Counts}
-use Rattle.kept.proofs.Bounds.{refusal-bounded}
+use Rattle.ruling.proofs.Given.{sheet-number}
+use Rattle.kept.proofs.Bounds.{refusal-listed}
 use Rattle.kept_in_run.specs.InRun.{answerInRun, runAfter, rowsInRun}
 
 refused-apart : {k : ℕ} {c : Counts} → Refused k ≡ Accepted c → ⊥
@@ -39,7 +40,7 @@ module _ (r : Run) (file : List ℕ) where
 
 -- no sheet is refused with 11 by itself
 pub never-eleven : (file : List ℕ) (room : ℕ) → answerOf file room ≡ Refused 11 → ⊥
-never-eleven file room e = omega (arith, refusal-bounded file room e .1)
+never-eleven file room e = sheet-number 11 (refusal-listed file room e) .not-run refl
 
 module _ (file : List ℕ) (room : ℕ) where
   -- a refused sheet has no tally, an accepted one has one

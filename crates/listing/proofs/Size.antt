@@ -78,14 +78,14 @@ unfolding lineText
 line-size key index s h g =
     join (join (join (join (join (cell-size key h) (known (bytes " "))) (number 9 index (omega arith))) (known (bytes " "))) (shown-size (s .marks) (reasonNumber (s .figures .reason)) (s .residual))) (known (bytes "\n"))
 
-head-size : (n components : ℕ) → n ≤ maxPoints → components < 2 ^ 64 → AtMost 44 (headText n components)
-unfolding headText
-head-size n components h g =
-    join (join (join (join (known (bytes "points ")) (number 3 n (omega arith))) (known (bytes " components "))) (number 19 components (omega arith))) (known (bytes "\n"))
-
 -- a count is at most the number of points
 count-size : (count : ℕ) → count ≤ maxPoints → AtMost 4 (decimal count)
 count-size count h = number 3 count (omega arith)
+
+head-size : (n components rounds : ℕ) → n ≤ maxPoints → components ≤ maxPoints → rounds ≤ maxPoints → AtMost 40 (headText n components rounds)
+unfolding headText
+head-size n components rounds h g r =
+    join (join (join (join (join (join (known (bytes "points ")) (count-size n h)) (known (bytes " components "))) (count-size components g)) (known (bytes " rounds "))) (count-size rounds r)) (known (bytes "\n"))
 
 word-size : (k : ℕ) → k < filterCount → AtMost 13 (bytes " " ++ bytes (filterAt k .word) ++ bytes " ")
 unfolding every
@@ -101,9 +101,9 @@ tally-size counts h =
     (known (bytes "\n"))
 
 -- a buffer of listingSize bytes has room for the listing of any sheet
-pub listing-fits : (n : ℕ) (keys idx : List ℕ) (j : Judged) → n ≤ maxPoints → j .components < 2 ^ 64 → ((f : ℕ) → getD (j .tally) f 0 ≤ maxPoints) → ((k : ℕ) → getD keys k 0 < 2 ^ 32) → ((k : ℕ) → getD idx k 0 < 2 ^ 32) → length (listingOf n (cellsAt keys) idx j) ≤ listingSize
+pub listing-fits : (n : ℕ) (keys idx : List ℕ) (j : Judged) → n ≤ maxPoints → j .components ≤ maxPoints → j .rounds ≤ maxPoints → ((f : ℕ) → getD (j .tally) f 0 ≤ maxPoints) → ((k : ℕ) → getD keys k 0 < 2 ^ 32) → ((k : ℕ) → getD idx k 0 < 2 ^ 32) → length (listingOf n (cellsAt keys) idx j) ≤ listingSize
 unfolding listingOf
-listing-fits n keys idx j h g t f e =
+listing-fits n keys idx j h g r t f e =
     let lines = all (λ k. lineOf (cellsAt keys k) (getD idx k 0) (shownAt j k)) lineSize n (λ k l. line-size (getD keys k 0) (getD idx k 0) (shownAt j k) (f k) (e k)) in
-    let whole = join (join (head-size n (j .components) h g) lines) (tally-size (j .tally) t) in
+    let whole = join (join (head-size n (j .components) (j .rounds) h g r) lines) (tally-size (j .tally) t) in
     omega (arith, whole .within)

@@ -20,7 +20,7 @@ unfoldable pub cellText : Cell → List ℕ
 unfolding whole
 cellText c = whole (c .u) ++ bytes " " ++ whole (c .v)
 
--- "marks (VOWC)": the letter of each filter that has marked the point, else a dash
+-- "marks (VOWC)", with "letter L between W and C": the letter of each filter that has marked the point, else a dash
 abbrev pub markText : ℕ → ℕ → List ℕ
 markText marks f = cond (hasMark f marks) (bytes (filterAt f .letter)) (bytes "-")
 
@@ -50,15 +50,15 @@ lineText cell index marks reason residual = cellText cell ++ bytes " " ++ decima
 abbrev pub lineOf : Cell → ℕ → Shown → List ℕ
 lineOf cell index s = lineText cell index (s .marks) (reasonNumber (s .figures .reason)) (s .residual)
 
--- "points 5 components 2"
-unfoldable pub headText : ℕ → ℕ → List ℕ
+-- "points 5 components 2"; "the first line of the listing ends with `rounds` and the number of rounds that removed something"
+unfoldable pub headText : ℕ → ℕ → ℕ → List ℕ
 unfolding decimal
-headText n components = bytes "points " ++ decimal n ++ bytes " components " ++ decimal components ++ bytes "\n"
+headText n components rounds = bytes "points " ++ decimal n ++ bytes " components " ++ decimal components ++ bytes " rounds " ++ decimal rounds ++ bytes "\n"
 
 abbrev pub countText : ℕ → ℕ → List ℕ
 countText f count = bytes " " ++ bytes (filterAt f .word) ++ bytes " " ++ decimal count
 
--- "kept 4 validate 0 orientation 0 wrong 0 component 1"
+-- "kept 4 validate 0 orientation 0 wrong 0 component 1", with "`leaf` before `component`"
 unfoldable pub tallyText : List ℕ → List ℕ
 unfolding decimal each
 tallyText counts =
@@ -75,13 +75,13 @@ linesOf cell indices j n = each (λ k. lineOf (cell k) (getD indices k 0) (shown
 unfoldable pub listingOf : ℕ → (ℕ → Cell) → List ℕ → Judged → List ℕ
 unfolding headText each lineText shownAt tallyText
 listingOf n cell indices j =
-    headText n (j .components)
+    headText n (j .components) (j .rounds)
     ++ linesOf cell indices j n
     ++ tallyText (j .tally)
 
--- no line of a point is longer, and no listing: the first line has at most 44 bytes (proved in proofs/Size.antt)
+-- no line of a point is longer, and no listing: the first line has at most 40 bytes (proved in proofs/Size.antt)
 abbrev pub lineSize : ℕ
 lineSize = 36 + filterCount
 
 abbrev pub listingSize : ℕ
-listingSize = 44 + lineSize * maxPoints + (10 + 17 * filterCount)
+listingSize = 40 + lineSize * maxPoints + (10 + 17 * filterCount)

@@ -23,7 +23,7 @@ ghost use Rattle.judged.specs.Judged.{judgedFrom};
 ghost use Rattle.listing.specs.Listing.{headText, linesOf, tallyText, listingOf, listingSize, countText};
 
 // A buffer of this size has room for every listing: the first line, a line for each point, the tally.
-pub const LISTING_SIZE: usize = 44 + (36 + FILTERS) * MAX_POINTS + (10 + 17 * FILTERS);
+pub const LISTING_SIZE: usize = 40 + (36 + FILTERS) * MAX_POINTS + (10 + 17 * FILTERS);
 
 // The number that the specifications use is the code's.
 pub fn listing_size() -> usize
@@ -32,14 +32,16 @@ pub fn listing_size() -> usize
     LISTING_SIZE
 }
 
-fn put_head(n: usize, components: usize, out: &mut [u8], at: usize) -> usize
-    ensures { λ r. ⌜ Stored (now (out .entry)) at (headText n components) (now (out .exit)) r ⌝ }
+fn put_head(n: usize, components: usize, rounds: usize, out: &mut [u8], at: usize) -> usize
+    ensures { λ r. ⌜ Stored (now (out .entry)) at (headText n components rounds) (now (out .exit)) r ⌝ }
 {
     let a = text::put_text(b"points ", out, at);
     let b = text::put_decimal(n, out, a);
     let c = text::put_text(b" components ", out, b);
     let d = text::put_decimal(components, out, c);
-    text::put_byte(b'\n', out, d)
+    let e = text::put_text(b" rounds ", out, d);
+    let f = text::put_decimal(rounds, out, e);
+    text::put_byte(b'\n', out, f)
 }
 
 // A line for each point.
@@ -111,7 +113,7 @@ pub fn write_listing<'a>(
     requires { ⌜ n ≤ maxPoints ⌝ }
     ensures { λ r. ⌜ ((measures : List Float) → Shows (listingOf n (cellsAt (now (keys .entry))) (now (idx .entry)) (judgedFrom j (now (counts .entry)) measures)) (now (out .entry)) (now (out .exit)) r) ⌝ }
 {
-    let a = put_head(n, j.components, out, 0);
+    let a = put_head(n, j.components, j.rounds, out, 0);
     let b = put_lines(n, keys, idx, j, counts, out, a);
     let tally = j.tally;
     let c = put_tally(&tally, out, b);

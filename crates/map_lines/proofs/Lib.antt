@@ -7,3 +7,4 @@ pub mod Size
 pub mod Moved
 pub mod Places
 pub mod Start
+pub mod Examples

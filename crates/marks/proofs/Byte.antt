@@ -13,8 +13,8 @@ use Rattle.folds.specs.Below.{some, every}
 use Rattle.folds.proofs.Below.{some-yes, some-ext, every-at, not-true, and-left, and-right, or-none, or-false, not-false}
 use Rattle.folds.proofs.Column.{column-at, column-ext, replicate-at}
 use Rattle.view.specs.View.{maxPoints}
-use Rattle.marks.specs.Filters.{filterCount}
-use Rattle.marks.specs.Byte.{hasMark, withMark, markedBy, Marking, markedByAll}
+use Rattle.marks.specs.Filters.{filterCount, leaf, component}
+use Rattle.marks.specs.Byte.{hasMark, withMark, markedBy, Marking, markedByAll, firstMark}
 
 -- ---- one byte
 
@@ -70,6 +70,27 @@ module _ (m f : ℕ) (small : m < 256) (listed : f < filterCount) where
 
   pub set-not-zero : eqb (withMark f m) 0 ≡ false
   set-not-zero = unset (eqb (withMark f m) 0) (and-right (ltb (withMark f m) 256) (not (eqb (withMark f m) 0)) second-half)
+
+-- bit 4 is the leaf filter's and bit 3 the component filter's; the first of them is that of the table, not that of the lower bit
+leaf-alone : withMark leaf 0 ≡ 16
+leaf-alone = refl
+
+component-alone : withMark component 0 ≡ 8
+component-alone = refl
+
+leaf-first : firstMark 24 ≡ leaf
+unfolding firstMark
+leaf-first = refl
+
+-- each leaves the other's mark, set or not, though not its own
+component-stays : hasMark component (withMark leaf 8) ≡ hasMark component 8
+component-stays = other-stays 8 leaf (omega arith) (omega arith) component (omega arith) refl
+
+leaf-stays : hasMark leaf (withMark component 0) ≡ hasMark leaf 0
+leaf-stays = other-stays 0 component (omega arith) (omega arith) leaf (omega arith) refl
+
+own-changes : hasMark leaf (withMark leaf 0) ≡ hasMark leaf 0 → ⊥
+own-changes e = true≢false e
 
 -- 0 has no mark
 none-set : (f : ℕ) → f < filterCount → hasMark f 0 ≡ false

@@ -22,6 +22,7 @@ table =
     entry 1 "V" " validate    " 10
     ∷ entry 2 "O" " orientation " 13
     ∷ entry 4 "W" " wrong       " 7
+    ∷ entry 16 "L" " leaf        " 6
     ∷ entry 8 "C" " component   " 11
     ∷ []
 

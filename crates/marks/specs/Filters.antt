@@ -15,12 +15,14 @@ pub record Filter : Type 0 where
 abbrev filter : ℕ → String → String → Filter
 filter b l w = record { bit = b; letter = l; word = w }
 
--- "marks, bit 0 validate, 1 orientation, 2 wrong label, 3 component"; "marks (VOWC)"; "kept 4 validate 0 orientation 0 wrong 0 component 1"
+-- "marks, bit 0 validate, 1 orientation, 2 wrong label, 3 component"; "marks (VOWC)"; "kept 4 validate 0 orientation 0 wrong 0 component 1".
+-- Of the leaf filter: "Its mark is bit 4, letter L between W and C"; "the tally and the run's new sums gain `leaf` before `component`".
 abbrev pub filters : List Filter
 filters =
     filter 0 "V" "validate"
     ∷ filter 1 "O" "orientation"
     ∷ filter 2 "W" "wrong"
+    ∷ filter 4 "L" "leaf"
     ∷ filter 3 "C" "component"
     ∷ []
 
@@ -40,5 +42,8 @@ orientation = 1
 abbrev pub wrong : ℕ
 wrong = 2
 
+abbrev pub leaf : ℕ
+leaf = 3
+
 abbrev pub component : ℕ
-component = 3
+component = 4

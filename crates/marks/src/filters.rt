@@ -7,7 +7,7 @@ ghost use Rattle.text.specs.Text.{bytes};
 ghost use Rattle.marks.specs.Filters.{filterAt, filterCount};
 ghost use Rattle.marks.specs.Byte.{hasMark, withMark, firstMark};
 
-pub const FILTERS: usize = 4;
+pub const FILTERS: usize = 5;
 
 // The places of the filters in the table.
 pub const VALIDATE: usize = 0;
@@ -16,7 +16,9 @@ pub const ORIENTATION: usize = 1;
 
 pub const WRONG: usize = 2;
 
-pub const COMPONENT: usize = 3;
+pub const LEAF: usize = 3;
+
+pub const COMPONENT: usize = 4;
 
 // A word with a space on each side has at most this size.
 const WORD_SIZE: usize = 13;
@@ -47,6 +49,12 @@ const TABLE: [Filter; FILTERS] = [
         letter: b'W',
         word: *b" wrong       ",
         size: 7,
+    },
+    Filter {
+        bit_value: 16,
+        letter: b'L',
+        word: *b" leaf        ",
+        size: 6,
     },
     Filter {
         bit_value: 8,

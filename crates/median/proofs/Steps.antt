@@ -16,11 +16,12 @@ use Rattle.folds.specs.Lists.{All, listed}
 use Rattle.folds.proofs.Lists.{all-listed, listed-more, listed-length}
 use Rattle.sort.specs.Sorted.{sort}
 use Rattle.view.specs.View.{maxPoints}
-use Rattle.sort.proofs.Sorted.{sort-length, sort-all, sort-map, Agree}
+use Rattle.sort.proofs.Sorted.{sort-length, sort-all, sort-map}
 use Rattle.float.proofs.Order.{above-zero}
 use Rattle.float.proofs.Bits.{bits-order}
 use Rattle.median.specs.Median.{medianOf}
 use Rattle.median.specs.Packed.{positiveAt, positives, patterns, Put, Packed}
+use Rattle.median.proofs.Sorting.{agree-all}
 
 -- an f32 above zero
 abbrev pub AboveZero : Float → Type 0
@@ -50,14 +51,6 @@ packed-more v k {c} {r} {a} {b} q p = record {
     go true = sym (map-snoc before (getD v k nan))
     go false = refl
 
-agree : (l : List Float) → All AboveZero l → Agree (toBits binary32) lt ltb l
-agree [] h = tt
-agree (a ∷ l) h = (each l (h .1), agree l (h .1))
-  where
-    each : (m : List Float) → All AboveZero m → All (λ (b : Float). lt b a ≡ ltb (toBits binary32 b) (toBits binary32 a)) m
-    each [] g = tt
-    each (b ∷ m) g = (bits-order b a (g .0 .0) (h .0 .0) (g .0 .1) (h .0 .1), each m (g .1))
-
 at-map : (l : List Float) (i : ℕ) → i < length l → getD (patterns l) i 0 ≡ toBits binary32 (getD l i nan)
 at-map [] i h = absurd (omega arith)
 at-map (a ∷ l) zero h = refl
@@ -84,7 +77,7 @@ module _ (v : List Float) (n c : ℕ) (a b : List ℕ) (p : Packed v n c a) (som
   pub middle-is : getD b (c / 2) 0 ≡ toBits binary32 (medianOf (positives v n))
   unfolding medianOf
   middle-is =
-      rw (s, p .taken, sort-map (toBits binary32) lt ltb (positives v n) (agree (positives v n) all-ok))
+      rw (s, p .taken, sort-map (toBits binary32) lt ltb (positives v n) (agree-all (toBits binary32) lt ltb AboveZero (λ a b p q. bits-order a b (p .0) (q .0) (p .1) (q .1)) (positives v n) all-ok))
       (List·getD-append (patterns (sort lt (positives v n))) (drop c a) 0 (c / 2) (omega (arith, lib.ListN.length-map (sort lt (positives v n)) (toBits binary32), inside))
       ∙ at-map (sort lt (positives v n)) (c / 2) inside ∙ rw long)
 

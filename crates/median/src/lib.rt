@@ -1,13 +1,16 @@
-// The median of the positive numbers of an array, by a sort of their bit patterns.
+// The median of an array's numbers: of the positive ones, by a sort of their bit patterns; of all, by a sort of keys that rise with them.
 use view::Floats;
 use view::MAX_POINTS;
 ghost use mathlib.Core.Path.{_≡_};
 ghost use Prim.Native.Nat.{_≤_, _<_};
+ghost use lib.Dec.{T};
 ghost use lib.ListN.{length};
-ghost use Rattle.view.specs.View.{maxPoints};
+ghost use lib.Ieee.Scale.{finite};
+ghost use Rattle.view.specs.View.{maxPoints, Finite};
 ghost use Rattle.float.specs.Constants.{firstNanBits};
-ghost use Rattle.median.specs.Median.{medianOf};
+ghost use Rattle.median.specs.Median.{medianOf, firstOf};
 ghost use Rattle.median.specs.Packed.{positives, Put, Packed};
+ghost use Rattle.median.specs.Keys.{RisingKey, Keyed, KeyedInOrder};
 
 // Puts the pattern of x at c, if x is positive.
 fn put(x: f32, c: usize, a: &mut [u64; MAX_POINTS]) -> usize
@@ -53,4 +56,52 @@ pub fn middle(v: &Floats, n: usize) -> f32
     }
     sort::sort(&mut a, c);
     f32::from_bits(narrow(a[c / 2]))
+}
+
+// A number that rises with x, which is finite.
+fn rising(x: f32) -> u64
+    requires { ⌜ T (finite x) ⌝ }
+    ensures { λ r. ⌜ RisingKey x r ⌝ }
+{
+    let b = f32::to_bits(x) as u64;
+    if b < 0x8000_0000 {
+        return 0x8000_0000 + b;
+    }
+    0x1_0000_0000 - b
+}
+
+// The key and the place of each number, packed into one.
+fn keys(v: &Floats, n: usize) -> [u64; MAX_POINTS]
+    requires { ⌜ (n ≤ maxPoints) × Finite n (now v) ⌝ }
+    ensures { λ r. ⌜ Keyed (now (v .entry)) n r ⌝ }
+{
+    let mut out = [0u64; MAX_POINTS];
+    let mut k = 0;
+    while k < n {
+        out[k] = rising(v[k]) * sort::PACKED_PLACES + k as u64;
+        k += 1;
+    }
+    out
+}
+
+// The same in rising order: entry i, taken modulo `sort::PACKED_PLACES`, is the place of the number that is i-th in the order of numbers.
+pub fn keys_in_order(v: &Floats, n: usize) -> [u64; MAX_POINTS]
+    requires { ⌜ (n ≤ maxPoints) × Finite n (now v) ⌝ }
+    ensures { λ r. ⌜ KeyedInOrder (now (v .entry)) n r ⌝ }
+{
+    let mut a = keys(v, n);
+    sort::sort(&mut a, n);
+    a
+}
+
+// The median of the first n numbers, which are finite; NaN where there is none.
+pub fn middle_of_all(v: &Floats, n: usize) -> f32
+    requires { ⌜ (n ≤ maxPoints) × Finite n (now v) ⌝ }
+    ensures { λ r. ⌜ r ≡ medianOf (firstOf n (now (v .entry))) ⌝ }
+{
+    if n == 0 {
+        return 0.0 / 0.0;
+    }
+    let a = keys_in_order(v, n);
+    v[(a[n / 2] % sort::PACKED_PLACES) as usize]
 }

@@ -2,7 +2,7 @@
 use mathlib.Core.Path.{_≡_, refl, ap}
 use mathlib.Core.Bool.{Bool}
 use mathlib.Core.List.{List, _++_}
-use Prim.Native.Nat.{ℕ, _-_, _/_, _≤_, _<_}
+use Prim.Native.Nat.{ℕ, _-_, _/_, _%_, _≤_, _<_}
 use native.Mathlib.Omega.{arith}
 use lib.ListN.{getD, take, drop, replicate}
 use lib.Seq.{take-at, drop-at}
@@ -14,7 +14,7 @@ use Rattle.view.specs.View.{maxPoints}
 use Rattle.sort.specs.Numbers.{sorted}
 use Rattle.sort.specs.Packed.{packedPlaces, packed, inOrder}
 use Rattle.sort.proofs.Packed.{inOrder-length, placed-below, placed-key}
-use Rattle.points.specs.Entries.{keyBy, ithKey, packedOf, entriesOf, entryPoint, Placed}
+use Rattle.points.specs.Entries.{ithKey, packedOf, entriesOf, Placed}
 
 module _ (file : List ℕ) (at n : ℕ) (b : Bool) (few : n ≤ maxPoints) where
   -- the sorted array
@@ -34,5 +34,5 @@ module _ (file : List ℕ) (at n : ℕ) (b : Bool) (few : n ≤ maxPoints) where
   pub entries-placed : Placed (entriesOf file at n b) n
   entries-placed r h = rw (entry-at r h) (placed-below (ithKey file at b) n (omega arith) r h)
 
-  pub entry-key : (r : ℕ) → r < n → getD (entriesOf file at n b) r 0 / packedPlaces ≡ keyBy b (entryPoint file at (getD (entriesOf file at n b) r 0))
+  pub entry-key : (r : ℕ) → r < n → getD (entriesOf file at n b) r 0 / packedPlaces ≡ ithKey file at b (getD (entriesOf file at n b) r 0 % packedPlaces)
   entry-key r h = rw (entry-at r h) (placed-key (ithKey file at b) n (omega arith) r h)

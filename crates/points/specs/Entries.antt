@@ -1,7 +1,7 @@
 -- How the code goes about it: each point is one number, an entry, of its key and its place in the file; entries are sorted, and pairs are
 -- found among neighbours. Assumes nothing.
 use mathlib.Core.Path.{_≡_}
-use mathlib.Core.Bool.{Bool, false, cond, not, _&&_}
+use mathlib.Core.Bool.{Bool, true, false, cond, not, _&&_}
 use mathlib.Core.List.{List}
 use Prim.Native.Nat.{ℕ, _+_, _-_, _*_, _/_, _%_, _≤_, _<_}
 use lib.Dec.{eqb}
@@ -13,24 +13,37 @@ use Rattle.cells.specs.Points.{Point, keyOf}
 use Rattle.sort.specs.Packed.{packedPlaces, packed, inOrder}
 use Rattle.sheet_file.specs.Limit.{outside}
 use Rattle.sheet_file.specs.Refusals.{floatAt}
-use Rattle.points.specs.Records.{ithPoint, PointsFit}
-use Rattle.points.specs.Refusals.{offRange, offLimit, samePosition}
+use Rattle.sheet_file.specs.declared.Layout.{Layout}
+use Rattle.points.specs.Records.{pointIn, ithPoint, RecordsFit, PointsFit}
+use Rattle.points.specs.Refusals.{offRange, offLimit, offStrength, samePosition, sameStrength}
+use Rattle.points.specs.declared.Part.{Part}
+use Rattle.points.specs.declared.Part.the-variants.{Cell, Position, Strength}
 
--- the condition of number 7 on one point, or that of number 6
-abbrev pub offBy : Bool → Point → Bool
-offBy byLimit p = cond byLimit (offLimit p) (offRange p)
+-- the condition of number 6, 7 or 13 on one point
+abbrev pub offBy : Part → Point → Bool
+offBy Cell p = offRange p
+offBy Position p = offLimit p
+offBy Strength p = offStrength p
 
 -- the key: the index, or the cell
 abbrev pub keyBy : Bool → Point → ℕ
 keyBy byIndex p = cond byIndex (p .index) (keyOf p)
 
--- two points with one key that may stand together: of one index where their positions are the same, of one cell never
-abbrev pub together : Bool → Point → Point → Bool
-together byIndex p q = byIndex && samePosition p q
+-- whether points are compared that have one index; else those that have one cell
+abbrev pub byIndex : Part → Bool
+byIndex Cell = false
+byIndex Position = true
+byIndex Strength = true
 
--- the key of point i
+-- two points with one key that may stand together: of one index where their positions, or their strengths, are the same, of one cell never
+abbrev pub together : Part → Point → Point → Bool
+together Cell p q = false
+together Position p q = samePosition p q
+together Strength p q = sameStrength p q
+
+-- the key of point i, to which its strength does not matter
 abbrev pub ithKey : List ℕ → ℕ → Bool → ℕ → ℕ
-ithKey file at byIndex i = keyBy byIndex (ithPoint file at i)
+ithKey file at byIndex i = keyBy byIndex (pointIn file (at + 20 * i) 0)
 
 -- the entries, as the file lists the points
 unfoldable pub packedOf : List ℕ → ℕ → ℕ → Bool → List ℕ
@@ -43,8 +56,8 @@ unfolding column
 entriesOf file at n byIndex = column maxPoints 0 n (λ (r : ℕ). getD (inOrder (ithKey file at byIndex) n) r 0)
 
 -- the point of an entry
-abbrev pub entryPoint : List ℕ → ℕ → ℕ → Point
-entryPoint file at e = ithPoint file at (e % packedPlaces)
+abbrev pub entryPoint : List ℕ → Layout → ℕ → Point
+entryPoint file f e = ithPoint file f (e % packedPlaces)
 
 -- each entry's place is that of a point
 abbrev pub Placed : List ℕ → ℕ → Type 0
@@ -52,7 +65,7 @@ Placed entries n = (k : ℕ) → k < n → getD entries k 0 % packedPlaces < n
 
 -- n points stand in the file from a position on, and the entries have their places
 pub record EntriesHeld (file : List ℕ) (at n : ℕ) (entries : List ℕ) : Type 0 where
-  pub room : PointsFit file at n
+  pub room : RecordsFit file at n
   pub placed : Placed entries n
 
 -- and a number of each, which stands `field` bytes into it, is a float within the limit
@@ -61,10 +74,20 @@ pub record CoordinatesHeld (file : List ℕ) (at field n : ℕ) (entries : List 
   pub short : field ≤ 16
   pub inside : (i : ℕ) → i < n → outside (floatAt file (at + 20 * i + field)) ≡ false
 
--- two entries have one key, and their points may not stand together
-unfoldable pub entriesClash : List ℕ → ℕ → Bool → ℕ → ℕ → Bool
-entriesClash file at byIndex a b = eqb (a / packedPlaces) (b / packedPlaces) && not (together byIndex (entryPoint file at a) (entryPoint file at b))
+-- the same of the points of a file with their strengths
+pub record PointsHeld (file : List ℕ) (f : Layout) (entries : List ℕ) : Type 0 where
+  pub room : PointsFit file f
+  pub placed : Placed entries (f .count)
 
--- some two neighbours of n entries do
-abbrev pub neighboursClash : List ℕ → ℕ → ℕ → Bool → List ℕ → Bool
-neighboursClash file at n byIndex entries = some (λ (i : ℕ). entriesClash file at byIndex (getD entries i 0) (getD entries (i + 1) 0)) (n - 1)
+-- and no strength is outside the limit
+pub record StrengthsHeld (file : List ℕ) (f : Layout) (entries : List ℕ) : Type 0 where
+  pub held : PointsHeld file f entries
+  pub inside : (i : ℕ) → i < f .count → offStrength (ithPoint file f i) ≡ false
+
+-- two entries have one key, and their points may not stand together
+unfoldable pub entriesClash : List ℕ → Layout → Part → ℕ → ℕ → Bool
+entriesClash file f part a b = eqb (a / packedPlaces) (b / packedPlaces) && not (together part (entryPoint file f a) (entryPoint file f b))
+
+-- some two neighbours of the entries do
+abbrev pub neighboursClash : List ℕ → Layout → Part → List ℕ → Bool
+neighboursClash file f part entries = some (λ (i : ℕ). entriesClash file f part (getD entries i 0) (getD entries (i + 1) 0)) (f .count - 1)

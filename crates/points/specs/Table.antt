@@ -4,10 +4,11 @@ use mathlib.Core.Bool.{false}
 use mathlib.Core.List.{List}
 use Prim.Native.Nat.{ℕ}
 use Rattle.folds.specs.Among.{anyIn}
-use Rattle.cells.specs.Points.{Point, keysOf, indicesOf, xsOf, ysOf}
+use Rattle.cells.specs.Points.{Point, keysOf, indicesOf, xsOf, ysOf, strengthsOf}
 use Rattle.sheet_file.specs.Bytes.{Bytes}
+use Rattle.sheet_file.specs.declared.Layout.{Layout}
 use Rattle.points.specs.Records.{pointsIn, PointsFit}
-use Rattle.points.specs.Refusals.{offRange, offLimit}
+use Rattle.points.specs.Refusals.{offRange, offLimit, offStrength}
 use Rattle.points.specs.Entries.{entriesOf}
 use Rattle.points.specs.declared.Table.{Table}
 
@@ -18,11 +19,13 @@ pub record Tabled (number : ℕ) (ps : List Point) (t : Table) : Type 0 where
   pub indices-are : t .idx ≡ indicesOf ps
   pub xs-are : t .x ≡ xsOf ps
   pub ys-are : t .y ≡ ysOf ps
+  pub strengths-are : t .strength ≡ strengthsOf ps
 
--- the points of a file have no fault of number 6 or 7, and the entries are in cell order
-pub record WithinLimits (file : List ℕ) (at n : ℕ) (entries : List ℕ) : Type 0 where
-  pub room : PointsFit file at n
+-- the points of a file have no fault of number 6, 7 or 13, and the entries are in cell order
+pub record WithinLimits (file : List ℕ) (f : Layout) (entries : List ℕ) : Type 0 where
+  pub room : PointsFit file f
   pub bytes : Bytes file
-  pub in-range : anyIn offRange (pointsIn file at n) ≡ false
-  pub in-limit : anyIn offLimit (pointsIn file at n) ≡ false
-  pub ordered : entries ≡ entriesOf file at n false
+  pub in-range : anyIn offRange (pointsIn file f) ≡ false
+  pub in-limit : anyIn offLimit (pointsIn file f) ≡ false
+  pub strengths : anyIn offStrength (pointsIn file f) ≡ false
+  pub ordered : entries ≡ entriesOf file (f .points) (f .count) false

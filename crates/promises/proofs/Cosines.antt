@@ -73,7 +73,7 @@ entry-is : (g : EdgeShapeParams) (w : View) (k : ℕ) → k < w .count → getD 
 unfolding indexFigures
 entry-is g w k h = column-at maxPoints noFigures (w .count) (λ (k : ℕ). figuresAt g w (w .byIdx k)) k h
 
-place-below : (ps : List Point) → CellOrder ps → (k : ℕ) → k < length ps → viewOf ps .byIdx k < length ps
+pub place-below : (ps : List Point) → CellOrder ps → (k : ℕ) → k < length ps → viewOf ps .byIdx k < length ps
 place-below ps o k h = rw (← ap (λ (w : View). w .byIdx k) (view-is ps o)) (ranks-ranked (length ps) (keysOf ps) (indicesOf ps) (o .few) .indices k h)
 
 -- "Byte 1: reason", with the gate of tag 2: the reason by each continuation, of the entry that is held under the point's index

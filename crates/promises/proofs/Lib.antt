@@ -12,3 +12,4 @@ pub mod Unswitched
 pub mod Limit
 pub mod Theorems
 pub mod Cosines
+pub mod Leaves

@@ -83,12 +83,15 @@ limit-shown file room b =
     let call = limit file room b in
     let printed = limit file rowsSize b in
     let one-not-ten : _≡_ {A = ℕ} 1 10 → ⊥ = λ q. omega arith in
+    let twelve-not-ten : _≡_ {A = ℕ} 12 10 → ⊥ = λ q. omega arith in
     let two-not-ten : _≡_ {A = ℕ} 2 10 → ⊥ = λ q. omega arith in
     record {
       one = λ f. all-refuse file room 1 (call .one f) (printed .one f);
       one-only = λ w. none-refuses file room 1 b one-not-ten (λ e. call .one-only e w) (λ e. printed .one-only e w);
-      two = λ w l. all-refuse file room 2 (call .two w l) (printed .two w l);
-      two-only = λ f. none-refuses file room 2 b two-not-ten (λ e. f (call .two-only e .0)) (λ e. f (printed .two-only e .0));
+      twelve = λ w f. all-refuse file room 12 (call .twelve w f) (printed .twelve w f);
+      twelve-only = λ o. none-refuses file room 12 b twelve-not-ten (λ e. let v = call .twelve-only e in v .1 (o (v .0))) (λ e. let v = printed .twelve-only e in v .1 (o (v .0)));
+      two = λ w o l. all-refuse file room 2 (call .two w o l) (printed .two w o l);
+      two-only = λ f. none-refuses file room 2 b two-not-ten (λ e. let v = call .two-only e in f (v .0) (v .1)) (λ e. let v = printed .two-only e in f (v .0) (v .1));
       passes = λ w l. record {
         not-one = none-refuses file room 1 b one-not-ten (call .passes w l .not-one) (printed .passes w l .not-one);
         not-two = none-refuses file room 2 b two-not-ten (call .passes w l .not-two) (printed .passes w l .not-two);

@@ -11,7 +11,7 @@ use lib.Dec.{eqb, ltb}
 use lib.ListN.{length, getD}
 use Rattle.folds.specs.Below.{some}
 use Rattle.folds.proofs.Below.{and-right, and-both, some-no}
-use Rattle.cells.specs.Points.{Point, nowhere}
+use Rattle.cells.specs.Points.{Point, nowhere, strengthsOf}
 use Rattle.cells.specs.Cell.{Cell, cellOf, cellsOf, before}
 use Rattle.cells.proofs.Keys.{cell-at}
 use Rattle.grid.specs.Views.{viewOf}
@@ -53,7 +53,7 @@ module _ (s : Settings) (ps : List Point) (k : ℕ) where
 
   none-in : k < length ps → eqb (marksIn s ps k) 0 ≡ not (some (λ (f : ℕ). hasMark f (marksIn s ps k)) filterCount)
   unfolding judgedFor viewOf
-  none-in h = none-marked s (viewOf ps) (cellsOf ps) k h
+  none-in h = none-marked s (viewOf ps) (cellsOf ps) (strengthsOf ps) k h
 
   pub only-kept-shown : k < length ps → pointCharacter (marksIn s ps k) ≡ bytes "#" → keptRank s ps k ≡ true
   only-kept-shown h e =

@@ -10,7 +10,7 @@ use lib.ListN.{length}
 use Rattle.folds.specs.Lists.{All}
 use Rattle.folds.proofs.Below.{not-true, or-none}
 use Rattle.ruling.specs.Ruling.{Ruling, refused, accepted, rulingOf, rowsSize}
-use Rattle.ruling.proofs.Given.{is-given}
+use Rattle.ruling.proofs.Given.{is-given, sheet-number}
 use Rattle.ruling.proofs.Order.{same-ruling}
 use Rattle.runs.specs.Run.{full, runFrom, Yield, taken, runWith, runOver, talliesIn, someFull}
 use Rattle.runs.specs.Promises.{NoneFull, SmallYield}
@@ -33,7 +33,7 @@ use Rattle.promises.specs.Runs.{CallInRunPromise, ElevenAlonePromise, if
 pub eleven-alone : ElevenAlonePromise
 eleven-alone file = record {
   sheet = never-eleven file;
-  map = λ e. omega (arith, is-given file rowsSize 11 (number-given file 11 e (λ q. absurd (omega arith))) .high);
+  map = λ e. sheet-number 11 (is-given file rowsSize 11 (number-given file 11 e (λ q. absurd (omega arith))) .listed) .not-run refl;
 }
 
 pub call-in-run : CallInRunPromise

@@ -4,6 +4,7 @@ use mathlib.Core.Bool.{Bool, cond, _&&_}
 use mathlib.Core.List.{List, [], _∷_}
 use Prim.Native.Nat.{ℕ, _<_}
 use lib.Dec.{eqb}
+use lib.Ieee.{Float}
 use lib.ListN.{getD}
 use Rattle.folds.specs.Below.{some}
 use Rattle.folds.specs.Lists.{All}
@@ -24,7 +25,8 @@ use Rattle.orientation.specs.Orientation.{sideMember, orientationMark}
 use Rattle.wrong_label_filters.specs.WrongLabel.{wrongPoint, wrongLabelMark}
 use Rattle.patches.specs.Patches.{patchLabels}
 use Rattle.components.specs.Components.{othersOf, filterOf}
-use Rattle.drop_set.specs.Filters.{sidesOf, wrongMark, componentMarked, judgedOf}
+use Rattle.drop_set.specs.Filters.{sidesOf, wrongMark, pointFilters, pointMarks, weakBy, peelOf, leafMarked, componentMarked, judgedOf}
+use Rattle.peel.specs.Peel.{peeledIn, goneOf}
 use Rattle.promises.proofs.Bits.{marks-are, all}
 
 -- ---- bytes
@@ -46,7 +48,7 @@ bytes-shared n i j a b (g ∷ l) marks h e =
 
 -- ---- the filters
 
-module _ (s : Settings) (w : View) (cell : ℕ → Cell) (i j : ℕ) (a : i < w .count) (b : j < w .count) (e : w .byIdx i ≡ w .byIdx j) where
+module _ (s : Settings) (w : View) (cell : ℕ → Cell) (strength : List Float) (i j : ℕ) (a : i < w .count) (b : j < w .count) (e : w .byIdx i ≡ w .byIdx j) where
   has-shared : (t : ℕ → Bool) → indexHas w t i ≡ indexHas w t j
   has-shared t = ap (λ (m : ℕ). some (λ (k : ℕ). t k && eqb (w .byIdx k) m) (w .count)) e
 
@@ -81,8 +83,21 @@ module _ (s : Settings) (w : View) (cell : ℕ → Cell) (i j : ℕ) (a : i < w 
       mark : ℕ → ℕ
       mark k = bit (indexHas w (isSet others) k)
 
-  all-shared : Agreeing i j (all s w cell)
-  all-shared = ((λ m. validate-shared), ((λ m. orientation-shared), ((λ m. wrong-shared), (component-shared, tt))))
+  leaf-shared : (marks : List ℕ) → leafMarked s w strength marks i ≡ leafMarked s w strength marks j
+  unfolding peeledIn
+  leaf-shared marks =
+      let gone = goneOf w (places (sidesOf s)) marks (weakBy (s .«score_frac») (w .count) strength) in
+      let rounds = peelOf s w strength marks .rounds in
+      let mark : ℕ → ℕ = λ k. bit (isSet (gone rounds) (w .byIdx k)) in
+      ap (λ (m : ℕ). eqb m 1) (column-at maxPoints 0 (w .count) mark i a ∙ ap (λ (m : ℕ). bit (isSet (gone rounds) m)) e ∙ sym (column-at maxPoints 0 (w .count) mark j b))
 
-  pub byte-shared : getD (judgedOf s w cell .marks) i 0 ≡ getD (judgedOf s w cell .marks) j 0
-  byte-shared = rw (marks-are s w cell) (bytes-shared (w .count) i j a b (all s w cell) [] all-shared refl)
+  -- and so do those that go by the points themselves
+  pub points-shared : getD (pointMarks s w cell) i 0 ≡ getD (pointMarks s w cell) j 0
+  unfolding pointMarks
+  points-shared = bytes-shared (w .count) i j a b (pointFilters s w cell) [] ((λ m. validate-shared), ((λ m. orientation-shared), ((λ m. wrong-shared), tt))) refl
+
+  all-shared : Agreeing i j (all s w cell strength)
+  all-shared = ((λ m. validate-shared), ((λ m. orientation-shared), ((λ m. wrong-shared), (leaf-shared, (component-shared, tt)))))
+
+  pub byte-shared : getD (judgedOf s w cell strength .marks) i 0 ≡ getD (judgedOf s w cell strength .marks) j 0
+  byte-shared = rw (marks-are s w cell strength) (bytes-shared (w .count) i j a b (all s w cell strength) [] all-shared refl)

@@ -14,7 +14,7 @@ use Rattle.folds.specs.Below.{tally}
 use Rattle.folds.proofs.Below.{and-right, and-true, not-true, some-ext, some-no, tally-ext, first-le}
 use Rattle.folds.specs.Lists.{upFrom, listOf}
 use Rattle.folds.proofs.Lists.{list-at, list-ext}
-use Rattle.cells.specs.Points.{Point}
+use Rattle.cells.specs.Points.{Point, strengthsOf}
 use Rattle.cells.specs.Cell.{cellsOf}
 use Rattle.grid.specs.Tables.{entryIn, lastWithIndex}
 use Rattle.grid.specs.Views.{viewOf}
@@ -90,7 +90,7 @@ different-all q f n one =
 module _ (s : Settings) (ps : List Point) where
   pub marks-shared : (i j : ℕ) → i < length ps → j < length ps → indexIn ps i ≡ indexIn ps j → marksIn s ps i ≡ marksIn s ps j
   unfolding judgedFor viewOf
-  marks-shared i j a b e = byte-shared s (viewOf ps) (cellsOf ps) i j a b (index-same ps i j a b e)
+  marks-shared i j a b e = byte-shared s (viewOf ps) (cellsOf ps) (strengthsOf ps) i j a b (index-same ps i j a b e)
 
   tally-is : judgedFor s ps .tally ≡ countsOf (viewOf ps) (judgedFor s ps .marks)
   unfolding judgedFor judgedOf patchedOf

@@ -32,7 +32,7 @@ use Rattle.ruling.specs.Offset.{movedFile}
 use Rattle.ruling.proofs.Offset.{offset}
 use Rattle.ruling.proofs.MovedFile.{moved-bytes, moved-offset, moved-in-range}
 use Rattle.components.proofs.Whole.{smallest}
-use Rattle.marks.specs.Filters.{validate, orientation, wrong}
+use Rattle.marks.specs.Filters.{validate, orientation, wrong, leaf}
 use Rattle.marks.specs.Byte.{hasMark}
 use Rattle.judging.specs.Judging.{judgedFor}
 use Rattle.kept.specs.Answer.{answerBy, rowsBy, tallyBy, answerOf, rowsAfter, tallyOf}
@@ -47,12 +47,12 @@ use Rattle.sheet_map.specs.Text.{mapRuling, mapBy, mapRulingOf, mapTextOf}
 use Rattle.sheet_map.proofs.Laws.{text-is, older-first, ten-given, none-given, is-wide, is-drawn, number-given, never-ten, never-three-drawn}
 use Rattle.sheet_map.proofs.Texts.{number-printed, drawn-printed, number-read}
 use Rattle.sheet_map.proofs.Whole.{v-within, text-fits}
-use Rattle.promises.specs.Words.{marksIn}
+use Rattle.promises.specs.Words.{marksIn, roundsOf}
 use Rattle.promises.proofs.Patch.{none-kept, all-marked, reached-below, largest-kept, roots, patchOf, all-counted, count-on, count-off}
 use Rattle.promises.proofs.Tallied.{counts-indices}
 use Rattle.promises.proofs.Unswitched.{validate-stays}
 use Rattle.promises.proofs.RowMarks.{row-marks, kept-rows}
-use Rattle.promises.proofs.Moving.{validate-in, orientation-in, orientation-stays, wrong-stays, marks-stay, kept-stays, through, rows-stay}
+use Rattle.promises.proofs.Moving.{strengths-moved, validate-in, orientation-in, orientation-stays, wrong-stays, marks-stay, counts-stay, kept-stays, through, answer-stays, rows-stay}
 use Rattle.promises.proofs.MovingMap.{ten-moved, ten-before, map-stays}
 use Rattle.promises.proofs.OnMap.{cells-apart, kept-shown, only-kept-shown}
 use Rattle.promises.specs.Tally.{TallyPromise}
@@ -79,7 +79,7 @@ kept-patch file room s ps b e one on =
       has-smallest = λ W p. smallest (length ps) p (λ k h. reached-below s ps (p .inner k h));
     }
 
-answer-is : (file : List ℕ) (room : ℕ) (s : Settings) (ps : List Point) → rulingOf file room ≡ accepted s ps → answerOf file room ≡ Accepted (record { points = length ps; components = judgedFor s ps .components })
+answer-is : (file : List ℕ) (room : ℕ) (s : Settings) (ps : List Point) → rulingOf file room ≡ accepted s ps → answerOf file room ≡ Accepted (record { points = length ps; components = judgedFor s ps .components; rounds = roundsOf s ps })
 unfolding answerOf
 answer-is file room s ps e = ap answerBy e
 
@@ -89,12 +89,12 @@ component-count file room s ps b e on =
     record {
       first = roots s ps o;
       patch = patchOf s ps o;
-      answer = answer-is file room s ps e ∙ ap (λ (c : ℕ). Accepted (record { points = length ps; components = c })) (count-on s ps o on);
+      answer = answer-is file room s ps e ∙ ap (λ (c : ℕ). Accepted (record { points = length ps; components = c; rounds = roundsOf s ps })) (count-on s ps o on);
       each = all-counted s ps o;
     }
 
 pub no-count : NoCountPromise
-no-count file room s ps e off = answer-is file room s ps e ∙ ap (λ (c : ℕ). Accepted (record { points = length ps; components = c })) (count-off s ps off)
+no-count file room s ps e off = answer-is file room s ps e ∙ ap (λ (c : ℕ). Accepted (record { points = length ps; components = c; rounds = roundsOf s ps })) (count-off s ps off)
 
 -- ---- the tally
 
@@ -116,15 +116,18 @@ pub moved-sheet : OffsetPromise
 unfolding applies
 moved-sheet file other a b bf bo o room in-range s ps e =
     let framed = accepted-file file room s ps e .framed in
-    let same : layoutOf file ≡ layoutOf other = sym (ap layoutIn (frame-same file other (layoutOf file) framed (o .head))) in
-    let m = offset file other a b bf bo o (ap (λ (f : Layout). anyIn offRange (pointsIn other (f .points) (f .count))) same ∙ in-range) room s ps e in
+    let same : layoutOf file ≡ layoutOf other = sym (ap layoutIn (frame-same file other (layoutOf file) framed (record { size = o .size; head = o .head; after = λ k l m. o .after k l }))) in
+    let m = offset file other a b bf bo o (ap (λ (f : Layout). anyIn offRange (pointsIn other f)) same ∙ in-range) room s ps e in
     let v = view-moved a b ps (m .points) (m .size) (m .along) in
+    let t = strengths-moved a b ps (m .points) (m .size) (m .along) in
     record {
       along = m;
-      orientation = orientation-stays s ps (m .points) (m .size) v;
-      wrong = wrong-stays s ps (m .points) (m .size) v;
-      same = marks-stay s ps (m .points) (m .size) v;
-      kept = kept-stays s ps (m .points) (m .size) v;
+      orientation = orientation-stays s ps (m .points) (m .size) v t;
+      wrong = wrong-stays s ps (m .points) (m .size) v t;
+      same = marks-stay s ps (m .points) (m .size) v t;
+      leaf = λ h k. ap (hasMark leaf) (marks-stay s ps (m .points) (m .size) v t h k);
+      rounds = λ h. counts-stay s ps (m .points) (m .size) v t h .1;
+      kept = kept-stays s ps (m .points) (m .size) v t;
     }
 
 pub moved-rows : OffsetRowsPromise
@@ -132,10 +135,12 @@ moved-rows file other buffer a b bf bo o in-range s ps e =
     let r = moved-sheet file other a b bf bo o (length buffer) in-range s ps e in
     let m = r .along in
     let v = view-moved a b ps (m .points) (m .size) (m .along) in
+    let t = strengths-moved a b ps (m .points) (m .size) (m .along) in
     record {
-      orientation = through s ps (m .points) (m .size) v file other buffer e (m .ruling) orientation (r .orientation);
-      wrong = through s ps (m .points) (m .size) v file other buffer e (m .ruling) wrong (r .wrong);
-      kept = rows-stay s ps (m .points) (m .size) v file other buffer e (m .ruling);
+      orientation = through s ps (m .points) (m .size) v t file other buffer e (m .ruling) orientation (r .orientation);
+      wrong = through s ps (m .points) (m .size) v t file other buffer e (m .ruling) wrong (r .wrong);
+      kept = rows-stay s ps (m .points) (m .size) v t file other buffer e (m .ruling);
+      counts = answer-stays s ps (m .points) (m .size) v t file other buffer e (m .ruling);
     }
 
 pub moved-file : MovedFilePromise

@@ -4,3 +4,4 @@ pub mod Map
 pub mod Tally
 pub mod Runs
 pub mod Limit
+pub mod Leaves

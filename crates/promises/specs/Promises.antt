@@ -21,13 +21,13 @@ use Rattle.ruling.specs.Ruling.{accepted, rulingOf, applies}
 use Rattle.ruling.specs.Order.{Relisted}
 use Rattle.ruling.specs.Switches.{Switched}
 use Rattle.ruling.specs.Offset.{FileDisplaced, MovedAlong, movedFile, StaysInRange}
-use Rattle.marks.specs.Filters.{validate, orientation, wrong}
+use Rattle.marks.specs.Filters.{validate, orientation, wrong, leaf}
 use Rattle.marks.specs.Byte.{hasMark}
 use Rattle.kept.specs.Answer.{answerOf, rowsAfter, tallyOf}
 use Rattle.kept.specs.declared.Answer.the-variants.{Accepted}
 use Rattle.sheet_listing.specs.Text.{textOf}
 use Rattle.sheet_map.specs.Text.{mapTextOf}
-use Rattle.promises.specs.Words.{DistinctIndices, marksIn, hasOther, survivor, joined, keptRank, marksByte}
+use Rattle.promises.specs.Words.{DistinctIndices, marksIn, roundsOf, hasOther, survivor, joined, keptRank, marksByte}
 
 -- ---- ranks, and the rows
 
@@ -60,7 +60,7 @@ KeptPatchPromise = (file : List ℕ) (room : ℕ) (s : Settings) (ps : List Poin
 pub record PatchCount (file : List ℕ) (room : ℕ) (s : Settings) (ps : List Point) : Type 0 where
   pub first : ℕ → Bool
   pub patch : ℕ → ℕ → Bool
-  pub answer : answerOf file room ≡ Accepted (record { points = length ps; components = tally first (length ps) })
+  pub answer : answerOf file room ≡ Accepted (record { points = length ps; components = tally first (length ps); rounds = roundsOf s ps })
   pub each : PatchesCounted (survivor s ps) (joined s ps) (length ps) first patch
 
 abbrev pub ComponentCountPromise : Type 0
@@ -68,12 +68,13 @@ ComponentCountPromise = (file : List ℕ) (room : ℕ) (s : Settings) (ps : List
 
 -- "With the switch off the count is 0."
 abbrev pub NoCountPromise : Type 0
-NoCountPromise = (file : List ℕ) (room : ℕ) (s : Settings) (ps : List Point) → rulingOf file room ≡ accepted s ps → s .«apply_largest_component» ≡ false → answerOf file room ≡ Accepted (record { points = length ps; components = 0 })
+NoCountPromise = (file : List ℕ) (room : ℕ) (s : Settings) (ps : List Point) → rulingOf file room ≡ accepted s ps → s .«apply_largest_component» ≡ false → answerOf file room ≡ Accepted (record { points = length ps; components = 0; rounds = roundsOf s ps })
 
 -- ---- (b) another order
 
--- "Another order is any rearrangement of the points in tag 3, all else and the result buffer's length unchanged": for every well-framed file
--- the same number, or the same counts, the same rows byte for byte, the same listing, and the same map
+-- "Another order is any rearrangement of the points in tag 3, all else and the result buffer's length unchanged"; "points listed in another order
+-- take their strengths with them": for every well-framed file the same number, or the same counts, the same rows byte for byte, the same
+-- listing, and the same map
 pub record SameResult (file other : List ℕ) : Type 0 where
   pub answer : (room : ℕ) → answerOf other room ≡ answerOf file room
   pub rows : (buffer : List ℕ) → rowsAfter other buffer ≡ rowsAfter file buffer
@@ -89,12 +90,15 @@ AnotherOrderPromise = (file other : List ℕ) (f : Layout) → Bytes file → fr
 -- ---- (c) an offset
 
 -- The moved file is accepted, its points are the old ones at their moved cells and no others, and each has the same orientation and
--- wrong-label marks; if each has the same validate mark too, each has the same marks, and "the kept patch has moved along".
+-- wrong-label marks; if each has the same validate mark too, each has the same marks, "A whole move keeps L if the earlier marks hold", with as
+-- many rounds, and "the kept patch has moved along".
 pub record MovedMarks (file : List ℕ) (room : ℕ) (a b : ℤ) (s : Settings) (ps : List Point) : Type 0 where
   pub along : MovedAlong (rulingOf file room) a b s ps
   pub orientation : (k : ℕ) → k < length ps → hasMark orientation (marksIn s (along .points) k) ≡ hasMark orientation (marksIn s ps k)
   pub wrong : (k : ℕ) → k < length ps → hasMark wrong (marksIn s (along .points) k) ≡ hasMark wrong (marksIn s ps k)
   pub same : ((k : ℕ) → k < length ps → hasMark validate (marksIn s (along .points) k) ≡ hasMark validate (marksIn s ps k)) → (k : ℕ) → marksIn s (along .points) k ≡ marksIn s ps k
+  pub leaf : ((k : ℕ) → k < length ps → hasMark validate (marksIn s (along .points) k) ≡ hasMark validate (marksIn s ps k)) → (k : ℕ) → hasMark leaf (marksIn s (along .points) k) ≡ hasMark leaf (marksIn s ps k)
+  pub rounds : ((k : ℕ) → k < length ps → hasMark validate (marksIn s (along .points) k) ≡ hasMark validate (marksIn s ps k)) → roundsOf s (along .points) ≡ roundsOf s ps
   pub kept : ((k : ℕ) → k < length ps → hasMark validate (marksIn s (along .points) k) ≡ hasMark validate (marksIn s ps k)) → (k : ℕ) → keptRank s (along .points) k ≡ keptRank s ps k
 
 -- "In range means that the condition of number 6 fails."
@@ -102,11 +106,13 @@ abbrev pub OffsetPromise : Type 0
 OffsetPromise = (file other : List ℕ) (a b : ℤ) → Bytes file → Bytes other → FileDisplaced file other (layoutOf file) a b
     → (room : ℕ) → applies other room 6 ≡ false → (s : Settings) (ps : List Point) → rulingOf file room ≡ accepted s ps → MovedMarks other room a b s ps
 
--- the same, of the rows in one buffer: the orientation and wrong-label marks stay; if the validate marks stay too, all marks do
+-- the same, of the rows in one buffer: the orientation and wrong-label marks stay; if the validate marks stay too, all marks do, and so do the
+-- counts of points, of components and of rounds
 pub record MovedRows (file other buffer : List ℕ) (n : ℕ) : Type 0 where
   pub orientation : (k : ℕ) → k < n → hasMark orientation (marksByte other buffer k) ≡ hasMark orientation (marksByte file buffer k)
   pub wrong : (k : ℕ) → k < n → hasMark wrong (marksByte other buffer k) ≡ hasMark wrong (marksByte file buffer k)
   pub kept : ((k : ℕ) → k < n → hasMark validate (marksByte other buffer k) ≡ hasMark validate (marksByte file buffer k)) → (k : ℕ) → k < n → marksByte other buffer k ≡ marksByte file buffer k
+  pub counts : ((k : ℕ) → k < n → hasMark validate (marksByte other buffer k) ≡ hasMark validate (marksByte file buffer k)) → answerOf other (length buffer) ≡ answerOf file (length buffer)
 
 abbrev pub OffsetRowsPromise : Type 0
 OffsetRowsPromise = (file other buffer : List ℕ) (a b : ℤ) → Bytes file → Bytes other → FileDisplaced file other (layoutOf file) a b

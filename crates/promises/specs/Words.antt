@@ -29,6 +29,10 @@ module _ (s : Settings) (ps : List Point) where
   abbrev pub marksIn : ℕ → ℕ
   marksIn k = getD (judgedFor s ps .marks) k 0
 
+  -- "the number of rounds that removed something"
+  abbrev pub roundsOf : ℕ
+  roundsOf = judgedFor s ps .rounds
+
   -- "A survivor is a point whose index gets no mark under these rules other than the component mark."
   abbrev pub hasOther : ℕ → Bool
   hasOther k = otherMark (marksIn k)

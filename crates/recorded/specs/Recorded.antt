@@ -22,10 +22,10 @@ unfoldable pub filler : ℕ → List ℕ
 unfolding listOf
 filler size = listOf size (λ (i : ℕ). i % 251)
 
--- the number of a refusal is the recorded one; of an accepted sheet 0 is recorded, and its counts
+-- the number of a refusal is the recorded one; of an accepted sheet 0 is recorded, and its counts, that of the rounds too
 abbrev pub isRecorded : Answer → RecordedAnswer → Bool
 isRecorded (Refused k) r = eqb k (r .number)
-isRecorded (Accepted c) r = eqb (r .number) 0 && (eqb (c .points) (r .points) && eqb (c .components) (r .components))
+isRecorded (Accepted c) r = eqb (r .number) 0 && (eqb (c .points) (r .points) && (eqb (c .components) (r .components) && eqb (c .rounds) (r .rounds)))
 
 -- two lists are the same
 unfoldable pub sameList : List ℕ → List ℕ → Bool

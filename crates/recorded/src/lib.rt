@@ -14,7 +14,7 @@ ghost use lib.ListN.{length};
 ghost use Rattle.recorded.specs.Recorded.{Fits, filler, isRecorded, sameList, sameRun, isText, differing};
 
 // Longer than every recorded file.
-pub const LONGEST: usize = 65600;
+pub const LONGEST: usize = 131200;
 
 // Longer than every recorded buffer, so that bytes beyond the buffer are looked at too.
 pub const ROOM: usize = 100000;
@@ -26,6 +26,7 @@ pub struct RecordedAnswer {
     pub number: usize,
     pub points: usize,
     pub components: usize,
+    pub rounds: usize,
 }
 
 fn read_word() -> u32 {
@@ -51,6 +52,7 @@ pub fn read_answer() -> RecordedAnswer {
         number: read_number(),
         points: read_number(),
         components: read_number(),
+        rounds: read_number(),
     }
 }
 
@@ -112,7 +114,10 @@ pub fn is_recorded(answer: Answer, recorded: RecordedAnswer) -> bool
             if counts.points != recorded.points {
                 return false;
             }
-            counts.components == recorded.components
+            if counts.components != recorded.components {
+                return false;
+            }
+            counts.rounds == recorded.rounds
         }
     }
 }

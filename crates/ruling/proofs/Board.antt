@@ -2,6 +2,7 @@
 use mathlib.Core.Path.{_≡_, refl, ap, _∙_}
 use mathlib.Core.Bool.{Bool, true, false, cond, _&&_}
 use mathlib.Core.List.{List}
+use mathlib.Core.Logic.{inl}
 use Prim.{Dec, yes, no}
 use Prim.Native.Nat.{ℕ, _+_, _*_, _/_, _%_, _^_, _≤_, _<_}
 use native.Mathlib.Decide.{decLt, ℕ-discrete}
@@ -13,7 +14,7 @@ use borrow.Author.Tests.{lt-ltb, le-ltb, le-leb, ne-eqb}
 use Rattle.folds.specs.Arith.{f32}
 use Rattle.folds.specs.Among.{anyIn}
 use Rattle.folds.proofs.Among.{any-list, pair-no}
-use Rattle.folds.proofs.Below.{some-no, and-false}
+use Rattle.folds.proofs.Below.{some-no, and-false, not-true}
 use Rattle.folds.specs.Lists.{listOf}
 use Rattle.folds.proofs.Lists.{length-list, list-at, list-over, list-ext}
 use Rattle.view.specs.View.{maxPoints}
@@ -23,19 +24,20 @@ use Rattle.cells.specs.Points.{Point, nowhere}
 use Rattle.cells.specs.Cell.{signed, within}
 use Rattle.sheet_file.specs.Bytes.{Bytes, byteAt, le32}
 use Rattle.sheet_file.specs.Limit.{outside}
-use Rattle.sheet_file.specs.Frame.{framingOf, layoutOf}
+use Rattle.sheet_file.specs.Frame.{framingOf, layoutOf, weightsSize}
 use Rattle.sheet_file.specs.Grammar.{WellFramed}
-use Rattle.sheet_file.specs.Refusals.{settingsOf, headerRefusals, badFlag, badFloat}
+use Rattle.sheet_file.specs.Refusals.{fractionOf, settingsOf, headerRefusals, badFlag, badFloat}
+use Rattle.sheet_file.specs.declared.Fraction.the-variants.{Missing}
 use Rattle.sheet_file.specs.declared.Layout.{Layout}
 use Rattle.sheet_file.specs.declared.Settings.{Settings}
 use Rattle.sheet_file.proofs.Fields.{PointsAt}
-use Rattle.sheet_file.proofs.Grammar.{well-framed, points-counted}
+use Rattle.sheet_file.proofs.Grammar.{well-framed, points-counted, weights-counted}
 use Rattle.points.specs.Records.{ithPoint, pointsIn}
-use Rattle.points.specs.Refusals.{offRange, offLimit, sameCell, twoPositions, pointRefusals, comesBefore, cellOrder}
+use Rattle.points.specs.Refusals.{offRange, offLimit, offStrength, sameCell, twoPositions, twoStrengths, pointRefusals, comesBefore, cellOrder}
 use Rattle.ruling.specs.Ruling.{refused, accepted, rulingFor, pointsOf, rulingOf, applies, rowsSize}
-use Rattle.ruling.specs.Limit.{pointCount, shortSheet, boardByte, boardAt, boardPoints, board48}
-use Rattle.ruling.proofs.Given.{by-points, given}
-use Rattle.ruling.proofs.Limit.{after-head, short-bytes, short-framed, short-fields}
+use Rattle.ruling.specs.Limit.{pointCount, WeightsFit, shortSheet, boardByte, boardAt, boardPoints, board48}
+use Rattle.ruling.proofs.Given.{own-fraction, by-points, given}
+use Rattle.ruling.proofs.Limit.{fits, after-head, short-bytes, short-framed, short-fields}
 
 -- ---- its points
 
@@ -43,7 +45,7 @@ abbrev boardBytes : List ℕ
 boardBytes = listOf (20 * boardPoints) boardAt
 
 abbrev boardPoint : ℕ → Point
-boardPoint i = record { u = i / 48; v = i % 48; index = i; x = 0; y = 0 }
+boardPoint i = record { u = i / 48; v = i % 48; index = i; x = 0; y = 0; strength = 0 }
 
 board-byte : (i j : ℕ) → i < boardPoints → j < 20 → byteAt board48 (10 + (20 * i + j)) ≡ boardByte i j
 board-byte i j h l =
@@ -61,15 +63,21 @@ board-word i j h l =
     let d : 10 + (20 * i + j) + 3 ≡ 10 + (20 * i + (j + 3)) = omega arith in
     rw (a, b, c, d, board-byte i j h (omega arith), board-byte i (j + 1) h (omega arith), board-byte i (j + 2) h (omega arith), board-byte i (j + 3) h (omega arith))
 
-board-point : (i : ℕ) → i < boardPoints → ithPoint board48 10 i ≡ boardPoint i
-board-point i h =
+-- the board's layout: the points begin at byte 10, and there is no tag 4
+record OnBoard (f : Layout) : Type 0 where
+  points-at : f .points ≡ 10
+  count-is : f .count ≡ boardPoints
+  unweighed : f .weighed ≡ false
+
+board-point : (f : Layout) → OnBoard f → (i : ℕ) → i < boardPoints → ithPoint board48 f i ≡ boardPoint i
+board-point f o i h =
     let z : 10 + 20 * i + 0 ≡ 10 + 20 * i = omega arith in
     let u : le32 board48 (10 + 20 * i) ≡ i / 48 = rw z at (board-word i 0 h (omega arith)) ∙ omega arith in
     let v : le32 board48 (10 + 20 * i + 4) ≡ i % 48 = board-word i 4 h (omega arith) ∙ omega arith in
     let index : le32 board48 (10 + 20 * i + 8) ≡ i = board-word i 8 h (omega arith) ∙ omega arith in
     let x : le32 board48 (10 + 20 * i + 12) ≡ 0 = board-word i 12 h (omega arith) in
     let y : le32 board48 (10 + 20 * i + 16) ≡ 0 = board-word i 16 h (omega arith) in
-    rw (u, v, index, x, y)
+    rw (o .points-at, o .unweighed, u, v, index, x, y)
 
 -- ---- no number applies to them
 
@@ -87,12 +95,14 @@ different-cells i j l = go (ℕ-discrete (i / 48) (j / 48))
     go (yes e) = rw (ne-eqb (i % 48) (j % 48) (λ f. omega (arith, e, f))) (and-false (eqb (i / 48) (j / 48)))
     go (no f) = rw (ne-eqb (i / 48) (j / 48) f)
 
-points-pass : anyIn holds (pointRefusals (listOf boardPoints boardPoint)) ≡ false
+points-pass : anyIn holds (pointRefusals Missing (listOf boardPoints boardPoint)) ≡ false
 unfolding pointRefusals
 points-pass =
     neither-holds (any-list boardPoint boardPoints offRange ∙ some-no (λ (i : ℕ). offRange (boardPoint i)) boardPoints (λ i h. rw (small-within (i / 48) (omega arith), small-within (i % 48) (omega arith))))
     (neither-holds (any-list boardPoint boardPoints offLimit ∙ some-no (λ (i : ℕ). offLimit (boardPoint i)) boardPoints (λ i h. rw zero-inside))
-    (neither-holds (pair-no boardPoint boardPoints sameCell (λ i j l h. different-cells i j l)) (neither-holds (pair-no boardPoint boardPoints twoPositions (λ i j l h. and-false (eqb i j))) refl)))
+    (neither-holds (any-list boardPoint boardPoints offStrength ∙ some-no (λ (i : ℕ). offStrength (boardPoint i)) boardPoints (λ i h. rw zero-inside))
+    (neither-holds (pair-no boardPoint boardPoints sameCell (λ i j l h. different-cells i j l))
+    (neither-holds (pair-no boardPoint boardPoints twoPositions (λ i j l h. and-false (eqb i j))) (neither-holds (pair-no boardPoint boardPoints twoStrengths (λ i j l h. and-false (eqb i j))) refl)))))
 
 -- ---- nor to its header
 
@@ -112,12 +122,14 @@ module _ (p : List ℕ) (f : Layout) (h : PointsAt (shortSheet p) f 7 false fals
   unfolding badFloat
   zero-float = rw (h .full-is, h .gated-is, cell-size p, zero-inside)
 
-header-passes : (file : List ℕ) (room : ℕ) (w : WellFramed file) → pointCount w ≤ maxPoints → 28 * pointCount w ≤ room → badFlag file (layoutOf file) ≡ false → badFloat file (layoutOf file) ≡ false
+header-passes : (file : List ℕ) (room : ℕ) (w : WellFramed file) → WeightsFit w → pointCount w ≤ maxPoints → 28 * pointCount w ≤ room → badFlag file (layoutOf file) ≡ false → badFloat file (layoutOf file) ≡ false
     → anyIn holds (headerRefusals file room (framingOf file)) ≡ false
 unfolding headerRefusals
-header-passes file room w few l a b =
+header-passes file room w o few l a b =
     let n = points-counted file w in
-    neither-holds (well-framed file w) (neither-holds (le-ltb maxPoints (layoutOf file .count) (omega arith)) (neither-holds (le-ltb room (28 * layoutOf file .count) (omega arith)) (neither-holds a (neither-holds b refl))))
+    neither-holds (well-framed file w)
+    (neither-holds (fits file room w o)
+    (neither-holds (le-ltb maxPoints (layoutOf file .count) (omega arith)) (neither-holds (le-ltb room (28 * layoutOf file .count) (omega arith)) (neither-holds a (neither-holds b refl)))))
 
 -- ---- so it is accepted, with all its points
 
@@ -144,15 +156,23 @@ pub record BoardAccepted (room : ℕ) : Type 0 where
   pub ruled-so : rulingOf board48 room ≡ accepted settings points
   pub size : length points ≡ 2304
 
-points-are : (f : Layout) → f .points ≡ 10 → f .count ≡ boardPoints → pointsIn board48 (f .points) (f .count) ≡ listOf boardPoints boardPoint
+points-are : (f : Layout) → OnBoard f → pointsIn board48 f ≡ listOf boardPoints boardPoint
 unfolding pointsIn
-points-are f a c = rw (a, c) (list-ext nowhere boardPoints (ithPoint board48 10) boardPoint board-point)
+points-are f o = ap (λ (n : ℕ). listOf n (ithPoint board48 f)) (o .count-is) ∙ list-ext nowhere boardPoints (ithPoint board48 f) boardPoint (board-point f o)
 
-accepted-for : (s : Settings) (ps : List Point) → anyIn holds (pointRefusals ps) ≡ false → rulingFor s ps ≡ accepted s (cellOrder ps)
+accepted-for : (s : Settings) (ps : List Point) → s .«score_frac» ≡ Missing → anyIn holds (pointRefusals Missing ps) ≡ false → rulingFor s ps ≡ accepted s (cellOrder ps)
 unfolding rulingFor
-accepted-for s ps e = none-passes refused (accepted s (cellOrder ps)) (pointRefusals ps) e
+accepted-for s ps x e = none-passes refused (accepted s (cellOrder ps)) (pointRefusals (s .«score_frac») ps) (rw x e)
 
-board-framed : (w : WellFramed board48) × (pointCount w ≡ boardPoints)
+-- no tag 4, no fraction
+no-fraction : (file : List ℕ) (f : Layout) → f .weighed ≡ false → settingsOf file f .«score_frac» ≡ Missing
+unfolding fractionOf
+no-fraction file f e = own-fraction file f ∙ rw e
+
+no-weights : (f : Layout) → weightsSize f ≡ 0 → f .weighed ≡ false
+no-weights f e = not-true (f .weighed) (λ t. omega (arith, rw t at e))
+
+board-framed : (w : WellFramed board48) × (pointCount w ≡ boardPoints) × (length (w .weights) ≡ 0)
 board-framed = short-framed boardBytes boardPoints board-size (omega arith)
 
 board-count : layoutOf board48 .count ≡ boardPoints
@@ -164,13 +184,14 @@ board-accepted room l =
     let f = layoutOf board48 in
     let h = short-fields boardBytes (v .0) in
     let ps = listOf boardPoints boardPoint in
-    let q : pointsOf board48 ≡ ps = points-are f (h .points-at) board-count in
-    let e = header-passes board48 room (v .0) (omega (arith, v .1)) (omega (arith, v .1)) (no-flags boardBytes f h) (zero-float boardBytes f h) in
+    let o : OnBoard f = record { points-at = h .points-at; count-is = board-count; unweighed = no-weights f (weights-counted board48 (v .0) ∙ v .2) } in
+    let q : pointsOf board48 ≡ ps = points-are f o in
+    let e = header-passes board48 room (v .0) (inl (v .2)) (omega (arith, v .1)) (omega (arith, v .1)) (no-flags boardBytes f h) (zero-float boardBytes f h) in
     record {
       settings = settingsOf board48 f;
       points = cellOrder ps;
       ruled-so = by-points board48 room ∙ none-passes refused (rulingFor (settingsOf board48 f) (pointsOf board48)) (headerRefusals board48 room (framingOf board48)) e
-          ∙ ap (rulingFor (settingsOf board48 f)) q ∙ accepted-for (settingsOf board48 f) ps points-pass;
+          ∙ ap (rulingFor (settingsOf board48 f)) q ∙ accepted-for (settingsOf board48 f) ps (no-fraction board48 f (o .unweighed)) points-pass;
       size = sort-length comesBefore ps ∙ length-list boardPoints boardPoint;
     }
 
@@ -182,4 +203,4 @@ pub board-short : (room : ℕ) → room < 64512 → rulingOf board48 room ≡ re
 unfolding applies
 board-short room l =
     given board48 room 3 (lt-ltb room (28 * layoutOf board48 .count) (omega (arith, board-count)))
-    (neither-holds (well-framed board48 (board-framed .0)) (neither-holds (le-ltb maxPoints (layoutOf board48 .count) (omega (arith, board-count))) refl))
+    (neither-holds (well-framed board48 (board-framed .0)) (neither-holds (fits board48 room (board-framed .0) (inl (board-framed .2))) (neither-holds (le-ltb maxPoints (layoutOf board48 .count) (omega (arith, board-count))) refl)))

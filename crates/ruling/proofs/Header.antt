@@ -1,10 +1,10 @@
--- What is read of a file before its points depends on its length and on the bytes before the points alone, and little of it on the two
--- switches. Assumes nothing.
+-- What is read of a file but for its points depends on its length, on the bytes before the points and on the first seven of tag 4 alone, and
+-- little of it on the two switches. Assumes nothing.
 use mathlib.Core.Path.{_≡_, refl, sym, ap, _∙_}
 use mathlib.Core.Bool.{Bool, true, false, cond, _&&_, _||_, true≢false}
 use mathlib.Core.List.{List, [], _∷_}
 use mathlib.Core.Logic.{_⊎_, inl, inr}
-use Prim.Native.Nat.{ℕ, _+_, _≤_, _<_}
+use Prim.Native.Nat.{ℕ, _+_, _*_, _/_, _≤_, _<_}
 use native.Mathlib.Omega.{arith}
 use lib.Ieee.{Float}
 use lib.ListN.{length, getD}
@@ -13,24 +13,28 @@ use Rattle.folds.proofs.Below.{and-under}
 use Rattle.refusals.specs.First.{ruled}
 use Rattle.sheet_file.specs.Bytes.{byteAt, le16, le32}
 use Rattle.sheet_file.specs.Limit.{outside}
-use Rattle.sheet_file.specs.Frame.{fieldAt, pointsFrom, gateFrom, framingOf, gateStart}
-use Rattle.sheet_file.specs.Refusals.{floatAt, defaultsFor, settingsIn, gateIn, edgeShapeOf, settingsOf, badFlag, settingsFloats, gateFloats, badFloat, headerRefusals}
+use Rattle.sheet_file.specs.Frame.{fieldAt, unweighed, strengthsFrom, pointsFrom, gateFrom, framingOf, gateStart}
+use Rattle.sheet_file.specs.Refusals.{floatAt, defaultsFor, settingsIn, gateIn, edgeShapeOf, fractionIn, fractionOf, settingsOf, badFlag, settingsFloats, gateFloats, badFloat, headerRefusals}
 use Rattle.sheet_file.specs.declared.Layout.{Layout}
 use Rattle.sheet_file.specs.declared.EdgeGate.{EdgeGate}
 use Rattle.sheet_file.specs.declared.EdgeGate.the-variants.{Off, On}
+use Rattle.sheet_file.specs.declared.Fraction.{Fraction}
+use Rattle.sheet_file.specs.declared.Fraction.the-variants.{Missing}
 use Rattle.sheet_file.specs.declared.Framing.the-variants.{Framed, Misframed}
 use Rattle.sheet_file.proofs.Words.{le16-same, le32-same}
-use Rattle.sheet_file.proofs.Fields.{GateAt, gate-there, gate-absent, Fields, full-settings, short-settings, fields-of, points-in, before-points}
+use Rattle.sheet_file.proofs.Fields.{field-in, points-from-is, StrengthsAt, strengths-there, strengths-absent, GateAt, gate-there, gate-absent, Fields, full-settings, short-settings, fields-of, points-in, before-points}
 use Rattle.points.specs.Records.{pointsIn}
 use Rattle.ruling.specs.Ruling.{refused, rulingFor, rulingOf}
-use Rattle.ruling.specs.Header.{Headed}
+use Rattle.ruling.specs.Header.{pointsEnd, Headed}
 use Rattle.ruling.specs.Switches.{switched}
 use Rattle.ruling.proofs.Given.{by-points}
 
--- other is as long as file, and has its bytes before the points, but for the switches, which only settings of length 21 have
+-- other is as long as file, and has its bytes before the points, but for the switches, which only settings of length 21 have, and after them
+-- the tag, the length and the fraction of tag 4
 pub record SameHeader (file other : List ℕ) (f : Layout) : Type 0 where
   pub size : length other ≡ length file
   pub same : (k : ℕ) → k < f .points → (f .full ≡ true → (k < 22) ⊎ (24 ≤ k)) → getD other k 0 ≡ getD file k 0
+  pub after : (k : ℕ) → pointsEnd f ≤ k → k < pointsEnd f + 7 → getD other k 0 ≡ getD file k 0
 
 module _ (file other : List ℕ) (f : Layout) (framed : framingOf file ≡ Framed f) (h : SameHeader file other f) where
   -- ---- before the switches, and after them
@@ -65,11 +69,29 @@ module _ (file other : List ℕ) (f : Layout) (framed : framingOf file ≡ Frame
   late-field : (at tag n : ℕ) → Late at → at + 3 ≤ f .points → fieldAt other at tag n ≡ fieldAt file at tag n
   late-field at tag n l m = field-by at tag n (late at l (omega arith)) (late-half (at + 1) (λ t. omega (arith, l t)) (omega arith))
 
+  -- tag 4, or the end
+  after-half : (at : ℕ) → pointsEnd f ≤ at → at + 2 ≤ pointsEnd f + 7 → le16 other at ≡ le16 file at
+  after-half at l m = le16-same file at other at (λ k b. h .after (at + k) (omega arith) (omega arith))
+
+  after-word : (at : ℕ) → pointsEnd f ≤ at → at + 4 ≤ pointsEnd f + 7 → le32 other at ≡ le32 file at
+  after-word at l m = le32-same file at other at (λ k b. h .after (at + k) (omega arith) (omega arith))
+
+  strengths-same : (g : Layout) → strengthsFrom other (pointsEnd f) g ≡ strengthsFrom file (pointsEnd f) g
+  unfolding strengthsFrom
+  strengths-same g =
+      let at = pointsEnd f in
+      let n : le16 other (at + 1) ≡ le16 file (at + 1) = after-half (at + 1) (omega arith) (omega arith) in
+      rw (h .size, n, field-by at 4 (le16 file (at + 1)) (h .after at (omega arith) (omega arith)) n)
+
   points-same : (at : ℕ) (full gated : Bool) → Late at → pointsFrom file at full gated ≡ Framed f → pointsFrom other at full gated ≡ Framed f
-  unfolding pointsFrom
   points-same at full gated l e =
-      let p : at + 3 ≤ f .points = omega (arith, points-in file f at full gated e .points-at) in
-      rw (h .size, late-half (at + 1) (λ t. omega (arith, l t)) (omega arith), late-field at 3 (le16 file (at + 1)) l p) e
+      let p = points-in file f at full gated e in
+      let s = field-in file at 3 (20 * f .count) (p .field-there) .size-is in
+      let m : at + 3 ≤ f .points = omega (arith, p .points-at) in
+      let q : at + 3 + le16 file (at + 1) ≡ pointsEnd f = omega (arith, s, p .points-at) in
+      let n : le16 other (at + 1) ≡ le16 file (at + 1) = late-half (at + 1) (λ t. omega (arith, l t)) (omega arith) in
+      rw (points-from-is other at full gated, n, late-field at 3 (le16 file (at + 1)) l m, q, strengths-same (unweighed full gated (at + 3) (le16 file (at + 1) / 20)))
+      (rw (points-from-is file at full gated, q) at e)
 
   gate-same : (at : ℕ) (full : Bool) → Late at → GateAt file f at full → gateFrom other at full ≡ Framed f
   unfolding gateFrom
@@ -139,38 +161,50 @@ module _ (file other : List ℕ) (f : Layout) (framed : framingOf file ≡ Frame
       ∙ ap (λ (b : Bool). anyIn outside (settingsFloats file (f .full)) || b)
       (and-under (f .gated) (λ e. ap (anyIn outside) (gate-floats (gateStart (f .full)) (gate-late (f .full)) (before-points file f framed .gate e))))
 
-  settings-in-same : (g : EdgeGate) → 27 ≤ f .points → settingsIn other g ≡ switched (settingsIn file g) (byteAt other 22) (byteAt other 23)
+  fraction-same : fractionOf other f ≡ fractionOf file f
+  unfolding fractionOf
+  fraction-same = go (f .weighed) (strengths-at (before-points file f framed .after))
+    where
+      strengths-at : StrengthsAt file f (pointsEnd f) → f .weighed ≡ true → f .strengths ≡ pointsEnd f + 3
+      strengths-at (strengths-there t w s e) b = s
+      strengths-at (strengths-absent w e) b = absurd (true≢false (sym b ∙ w))
+
+      go : (b : Bool) → (b ≡ true → f .strengths ≡ pointsEnd f + 3) → cond b (fractionIn (floatAt other (f .strengths))) Missing ≡ cond b (fractionIn (floatAt file (f .strengths))) Missing
+      go true s = let e = s refl in rw (after-word (f .strengths) (omega arith) (omega arith))
+      go false s = refl
+
+  settings-in-same : (g : EdgeGate) (x : Fraction) → 27 ≤ f .points → settingsIn other g x ≡ switched (settingsIn file g x) (byteAt other 22) (byteAt other 23)
   unfolding settingsIn
-  settings-in-same g l =
+  settings-in-same g x l =
       rw (low-word 3 (omega arith) (omega arith), low-word 7 (omega arith) (omega arith), low-half 11 (omega arith) (omega arith), low-word 13 (omega arith) (omega arith), low 17 (omega arith) (omega arith), low-word 18 (omega arith) (omega arith))
 
   -- settings with the other file's switches, if they have any
   pub settings-alike : settingsOf other f ≡ cond (f .full) (switched (settingsOf file f) (byteAt other 22) (byteAt other 23)) (settingsOf file f)
   unfolding settingsOf
-  settings-alike = rw edge-same (go (f .full) (before-points file f framed .long) (edgeShapeOf file f))
+  settings-alike = rw (edge-same, fraction-same) (go (f .full) (before-points file f framed .long) (edgeShapeOf file f) (fractionOf file f))
     where
-      go : (b : Bool) → (b ≡ true → 27 ≤ f .points) → (g : EdgeGate)
-          → cond b (settingsIn other g) (defaultsFor (floatAt other 3) g)
-          ≡ cond b (switched (cond b (settingsIn file g) (defaultsFor (floatAt file 3) g)) (byteAt other 22) (byteAt other 23)) (cond b (settingsIn file g) (defaultsFor (floatAt file 3) g))
-      go true l g = settings-in-same g (l refl)
-      go false l g = rw (low-word 3 (omega arith) (omega (arith, before-points file f framed .short)))
+      go : (b : Bool) → (b ≡ true → 27 ≤ f .points) → (g : EdgeGate) (x : Fraction)
+          → cond b (settingsIn other g x) (defaultsFor (floatAt other 3) g x)
+          ≡ cond b (switched (cond b (settingsIn file g x) (defaultsFor (floatAt file 3) g x)) (byteAt other 22) (byteAt other 23)) (cond b (settingsIn file g x) (defaultsFor (floatAt file 3) g x))
+      go true l g x = settings-in-same g x (l refl)
+      go false l g x = rw (low-word 3 (omega arith) (omega (arith, before-points file f framed .short)))
 
   -- ---- the ruling
 
   -- a file whose flags are as good is ruled on by the same header, and then by its own settings and points
   pub carried-alike : badFlag other f ≡ badFlag file f → (room : ℕ)
-      → rulingOf other room ≡ ruled refused (rulingFor (settingsOf other f) (pointsIn other (f .points) (f .count))) (headerRefusals file room (Framed f))
+      → rulingOf other room ≡ ruled refused (rulingFor (settingsOf other f) (pointsIn other f)) (headerRefusals file room (Framed f))
   unfolding headerRefusals
   carried-alike e room = by-points other room ∙ rw (frame-alike, e, floats-same)
 
 -- ---- with the same switches
 
-pub same-headed : (file : List ℕ) (n : ℕ) → Headed file file n
-same-headed file n = record { size = refl; head = λ k l. refl }
+pub same-headed : (file : List ℕ) (f : Layout) → Headed file file f
+same-headed file f = record { size = refl; head = λ k l. refl; after = λ k l m. refl }
 
-module _ (file other : List ℕ) (f : Layout) (framed : framingOf file ≡ Framed f) (h : Headed file other (f .points)) where
+module _ (file other : List ℕ) (f : Layout) (framed : framingOf file ≡ Framed f) (h : Headed file other f) where
   alike : SameHeader file other f
-  alike = record { size = h .size; same = λ k m l. h .head k m }
+  alike = record { size = h .size; same = λ k m l. h .head k m; after = h .after }
 
   pub frame-same : framingOf other ≡ Framed f
   frame-same = frame-alike file other f framed alike
@@ -191,5 +225,5 @@ module _ (file other : List ℕ) (f : Layout) (framed : framingOf file ≡ Frame
   flags-same = and-under (f .full) (λ e. let l = before-points file f framed .long e in rw (h .head 17 (omega arith), h .head 22 (omega arith), h .head 23 (omega arith)))
 
   -- a file with this header is ruled on by it, and then by its own points
-  pub carried : (room : ℕ) → rulingOf other room ≡ ruled refused (rulingFor (settingsOf file f) (pointsIn other (f .points) (f .count))) (headerRefusals file room (Framed f))
+  pub carried : (room : ℕ) → rulingOf other room ≡ ruled refused (rulingFor (settingsOf file f) (pointsIn other f)) (headerRefusals file room (Framed f))
   carried room = carried-alike file other f framed alike flags-same room ∙ rw settings-same

@@ -10,3 +10,4 @@ pub mod MovedFile
 pub mod Switches
 pub mod Limit
 pub mod Board
+pub mod Weights

@@ -1,27 +1,31 @@
 -- The limit of points: it is as `LimitPromise` says of every file and buffer; and sheets at the limit, above it, of the most points that
 -- can be framed, and of one more. Assumes nothing.
 use mathlib.Core.Path.{_≡_, refl, sym, _∙_}
-use mathlib.Core.Bool.{Bool, true, false, true≢false}
-use mathlib.Core.Logic.{inr}
-use mathlib.Core.List.{List, [], _∷_, _++_}
+use mathlib.Core.Bool.{Bool, true, false, cond, not, _&&_, true≢false}
+use mathlib.Core.Logic.{inl, inr}
+use mathlib.Core.List.{List, [], _∷_, _++_, append-nil}
 use Prim.Native.Nat.{ℕ, zero, suc, _+_, _*_, _/_, _%_, _≤_, _<_}
 use native.Mathlib.Omega.{arith}
 use lib.ListN.{length, getD, replicate, length-replicate}
 use lib.Seq.{getD-append-add}
-use borrow.Author.Tests.{lt-ltb, ltb-true}
+use lib.Dec.{eqb}
+use borrow.Author.Tests.{lt-ltb, ltb-true, eq-eqb, eqb-true}
 use Rattle.folds.specs.Lists.{All}
+use Rattle.folds.proofs.Below.{not-false}
+use Rattle.refusals.proofs.Laws.{neither-holds}
 use Rattle.folds.proofs.Column.{replicate-at}
 use Rattle.view.specs.View.{maxPoints}
 use Rattle.sheet_file.specs.Bytes.{Bytes, byteAt, le16}
 use Rattle.sheet_file.specs.Frame.{layoutOf}
 use Rattle.sheet_file.specs.Grammar.{absent, WellFramed, mostRecords}
-use Rattle.sheet_file.specs.Refusals.{misframed}
+use Rattle.sheet_file.specs.Refusals.{misframed, misfit}
 use Rattle.sheet_file.specs.declared.Layout.{Layout}
-use Rattle.sheet_file.proofs.Fields.{is-framed, field-in, GateAt, gate-there, gate-absent, Fields, full-settings, short-settings, fields-of, PointsAt, points-in}
-use Rattle.sheet_file.proofs.Grammar.{well-framed, points-counted, accepted-well}
+use Rattle.sheet_file.proofs.Fields.{is-framed, field-in, StrengthsAt, strengths-there, strengths-absent, GateAt, gate-there, gate-absent, Fields, full-settings, short-settings, fields-of, PointsAt, points-in}
+use Rattle.sheet_file.proofs.Words.{le16-small}
+use Rattle.sheet_file.proofs.Grammar.{well-framed, points-counted, weights-counted, accepted-well}
 use Rattle.sheet_file.proofs.Longest.{most-points}
 use Rattle.ruling.specs.Ruling.{refused, rulingOf, applies}
-use Rattle.ruling.specs.Limit.{pointCount, Passes, LimitPromise, shortSheet, zeroSheet}
+use Rattle.ruling.specs.Limit.{pointCount, WeightsFit, Passes, LimitPromise, shortSheet, zeroSheet}
 use Rattle.ruling.proofs.Given.{given, is-given}
 
 -- ---- every file
@@ -35,10 +39,41 @@ module _ (file : List ℕ) (room : ℕ) where
   unfolding applies
   framed-not-one w e = true≢false (sym (is-given file room 1 e .holding) ∙ well-framed file w)
 
-  -- more points than the limit, whatever else is wrong with the file and however short the buffer
-  pub more-refused : (w : WellFramed file) → maxPoints < pointCount w → rulingOf file room ≡ refused 2
+  -- a tag 4 that fits, or none
+  pub fits : (w : WellFramed file) → WeightsFit w → misfit (layoutOf file) ≡ false
+  fits w o = go (layoutOf file .weighed) (weights-counted file w) o
+    where
+      n : ℕ
+      n = layoutOf file .«strengths_len»
+
+      go : (b : Bool) → cond b (3 + n) 0 ≡ length (w .weights) → WeightsFit w → b && not (eqb n (4 + 4 * layoutOf file .count)) ≡ false
+      go true e (inl z) = absurd (omega arith)
+      go true e (inr z) = rw (eq-eqb n (4 + 4 * layoutOf file .count) (omega (arith, points-counted file w)))
+      go false e o = refl
+
+  fitting : (w : WellFramed file) → misfit (layoutOf file) ≡ false → WeightsFit w
+  fitting w m = go (layoutOf file .weighed) (weights-counted file w) m
+    where
+      n : ℕ
+      n = layoutOf file .«strengths_len»
+
+      go : (b : Bool) → cond b (3 + n) 0 ≡ length (w .weights) → b && not (eqb n (4 + 4 * layoutOf file .count)) ≡ false → WeightsFit w
+      go true e m = inr (omega (arith, eqb-true n (4 + 4 * layoutOf file .count) (not-false (eqb n (4 + 4 * layoutOf file .count)) m), points-counted file w))
+      go false e m = inl (sym e)
+
+  unfit-twelve : (w : WellFramed file) → (WeightsFit w → ⊥) → rulingOf file room ≡ refused 12
   unfolding applies
-  more-refused w l = given file room 2 (lt-ltb maxPoints (layoutOf file .count) (omega (arith, points-counted file w))) (rw (well-framed file w))
+  unfit-twelve w f = given file room 12 (go (misfit (layoutOf file)) refl) (neither-holds (well-framed file w) refl)
+    where
+      go : (b : Bool) → misfit (layoutOf file) ≡ b → b ≡ true
+      go true m = refl
+      go false m = absurd (f (fitting w m))
+
+  -- more points than the limit, whatever else is wrong with the file and however short the buffer
+  pub more-refused : (w : WellFramed file) → WeightsFit w → maxPoints < pointCount w → rulingOf file room ≡ refused 2
+  unfolding applies
+  more-refused w o l =
+      given file room 2 (lt-ltb maxPoints (layoutOf file .count) (omega (arith, points-counted file w))) (neither-holds (well-framed file w) (neither-holds (fits w o) refl))
 
   -- at most as many
   pub few-pass : (w : WellFramed file) → pointCount w ≤ maxPoints → Passes file room
@@ -54,11 +89,16 @@ module _ (file : List ℕ) (room : ℕ) where
   limit b = record {
     one = λ f. go f (misframed file) refl;
     one-only = λ e w. framed-not-one w e;
+    twelve = unfit-twelve;
+    twelve-only = λ e.
+        let g = is-given file room 12 e in
+        let w = accepted-well file b (g .earlier 1) in
+        (w, λ o. true≢false (sym (g .holding) ∙ fits w o));
     two = more-refused;
     two-only = λ e.
         let g = is-given file room 2 e in
         let w = accepted-well file b (g .earlier 1) in
-        (w, omega (arith, ltb-true maxPoints (layoutOf file .count) (g .holding), points-counted file w));
+        (w, fitting w (g .earlier 12), omega (arith, ltb-true maxPoints (layoutOf file .count) (g .holding), points-counted file w));
     passes = few-pass;
   }
     where
@@ -89,15 +129,33 @@ short-bytes p b =
 
 module _ (p : List ℕ) (n : ℕ) (size : length p ≡ 20 * n) where
   -- a two-byte length holds so many
-  pub short-framed : n ≤ mostRecords → (w : WellFramed (shortSheet p)) × (pointCount w ≡ n)
+  pub short-framed : n ≤ mostRecords → (w : WellFramed (shortSheet p)) × (pointCount w ≡ n) × (length (w .weights) ≡ 0)
   unfolding shortSheet
   short-framed l =
-      let q : length p / 256 % 256 ≡ length p / 256 = omega arith in
-      (record { settings = replicate 4 0; gate = []; points = p; settings-size = inr refl; gate-optional = absent refl; twenties = omega arith; in-order = rw q }, omega arith)
+      let q : length p / 256 % 256 ≡ length p / 256 = omega arith in (
+        record {
+          settings = replicate 4 0;
+          gate = [];
+          points = p;
+          weights = [];
+          settings-size = inr refl;
+          gate-optional = absent refl;
+          twenties = omega arith;
+          weights-optional = absent refl;
+          in-order = rw (q, append-nil p);
+        },
+        omega arith,
+        refl,
+      )
 
   short-size : length (shortSheet p) ≡ 10 + 20 * n
   unfolding shortSheet
   short-size = omega (arith, size)
+
+-- its length stands in two bytes, without what these cannot hold
+length-there : (p : List ℕ) → le16 (shortSheet p) 8 ≡ length p % 65536
+unfolding shortSheet le16
+length-there p = omega arith
 
 -- tag 3 follows on settings of length 4
 module _ (file : List ℕ) (f : Layout) (s : le16 file 1 ≡ 4) (t : byteAt file 7 ≡ 3) where
@@ -113,12 +171,19 @@ pub short-fields : (p : List ℕ) → WellFramed (shortSheet p) → PointsAt (sh
 unfolding shortSheet le16
 short-fields p w = let file = shortSheet p in points-after file (layoutOf file) refl refl (fields-of file (layoutOf file) (is-framed file (well-framed file w)))
 
+-- a length of more than two bytes, less what these hold, is no tag 4 either: it would be of 65,536 bytes, which are no twenties
+no-room : (n count len q : ℕ) → 20 * n ≡ 65536 * q + 20 * count → mostRecords < n → 20 * count < 65536 → 3 + len + 20 * count ≡ 20 * n → len < 65536 → ⊥
+no-room n count len q e l s d b = go (omega arith)
+  where
+    go : q ≡ 1 → ⊥
+    go o = let t : 20 * n ≡ 65536 + 20 * count = omega arith in omega (arith, t)
+
 module _ (p : List ℕ) (n : ℕ) (size : length p ≡ 20 * n) (room : ℕ) where
   short-pass : n ≤ maxPoints → Passes (shortSheet p) room
   short-pass l = let w = short-framed p n size (omega arith) in few-pass (shortSheet p) room (w .0) (omega (arith, w .1))
 
   short-many : maxPoints < n → n ≤ mostRecords → rulingOf (shortSheet p) room ≡ refused 2
-  short-many l m = let w = short-framed p n size m in more-refused (shortSheet p) room (w .0) (omega (arith, w .1))
+  short-many l m = let w = short-framed p n size m in more-refused (shortSheet p) room (w .0) (inl (w .2)) (omega (arith, w .1))
 
   short-unframed : Bytes p → mostRecords < n → rulingOf (shortSheet p) room ≡ refused 1
   short-unframed b l = limit (shortSheet p) room c .one no
@@ -126,9 +191,27 @@ module _ (p : List ℕ) (n : ℕ) (size : length p ≡ 20 * n) (room : ℕ) wher
       c : Bytes (shortSheet p)
       c = short-bytes p b
 
+      -- what follows the points is not tag 4, and there is something
       no : WellFramed (shortSheet p) → ⊥
-      no w =
-          omega (arith, short-size p n size, short-fields p w .ends, points-counted (shortSheet p) w, most-points (shortSheet p) c w)
+      no w = go (h .after)
+        where
+          file : List ℕ
+          file = shortSheet p
+
+          h : PointsAt file (layoutOf file) 7 false false
+          h = short-fields p w
+
+          count : ℕ
+          count = layoutOf file .count
+
+          counted : length p % 65536 ≡ 20 * count
+          counted = sym (length-there p) ∙ field-in file 7 3 (20 * count) (h .field-there) .size-is
+
+          go : StrengthsAt file (layoutOf file) (7 + 3 + 20 * count) → ⊥
+          go (strengths-there t u s e) =
+              no-room n count (layoutOf file .«strengths_len») (length p / 65536) (omega (arith, size, counted)) l (omega (arith, counted)) (omega (arith, short-size p n size))
+              (omega (arith, field-in file (7 + 3 + 20 * count) 4 (layoutOf file .«strengths_len») t .size-is, le16-small file c (7 + 3 + 20 * count + 1)))
+          go (strengths-absent u e) = omega (arith, short-size p n size, counted)
 
 -- ---- the sheet of n points of zeros, by n
 

@@ -4,21 +4,21 @@ use mathlib.Core.Path.{_≡_, sym, ap, _∙_}
 use mathlib.Core.Bool.{Bool, true, false, cond, not, _||_}
 use mathlib.Core.List.{List}
 use Prim.{Dec, yes, no}
-use Prim.Native.Nat.{ℕ, zero, suc, _+_, _-_, _*_, _/_, _%_, _^_, _<_}
+use Prim.Native.Nat.{ℕ, zero, suc, _+_, _-_, _*_, _/_, _%_, _^_, _≤_, _<_}
 use native.Mathlib.Decide.{decLt}
 use native.Mathlib.Nat.{div-div-eq-div-mul}
 use native.Mathlib.Omega.{arith}
-use lib.Dec.{ltb}
+use lib.Dec.{ltb, leb}
 use lib.IntN.{ℤ, pos, negsuc}
-use lib.ListN.{length, getD}
+use lib.ListN.{length, getD, List·getD-eq-default}
 use lib.Seq.{ext-getD}
 use mir.Syntax.{w32}
 use mir.Val.{SFits, ofZ, toZ}
 use mir.ValLaws.{toZ-ofZ, ofZ-toZ}
-use borrow.Author.Tests.{lt-ltb, le-ltb}
+use borrow.Author.Tests.{lt-ltb, le-ltb, le-leb, lt-leb}
 use Rattle.folds.specs.Among.{anyIn}
 use Rattle.folds.proofs.Among.{any-list}
-use Rattle.folds.proofs.Below.{some-no}
+use Rattle.folds.proofs.Below.{some-no, or-true}
 use Rattle.folds.proofs.Lists.{length-list, list-at, list-over}
 use Rattle.cells.specs.Points.{Point, nowhere}
 use Rattle.cells.specs.Cell.{Cell, CellInRange, cellOf, signed, within, moved}
@@ -30,12 +30,12 @@ use Rattle.sheet_file.specs.declared.Framing.the-variants.{Framed}
 use Rattle.sheet_file.specs.declared.Layout.{Layout}
 use Rattle.sheet_file.specs.declared.Settings.{Settings}
 use Rattle.sheet_file.proofs.Words.{le32-small}
-use Rattle.sheet_file.proofs.Fields.{before-points}
+use Rattle.sheet_file.proofs.Fields.{framed-held}
 use Rattle.points.specs.Records.{ithPoint, pointsIn}
 use Rattle.points.specs.Refusals.{offRange, comesBefore}
 use Rattle.points.proofs.Located.{length-points}
 use Rattle.ruling.specs.Ruling.{accepted, rulingOf, pointsOf, applies}
-use Rattle.ruling.specs.Header.{Headed}
+use Rattle.ruling.specs.Header.{pointsEnd, Headed}
 use Rattle.ruling.specs.Offset.{FileDisplaced, byteOf, movedByte, byteMoved, movedFile, StaysInRange}
 use Rattle.ruling.proofs.Header.{frame-same}
 use Rattle.ruling.proofs.Standing.{accepted-file}
@@ -109,7 +109,7 @@ module _ (file : List ℕ) (a b : ℤ) where
 
   -- the moved cell of point i
   abbrev cellAt : ℕ → Cell
-  cellAt i = moved a b (cellOf (ithPoint file (f .points) i))
+  cellAt i = moved a b (cellOf (ithPoint file f i))
 
   moved-at : (k : ℕ) → k < length file → getD other k 0 ≡ byteMoved file a b k
   unfolding movedFile
@@ -128,22 +128,32 @@ module _ (file : List ℕ) (a b : ℤ) where
       small at j = either (ltb j 4) _ _ (omega arith) (either (ltb j 8) _ _ (omega arith) (bytes (at + j)))
 
       go : Dec (k < length file) → getD other k 0 < 256
-      go (yes h) = rw (moved-at k h) (either (ltb k (f .points)) _ _ (bytes k) (small (place ((k - f .points) / 20)) ((k - f .points) % 20)))
+      go (yes h) = rw (moved-at k h) (either (ltb k (f .points) || leb (pointsEnd f) k) _ _ (bytes k) (small (place ((k - f .points) / 20)) ((k - f .points) % 20)))
       go (no h) = rw (list-over (length file) (byteMoved file a b) k 0 (omega (arith, h))) (omega arith)
 
   module _ (framed : framingOf file ≡ Framed f) where
-    head-stays : Headed file other (f .points)
+    size-stays : length other ≡ length file
     unfolding movedFile
-    head-stays = record {
-      size = length-list (length file) (byteMoved file a b);
-      head = λ k h. moved-at k (omega (arith, before-points file f framed .ends)) ∙ rw (lt-ltb k (f .points) h);
-    }
+    size-stays = length-list (length file) (byteMoved file a b)
+
+    head-stays : (k : ℕ) → k < f .points → getD other k 0 ≡ getD file k 0
+    head-stays k h = moved-at k (omega (arith, framed-held file f framed .fit)) ∙ rw (lt-ltb k (f .points) h)
+
+    after-stays : (k : ℕ) → pointsEnd f ≤ k → getD other k 0 ≡ getD file k 0
+    after-stays k h = go (decLt k (length file))
+      where
+        go : Dec (k < length file) → getD other k 0 ≡ getD file k 0
+        go (yes l) = moved-at k l ∙ rw (le-leb (pointsEnd f) k h, or-true (ltb k (f .points)))
+        go (no l) = List·getD-eq-default other 0 {n = k} (omega (arith, l, size-stays)) ∙ sym (List·getD-eq-default file 0 {n = k} (omega (arith, l)))
+
+    headed : Headed file other f
+    headed = record { size = size-stays; head = head-stays; after = λ k l m. after-stays k l }
 
     point-byte : (i j : ℕ) → i < f .count → j < 20 → getD other (place i + j) 0 ≡ movedByte file a b (place i) j
     point-byte i j h l =
         let q : (place i + j - f .points) / 20 ≡ i = omega arith in
         let r : (place i + j - f .points) % 20 ≡ j = omega arith in
-        moved-at (place i + j) (omega (arith, before-points file f framed .ends)) ∙ rw (le-ltb (place i + j) (f .points) (omega arith), q, r)
+        moved-at (place i + j) (omega (arith, framed-held file f framed .fit)) ∙ rw (le-ltb (place i + j) (f .points) (omega arith), lt-leb (pointsEnd f) (place i + j) (omega arith), q, r)
 
     u-byte : (i j : ℕ) → i < f .count → j < 4 → getD other (place i + j) 0 ≡ byteOf (cellAt i .u) j
     u-byte i j h l = point-byte i j h (omega arith) ∙ rw (lt-ltb j 4 l)
@@ -157,7 +167,7 @@ module _ (file : List ℕ) (a b : ℤ) where
     -- and no other file is the file with a added to every u and b to every v
     pub only-moved : (file′ : List ℕ) → Bytes file′ → FileDisplaced file file′ f a b → file′ ≡ other
     only-moved file′ bytes o =
-        ext-getD 0 file′ other (o .head .size ∙ sym (head-stays .size)) (λ k h. each k (omega (arith, o .head .size)) (decLt k (f .points)))
+        ext-getD 0 file′ other (o .size ∙ sym size-stays) (λ k h. each k (decLt k (f .points)) (decLt k (pointsEnd f)))
       where
         byte : (i j : ℕ) → i < f .count → j < 20 → Dec (j < 4) → Dec (j < 8) → getD file′ (place i + j) 0 ≡ movedByte file a b (place i) j
         byte i j h l (yes u) e = rw (lt-ltb j 4 u) (byte-of file′ (place i) (cellAt i .u) bytes (ap (λ (c : Cell). c .u) (o .cell i h)) j u)
@@ -167,18 +177,19 @@ module _ (file : List ℕ) (a b : ℤ) where
             (byte-of file′ (place i + 4) (cellAt i .v) bytes (ap (λ (c : Cell). c .v) (o .cell i h)) (j - 4) (omega arith))
         byte i j h l (no u) (no v) = rw (le-ltb j 4 (omega (arith, u)), le-ltb j 8 (omega (arith, v))) (o .rest i j h (omega (arith, v)) l)
 
-        each : (k : ℕ) → k < length file → Dec (k < f .points) → getD file′ k 0 ≡ getD other k 0
-        each k h (yes l) = o .head .head k l ∙ sym (head-stays .head k l)
-        each k h (no l) =
+        each : (k : ℕ) → Dec (k < f .points) → Dec (k < pointsEnd f) → getD file′ k 0 ≡ getD other k 0
+        each k (yes l) d = o .head k l ∙ sym (head-stays k l)
+        each k (no l) (no m) = o .after k (omega (arith, m)) ∙ sym (after-stays k (omega (arith, m)))
+        each k (no l) (yes m) =
             let i = (k - f .points) / 20 in
             let j = (k - f .points) % 20 in
             let e : k ≡ place i + j = omega (arith, l) in
-            let hi : i < f .count = omega (arith, l, before-points file f framed .ends) in
+            let hi : i < f .count = omega (arith, l, m) in
             let hj : j < 20 = omega arith in
             rw e (byte i j hi hj (decLt j 4) (decLt j 8) ∙ sym (point-byte i j hi hj))
 
     module _ (in-range : (i : ℕ) → i < f .count → CellInRange (cellAt i)) where
-      cell-moved : (i : ℕ) → i < f .count → cellOf (ithPoint other (f .points) i) ≡ cellAt i
+      cell-moved : (i : ℕ) → i < f .count → cellOf (ithPoint other f i) ≡ cellAt i
       cell-moved i h =
           let u = read-back other (place i) (cellAt i .u) (in-range i h .u) (λ j l. u-byte i j h l) in
           let v = read-back other (place i + 4) (cellAt i .v) (in-range i h .v) (λ j l. v-byte i j h l) in
@@ -186,7 +197,9 @@ module _ (file : List ℕ) (a b : ℤ) where
 
       offset-by : FileDisplaced file other f a b
       offset-by = record {
+        size = size-stays;
         head = head-stays;
+        after = after-stays;
         cell = cell-moved;
         rest = λ i j h l m. point-byte i j h m ∙ rw (le-ltb j 4 (omega arith), le-ltb j 8 l);
       }
@@ -196,10 +209,10 @@ module _ (file : List ℕ) (a b : ℤ) where
       unfolding applies pointsIn
       six-fails room =
           let off : Cell → Bool = λ c. not (within (c .u)) || not (within (c .v)) in
-          let same : layoutOf other ≡ f = ap layoutIn (frame-same file other f framed head-stays) in
-          ap (λ (g : Layout). anyIn offRange (pointsIn other (g .points) (g .count))) same
-          ∙ any-list (ithPoint other (f .points)) (f .count) offRange
-          ∙ some-no (λ (i : ℕ). offRange (ithPoint other (f .points) i)) (f .count) (λ i h. ap off (cell-moved i h) ∙ rw (in-range i h .u, in-range i h .v))
+          let same : layoutOf other ≡ f = ap layoutIn (frame-same file other f framed headed) in
+          ap (λ (g : Layout). anyIn offRange (pointsIn other g)) same
+          ∙ any-list (ithPoint other f) (f .count) offRange
+          ∙ some-no (λ (i : ℕ). offRange (ithPoint other f i)) (f .count) (λ i h. ap off (cell-moved i h) ∙ rw (in-range i h .u, in-range i h .v))
 
   -- ---- of an accepted file
 
@@ -208,9 +221,9 @@ module _ (file : List ℕ) (a b : ℤ) where
     unfolding pointsIn
     each-in-range i h =
         let are = accepted-file file room s ps e .points-are in
-        let at = sorted-has comesBefore nowhere (pointsOf file) i (omega (arith, length-points file (f .points) (f .count))) in
-        let listed = list-at (f .count) (ithPoint file (f .points)) i nowhere h in
-        let same : getD ps (at .place) nowhere ≡ ithPoint file (f .points) i = ap (λ (l : List Point). getD l (at .place) nowhere) are ∙ sym (at .is) ∙ listed in
+        let at = sorted-has comesBefore nowhere (pointsOf file) i (omega (arith, length-points file f)) in
+        let listed = list-at (f .count) (ithPoint file f) i nowhere h in
+        let same : getD ps (at .place) nowhere ≡ ithPoint file f i = ap (λ (l : List Point). getD l (at .place) nowhere) are ∙ sym (at .is) ∙ listed in
         rw same at (in-range (at .place) (omega (arith, at .below, ap length are)))
 
     pub moved-offset : FileDisplaced file other f a b

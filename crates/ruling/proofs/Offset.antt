@@ -1,7 +1,7 @@
 -- Accepted points that are moved, their cells staying in range, are accepted with the same settings, and in cell order they are the old ones
 -- moved: of a list of points, and of a file. Assumes nothing.
 use mathlib.Core.Path.{_≡_, refl, sym, ap, _∙_}
-use mathlib.Core.Bool.{Bool, false}
+use mathlib.Core.Bool.{Bool, true, false, cond}
 use mathlib.Core.List.{List, map}
 use Prim.{Dec, yes, no}
 use Prim.Native.Nat.{ℕ, _+_, _*_, _≤_, _<_}
@@ -22,17 +22,20 @@ use Rattle.sort.specs.Sorted.{sort}
 use Rattle.sort.proofs.Sorted.{sort-all, all-at}
 use Rattle.grid.specs.Moved.{Moved}
 use Rattle.sheet_file.specs.Bytes.{Bytes, le32}
-use Rattle.sheet_file.specs.Frame.{layoutOf}
+use Rattle.sheet_file.specs.Frame.{framingOf, layoutOf}
 use Rattle.sheet_file.specs.Refusals.{settingsOf, headerRefusals}
+use Rattle.sheet_file.specs.declared.Fraction.{Fraction}
 use Rattle.sheet_file.specs.declared.Framing.the-variants.{Framed}
 use Rattle.sheet_file.specs.declared.Layout.{Layout}
 use Rattle.sheet_file.specs.declared.Settings.{Settings}
 use Rattle.sheet_file.proofs.Words.{le32-same}
-use Rattle.points.specs.Records.{ithPoint, pointsIn}
-use Rattle.points.specs.Refusals.{pointRefusals, offRange, offLimit, sameCell, twoPositions, cellOrder, comesBefore}
+use Rattle.sheet_file.proofs.Fields.{before-points, strengths-after}
+use Rattle.points.specs.Records.{ithStrength, ithPoint, pointsIn}
+use Rattle.points.specs.Refusals.{pointRefusals, offRange, offLimit, offStrength, sameCell, twoPositions, twoStrengths, cellOrder, comesBefore}
 use Rattle.points.proofs.Clashes.{Ranged, cells-by-key}
 use Rattle.points.proofs.Located.{length-points}
 use Rattle.ruling.specs.Ruling.{refused, accepted, rulingFor, rulingOf}
+use Rattle.ruling.specs.Header.{pointsEnd, Headed}
 use Rattle.ruling.specs.Offset.{Displaced, AllDisplaced, FileDisplaced, MovedAlong}
 use Rattle.ruling.proofs.Given.{for-accepted, in-file}
 use Rattle.ruling.proofs.Header.{carried}
@@ -71,7 +74,7 @@ module _ (a b : ℤ) (ps qs : List Point) (o : AllDisplaced a b ps qs) (wp : All
   ranged-new i h = all-at Ranged nowhere qs (all-in-range qs wq in-range) i (omega (arith, o .size))
 
   point-moved : (i : ℕ) → i < n → Moved a b (old i) (new i)
-  point-moved i h = let d = o .each i h in record { old = ranged-old i h .cell; new = ranged-new i h .cell; cell = d .cell; index = d .index; x = d .x; y = d .y }
+  point-moved i h = let d = o .each i h in record { old = ranged-old i h .cell; new = ranged-new i h .cell; cell = d .cell; index = d .index; x = d .x; y = d .y; strength = d .strength }
 
   key-is-moved : (i : ℕ) → i < n → keyOf (new i) + keyDown a b ≡ keyOf (old i) + keyUp a b
   key-is-moved i h = let m = point-moved i h in key-moved a b (old i) (new i) (m .old) (m .new) (m .cell)
@@ -85,6 +88,9 @@ module _ (a b : ℤ) (ps qs : List Point) (o : AllDisplaced a b ps qs) (wp : All
   limit-same : anyIn offLimit qs ≡ anyIn offLimit ps
   limit-same = any-stays offLimit (λ i h. let m = point-moved i h in rw (m .x, m .y))
 
+  strengths-same : anyIn offStrength qs ≡ anyIn offStrength ps
+  strengths-same = any-stays offStrength (λ i h. rw (point-moved i h .strength))
+
   cells-same : pairIn sameCell qs ≡ pairIn sameCell ps
   cells-same =
       pair-stays sameCell
@@ -96,9 +102,12 @@ module _ (a b : ℤ) (ps qs : List Point) (o : AllDisplaced a b ps qs) (wp : All
   positions-same : pairIn twoPositions qs ≡ pairIn twoPositions ps
   positions-same = pair-stays twoPositions (λ i j h l. let m = point-moved i h in let k = point-moved j l in rw (m .index, k .index, m .x, k .x, m .y, k .y))
 
-  refusals-same : pointRefusals qs ≡ pointRefusals ps
+  two-strengths-same : pairIn twoStrengths qs ≡ pairIn twoStrengths ps
+  two-strengths-same = pair-stays twoStrengths (λ i j h l. let m = point-moved i h in let k = point-moved j l in rw (m .index, k .index, m .strength, k .strength))
+
+  refusals-same : (x : Fraction) → pointRefusals x qs ≡ pointRefusals x ps
   unfolding pointRefusals
-  refusals-same = rw (ok, in-range, limit-same, cells-same, positions-same)
+  refusals-same x = rw (ok, in-range, limit-same, strengths-same, cells-same, positions-same, two-strengths-same)
 
   -- the firstNumbers of the points in cell order, which is that of both lists
   abbrev first : ℕ → ℕ → Bool
@@ -137,10 +146,11 @@ pub displaced : (a b : ℤ) (s t : Settings) (ps qs rs : List Point) → AllDisp
 unfolding rulingFor
 displaced a b s t ps qs rs o wp wq in-range e =
     let k = for-accepted s t ps rs e in
-    let ok = none-apart ps wp (k .0) .in-range in
+    let x = s .«score_frac» in
+    let ok = none-apart x ps wp (k .0) .in-range in
     let q : rs ≡ cellOrder ps = cc (k .1) in
     let u : s ≡ t = cc (k .1) in
-    let r : rulingFor s qs ≡ accepted s (cellOrder qs) = ap (ruled refused (accepted s (cellOrder qs))) (refusals-same a b ps qs o wp wq ok in-range) ∙ none-passes refused (accepted s (cellOrder qs)) (pointRefusals ps) (k .0) in
+    let r : rulingFor s qs ≡ accepted s (cellOrder qs) = ap (ruled refused (accepted s (cellOrder qs))) (refusals-same a b ps qs o wp wq ok in-range x) ∙ none-passes refused (accepted s (cellOrder qs)) (pointRefusals x ps) (k .0) in
     record {
       points = cellOrder qs;
       ruling = rw (← u) r;
@@ -156,36 +166,50 @@ module _ (file other : List ℕ) (f : Layout) (a b : ℤ) (o : FileDisplaced fil
       le32-same file (f .points + 20 * i + j) other (f .points + 20 * i + j)
       (λ k b. let e : f .points + 20 * i + j + k ≡ f .points + 20 * i + (j + k) = omega arith in rw e (o .rest i (j + k) h (omega arith) (omega arith)))
 
-  record-moved : (i : ℕ) → i < f .count → Displaced a b (ithPoint file (f .points) i) (ithPoint other (f .points) i)
-  record-moved i h = record {
+  headed : Headed file other f
+  headed = record { size = o .size; head = o .head; after = λ k l m. o .after k l }
+
+  strength-stays : framingOf file ≡ Framed f → (i : ℕ) → ithStrength other f i ≡ ithStrength file f i
+  strength-stays framed i = go (f .weighed) (λ w. strengths-after file f w (before-points file f framed))
+    where
+      at : ℕ
+      at = f .strengths + 4 + 4 * i
+
+      go : (b : Bool) → (b ≡ true → pointsEnd f ≤ f .strengths) → cond b (le32 other at) 0 ≡ cond b (le32 file at) 0
+      go true s = let l = s refl in le32-same file at other at (λ k m. o .after (at + k) (omega arith))
+      go false s = refl
+
+  record-moved : framingOf file ≡ Framed f → (i : ℕ) → i < f .count → Displaced a b (ithPoint file f i) (ithPoint other f i)
+  record-moved framed i h = record {
     cell = o .cell i h;
     index = word-stays i 8 h (omega arith) (omega arith);
     x = word-stays i 12 h (omega arith) (omega arith);
     y = word-stays i 16 h (omega arith) (omega arith);
+    strength = strength-stays framed i;
   }
 
-  all-displaced : AllDisplaced a b (pointsIn file (f .points) (f .count)) (pointsIn other (f .points) (f .count))
+  all-displaced : framingOf file ≡ Framed f → AllDisplaced a b (pointsIn file f) (pointsIn other f)
   unfolding pointsIn
-  all-displaced = record {
-    size = length-points other (f .points) (f .count) ∙ sym (length-points file (f .points) (f .count));
+  all-displaced framed = record {
+    size = length-points other f ∙ sym (length-points file f);
     each = λ i h.
-        let l : i < f .count = omega (arith, length-points file (f .points) (f .count)) in
-        rw (list-at (f .count) (ithPoint file (f .points)) i nowhere l, list-at (f .count) (ithPoint other (f .points)) i nowhere l) (record-moved i l);
+        let l : i < f .count = omega (arith, length-points file f) in
+        rw (list-at (f .count) (ithPoint file f) i nowhere l, list-at (f .count) (ithPoint other f) i nowhere l) (record-moved framed i l);
   }
 
 pub offset : (file other : List ℕ) (a b : ℤ) → Bytes file → Bytes other → FileDisplaced file other (layoutOf file) a b
-    → anyIn offRange (pointsIn other (layoutOf file .points) (layoutOf file .count)) ≡ false
+    → anyIn offRange (pointsIn other (layoutOf file)) ≡ false
     → (room : ℕ) (s : Settings) (ps : List Point) → rulingOf file room ≡ accepted s ps → MovedAlong (rulingOf other room) a b s ps
 offset file other a b bf bo o in-range room s ps e =
     let f = layoutOf file in
-    let old = pointsIn file (f .points) (f .count) in
-    let new = pointsIn other (f .points) (f .count) in
+    let old = pointsIn file f in
+    let new = pointsIn other f in
     let k = accepted-file file room s ps e in
     let fine = rw (k .framed) at (in-file file room e .0) in
-    let m = displaced a b (settingsOf file f) s old new ps (all-displaced file other f a b o) (words-in file (f .points) (f .count) bf) (words-in other (f .points) (f .count) bo) in-range (k .ruled-so) in
+    let m = displaced a b (settingsOf file f) s old new ps (all-displaced file other f a b o (k .framed)) (words-in file f bf) (words-in other f bo) in-range (k .ruled-so) in
     record {
       points = m .points;
-      ruling = carried file other f (k .framed) (o .head) room ∙ none-passes refused (rulingFor (settingsOf file f) new) (headerRefusals file room (Framed f)) fine ∙ m .ruling;
+      ruling = carried file other f (k .framed) (headed file other f a b o) room ∙ none-passes refused (rulingFor (settingsOf file f) new) (headerRefusals file room (Framed f)) fine ∙ m .ruling;
       size = m .size;
       along = m .along;
     }

@@ -1,10 +1,10 @@
 -- Points that are accepted stand in cell order: all in range, no two in one cell; of a list of points, and of a file. Assumes nothing.
 use mathlib.Core.Path.{_≡_, refl, sym, ap, _∙_}
-use mathlib.Core.Bool.{Bool, true, false, true≢false}
+use mathlib.Core.Bool.{Bool, true, false, cond, true≢false}
 use mathlib.Core.List.{List, [], _∷_, List·Permᴰ}
 use mathlib.Core.Logic.{_⊎_, inl, inr}
 use Prim.{Dec, yes, no}
-use Prim.Native.Nat.{ℕ, zero, suc, _^_, _≤_, _<_}
+use Prim.Native.Nat.{ℕ, zero, suc, _+_, _*_, _^_, _≤_, _<_}
 use native.Mathlib.Decide.{decLt}
 use native.Mathlib.Omega.{arith}
 use lib.ListN.{length, getD}
@@ -23,16 +23,17 @@ use Rattle.sort.specs.Sorted.{sort, Rises}
 use Rattle.sort.proofs.Sorted.{At, all-at, at-all, sort-perm, sort-length, sort-all, sort-rises, TotalOrder, by-key, order-free}
 use Rattle.grid.specs.InOrder.{CellOrder}
 use Rattle.grid.proofs.InOrder.{order-by-keys}
-use Rattle.sheet_file.specs.Bytes.{Bytes}
+use Rattle.sheet_file.specs.Bytes.{Bytes, le32}
 use Rattle.sheet_file.specs.Frame.{framingOf, layoutOf}
-use Rattle.sheet_file.specs.Refusals.{settingsOf}
+use Rattle.sheet_file.specs.Refusals.{settingsOf, misfit}
+use Rattle.sheet_file.specs.declared.Fraction.{Fraction}
 use Rattle.sheet_file.specs.declared.Framing.the-variants.{Framed}
 use Rattle.sheet_file.specs.declared.Layout.{Layout}
 use Rattle.sheet_file.specs.declared.Settings.{Settings}
 use Rattle.sheet_file.proofs.Words.{le32-small}
 use Rattle.sheet_file.proofs.Fields.{is-framed}
-use Rattle.points.specs.Records.{ithPoint, pointsIn}
-use Rattle.points.specs.Refusals.{pointRefusals, offRange, offLimit, sameCell, cellOrder, comesBefore}
+use Rattle.points.specs.Records.{ithStrength, ithPoint, pointsIn}
+use Rattle.points.specs.Refusals.{pointRefusals, offRange, offLimit, offStrength, offFraction, sameCell, cellOrder, comesBefore}
 use Rattle.points.proofs.Neighbours.{eqb-swap}
 use Rattle.points.proofs.Clashes.{Ranged, ranged, cells-by-key}
 use Rattle.points.proofs.Located.{length-points}
@@ -68,13 +69,14 @@ cell-either-way p q = rw (eqb-swap (p .u) (q .u), eqb-swap (p .v) (q .v))
 
 -- ---- of a list of points
 
--- "each point is u i32, v i32, index u32, x f32, y f32": its words are patterns of 32 bits
+-- "each point is u i32, v i32, index u32, x f32, y f32"; "one strength f32 per point": its words are patterns of 32 bits
 pub record Words (p : Point) : Type 0 where
   pub u : p .u < 2 ^ 32
   pub v : p .v < 2 ^ 32
   pub index : p .index < 2 ^ 32
   pub x : p .x < 2 ^ 32
   pub y : p .y < 2 ^ 32
+  pub strength : p .strength < 2 ^ 32
 
 pub all-in-range : (ps : List Point) → All Words ps → anyIn offRange ps ≡ false → All Ranged ps
 all-in-range [] h e = tt
@@ -150,46 +152,63 @@ in-cell-order ps h few =
     omega (arith, ltb-false (keyOf (getD (cellOrder ps) j nowhere)) (keyOf (getD (cellOrder ps) i nowhere)) (rises-at comesBefore nowhere (cellOrder ps) (sorted-rises ps h) i j ij jn), different (cellOrder ps) o i j ij jn))
 
 -- where no number applies, they are so
-pub none-apart : (ps : List Point) → All Words ps → anyIn holds (pointRefusals ps) ≡ false → Apart ps
+pub none-apart : (x : Fraction) (ps : List Point) → All Words ps → anyIn holds (pointRefusals x ps) ≡ false → Apart ps
 unfolding pointRefusals
-none-apart ps h e = let no = none-applies-in (pointRefusals ps) e in record { words = h; in-range = no 6; apart = no 8 }
+none-apart x ps h e = let no = none-applies-in (pointRefusals x ps) e in record { words = h; in-range = no 6; apart = no 8 }
 
-in-limit : (ps : List Point) → anyIn holds (pointRefusals ps) ≡ false → anyIn offLimit ps ≡ false
+in-limit : (x : Fraction) (ps : List Point) → anyIn holds (pointRefusals x ps) ≡ false → (anyIn offLimit ps ≡ false) × (anyIn offStrength ps ≡ false)
 unfolding pointRefusals
-in-limit ps e = none-applies-in (pointRefusals ps) e 7
+in-limit x ps e = let no = none-applies-in (pointRefusals x ps) e in (no 7, or-none (offFraction x) (anyIn offStrength ps) (no 13) .1)
 
--- what accepted points are: "in cell order", no position off the limit
+-- what accepted points are: "in cell order", no position and no strength off the limit
 pub record Sound (ps : List Point) : Type 0 where
   pub order : CellOrder ps
   pub limits : (k : ℕ) → k < length ps → offLimit (getD ps k nowhere) ≡ false
+  pub strengths : (k : ℕ) → k < length ps → offStrength (getD ps k nowhere) ≡ false
   pub words : (k : ℕ) → k < length ps → Words (getD ps k nowhere)
+
+-- a fault that no point has, none has in cell order
+none-sorted : (t : Point → Bool) (ps : List Point) → anyIn t ps ≡ false → (k : ℕ) → k < length (cellOrder ps) → t (getD (cellOrder ps) k nowhere) ≡ false
+none-sorted t ps e = all-at (λ (p : Point). t p ≡ false) nowhere (cellOrder ps) (none-in t (cellOrder ps) (sym (any-order t (sort-perm comesBefore ps)) ∙ e))
 
 pub sound-for : (s t : Settings) (ps qs : List Point) → All Words ps → length ps ≤ maxPoints → rulingFor s ps ≡ accepted t qs → Sound qs
 sound-for s t ps qs h few e =
     let k = for-accepted s t ps qs e in
     let q : qs ≡ cellOrder ps = cc (k .1) in
+    let x = s .«score_frac» in
     rw q
     (record {
-      order = in-cell-order ps (none-apart ps h (k .0)) few;
-      limits = all-at (λ (p : Point). offLimit p ≡ false) nowhere (cellOrder ps) (none-in offLimit (cellOrder ps) (sym (any-order offLimit (sort-perm comesBefore ps)) ∙ in-limit ps (k .0)));
+      order = in-cell-order ps (none-apart x ps h (k .0)) few;
+      limits = none-sorted offLimit ps (in-limit x ps (k .0) .0);
+      strengths = none-sorted offStrength ps (in-limit x ps (k .0) .1);
       words = all-at Words nowhere (cellOrder ps) (sort-all comesBefore Words ps h);
     })
 
 -- ---- of a file
 
-pub words-in : (file : List ℕ) (at n : ℕ) → Bytes file → All Words (pointsIn file at n)
+strength-small : (file : List ℕ) (f : Layout) (i : ℕ) → Bytes file → ithStrength file f i < 2 ^ 32
+strength-small file f i b = go (f .weighed)
+  where
+    go : (t : Bool) → cond t (le32 file (f .strengths + 4 + 4 * i)) 0 < 2 ^ 32
+    go true = le32-small file b _
+    go false = omega arith
+
+pub words-in : (file : List ℕ) (f : Layout) → Bytes file → All Words (pointsIn file f)
 unfolding pointsIn
-words-in file at n b =
-    at-all Words nowhere (listOf n (ithPoint file at))
-    (λ k l. rw (list-at n (ithPoint file at) k nowhere (omega (arith, length-list n (ithPoint file at)))) (record { u = le32-small file b _; v = le32-small file b _; index = le32-small file b _; x = le32-small file b _; y = le32-small file b _ }))
+words-in file f b =
+    at-all Words nowhere (listOf (f .count) (ithPoint file f))
+    (λ k l.
+    rw (list-at (f .count) (ithPoint file f) k nowhere (omega (arith, length-list (f .count) (ithPoint file f))))
+    (record { u = le32-small file b _; v = le32-small file b _; index = le32-small file b _; x = le32-small file b _; y = le32-small file b _; strength = strength-small file f k b }))
 
 -- what an accepted ruling says
 pub record AcceptedFile (file : List ℕ) (f : Layout) (s : Settings) (ps : List Point) : Type 0 where
   pub framed : framingOf file ≡ Framed f
+  pub fits : misfit f ≡ false
   pub few : f .count ≤ maxPoints
   pub settings-are : s ≡ settingsOf file f
-  pub points-are : ps ≡ cellOrder (pointsIn file (f .points) (f .count))
-  pub ruled-so : rulingFor (settingsOf file f) (pointsIn file (f .points) (f .count)) ≡ accepted s ps
+  pub points-are : ps ≡ cellOrder (pointsIn file f)
+  pub ruled-so : rulingFor (settingsOf file f) (pointsIn file f) ≡ accepted s ps
   pub size : length ps ≡ f .count
 
 pub accepted-file : (file : List ℕ) (room : ℕ) (s : Settings) (ps : List Point) → rulingOf file room ≡ accepted s ps → AcceptedFile file (layoutOf file) s ps
@@ -200,18 +219,19 @@ accepted-file file room s ps e =
     let p : ps ≡ cellOrder (pointsOf file) = cc q in
     record {
       framed = is-framed file (no 1);
+      fits = no 12;
       few = ltb-false maxPoints (layoutOf file .count) (no 2);
       settings-are = cc q;
       points-are = p;
       ruled-so = in-file file room e .1;
-      size = ap length p ∙ sort-length comesBefore (pointsOf file) ∙ length-points file (layoutOf file .points) (layoutOf file .count);
+      size = ap length p ∙ sort-length comesBefore (pointsOf file) ∙ length-points file (layoutOf file);
     }
 
 pub sound : (file : List ℕ) (room : ℕ) (s : Settings) (ps : List Point) → Bytes file → rulingOf file room ≡ accepted s ps → Sound ps
 sound file room s ps b e =
     let f = layoutOf file in
     let k = accepted-file file room s ps e in
-    sound-for (settingsOf file f) s (pointsOf file) ps (words-in file (f .points) (f .count) b) (omega (arith, k .few, length-points file (f .points) (f .count))) (k .ruled-so)
+    sound-for (settingsOf file f) s (pointsOf file) ps (words-in file f b) (omega (arith, k .few, length-points file f)) (k .ruled-so)
 
 -- "in cell order": the points of an accepted file are ready for the tables of the grid
 pub accepted-order : (file : List ℕ) (room : ℕ) (s : Settings) (ps : List Point) → Bytes file → rulingOf file room ≡ accepted s ps → CellOrder ps

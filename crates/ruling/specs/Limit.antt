@@ -3,7 +3,8 @@
 use mathlib.Core.Path.{_≡_}
 use mathlib.Core.Bool.{cond}
 use mathlib.Core.List.{List, _∷_, _++_}
-use Prim.Native.Nat.{ℕ, _*_, _/_, _%_, _≤_, _<_}
+use mathlib.Core.Logic.{_⊎_}
+use Prim.Native.Nat.{ℕ, _+_, _*_, _/_, _%_, _≤_, _<_}
 use lib.Dec.{eqb}
 use lib.ListN.{length, replicate}
 use Rattle.folds.specs.Lists.{listOf}
@@ -15,18 +16,25 @@ use Rattle.ruling.specs.Ruling.{refused, rulingOf}
 abbrev pub pointCount : {file : List ℕ} → WellFramed file → ℕ
 pointCount w = length (w .points) / 20
 
+-- "a tag 4 that is not 4 bytes plus 4 per point" fails for it: it has none, or one of that length, after its tag and length
+abbrev pub WeightsFit : {file : List ℕ} → WellFramed file → Type 0
+WeightsFit w = (length (w .weights) ≡ 0) ⊎ (length (w .weights) ≡ 3 + (4 + 4 * pointCount w))
+
 -- refused neither with 1 nor with 2
 pub record Passes (file : List ℕ) (room : ℕ) : Type 0 where
   pub not-one : rulingOf file room ≡ refused 1 → ⊥
   pub not-two : rulingOf file room ≡ refused 2 → ⊥
 
--- 1 is given where the file is not well framed, and only there; 2 where it is well framed with more points than the limit, and only there,
--- whatever else is wrong with it and however short the buffer
+-- 1 is given where the file is not well framed, and only there; 12 where it is well framed and its tag 4 does not fit, and only there; 2 where
+-- it is well framed with a tag 4 that fits, or none, and more points than the limit, and only there, whatever else is wrong with it and
+-- however short the buffer
 pub record LimitPromise (file : List ℕ) (room : ℕ) : Type 0 where
   pub one : (WellFramed file → ⊥) → rulingOf file room ≡ refused 1
   pub one-only : rulingOf file room ≡ refused 1 → WellFramed file → ⊥
-  pub two : (w : WellFramed file) → maxPoints < pointCount w → rulingOf file room ≡ refused 2
-  pub two-only : rulingOf file room ≡ refused 2 → (w : WellFramed file) × (maxPoints < pointCount w)
+  pub twelve : (w : WellFramed file) → (WeightsFit w → ⊥) → rulingOf file room ≡ refused 12
+  pub twelve-only : rulingOf file room ≡ refused 12 → (w : WellFramed file) × (WeightsFit w → ⊥)
+  pub two : (w : WellFramed file) → WeightsFit w → maxPoints < pointCount w → rulingOf file room ≡ refused 2
+  pub two-only : rulingOf file room ≡ refused 2 → (w : WellFramed file) × WeightsFit w × (maxPoints < pointCount w)
   pub passes : (w : WellFramed file) → pointCount w ≤ maxPoints → Passes file room
 
 -- settings of length 4 with cell size 0, and these points; their length stands in two bytes, without what these cannot hold

@@ -8,6 +8,7 @@ use Rattle.folds.specs.Arith.{zeroF}
 use Rattle.cells.specs.Points.{Point}
 use Rattle.sheet_file.specs.Refusals.{defaultsFor}
 use Rattle.sheet_file.specs.declared.EdgeGate.the-variants.{Off}
+use Rattle.sheet_file.specs.declared.Fraction.the-variants.{Missing}
 use Rattle.sheet_file.specs.declared.Settings.{Settings}
 use Rattle.points.specs.Table.{Tabled}
 use Rattle.ruling.specs.Ruling.{Ruling, refused, accepted}
@@ -20,7 +21,7 @@ numberBy (accepted s ps) = 0
 
 -- the settings; of a refused file, the defaults for cell size 0
 abbrev pub settingsBy : Ruling → Settings
-settingsBy (refused k) = defaultsFor zeroF Off
+settingsBy (refused k) = defaultsFor zeroF Off Missing
 settingsBy (accepted s ps) = s
 
 -- the points in cell order; of a refused file, none

@@ -29,4 +29,5 @@ switched s a b = record {
   «apply_wrong_label_drops» = eqb a 1;
   «apply_largest_component» = eqb b 1;
   «edge_shape» = s .«edge_shape»;
+  «score_frac» = s .«score_frac»;
 }

@@ -1,6 +1,7 @@
-// The ruling on a sheet file: a number from 1 to 9, or the settings and the points in cell order.
+// The ruling on a sheet file: the number of a refusal, or the settings and the points in cell order.
 use points::Table;
 use sheet_file::EdgeGate;
+use sheet_file::Fraction;
 use sheet_file::Header;
 use sheet_file::Reading;
 use sheet_file::Settings;
@@ -34,20 +35,21 @@ fn refused_with(table: Table) -> Sheet
     ensures { λ r. ⌜ Ruled (refused (table .number)) r ⌝ }
 {
     Sheet {
-        settings: Settings::new(0.0, EdgeGate::Off),
+        settings: Settings::new(0.0, EdgeGate::Off, Fraction::Missing),
         count: 0,
         table,
     }
 }
 
 fn read_points(file: &[u8], h: Header) -> Sheet
-    requires { ⌜ PointsFit (now file) (h .points) (h .count) ⌝ }
-    ensures { λ r. ⌜ Ruled (rulingFor (h .settings) (pointsIn (now (file .entry)) (h .points) (h .count))) r ⌝ }
+    requires { ⌜ PointsFit (now file) (h .layout) ⌝ }
+    ensures { λ r. ⌜ Ruled (rulingFor (h .settings) (pointsIn (now (file .entry)) (h .layout))) r ⌝ }
 {
-    let at = h.points;
-    let n = h.count;
+    let layout = h.layout;
+    let n = layout.count;
     let settings = h.settings;
-    let table = points::read(file, at, n);
+    let fraction = settings.score_frac;
+    let table = points::read(file, layout, fraction);
     if table.number == 0 {
         return Sheet {
             settings,

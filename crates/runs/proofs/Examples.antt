@@ -16,13 +16,13 @@ use Rattle.runs.specs.Promises.{NoneFull, SmallYield, Bounded}
 use Rattle.runs.proofs.Adding.{small-by}
 use Rattle.runs.proofs.Theorems.{order-free, from-start}
 
--- a sheet's tally: kept, validate, orientation, wrong, component
-abbrev tallied : ℕ → ℕ → ℕ → ℕ → ℕ → Yield
-tallied kept v o w c = some (v ∷ o ∷ w ∷ c ∷ kept ∷ [])
+-- a sheet's tally: kept, validate, orientation, wrong, leaf, component
+abbrev tallied : ℕ → ℕ → ℕ → ℕ → ℕ → ℕ → Yield
+tallied kept v o w l c = some (v ∷ o ∷ w ∷ l ∷ c ∷ kept ∷ [])
 
 -- a sheet that keeps so many indices, and marks none
 abbrev keeping : ℕ → Yield
-keeping n = tallied n 0 0 0 0
+keeping n = tallied n 0 0 0 0 0
 
 abbrev recordOf : List ℕ → ℕ → List ℕ → Run
 recordOf old sheets new = record { «old_sums» = old; sheets = sheets; «new_sums» = new }
@@ -55,7 +55,7 @@ unfolding full
 sum-reached = refl
 
 -- the last sum counts as the first does
-last-reached : full (recordOf [] 0 (0 ∷ 0 ∷ 0 ∷ 0 ∷ 2 ^ 31 ∷ [])) ≡ true
+last-reached : full (recordOf [] 0 (0 ∷ 0 ∷ 0 ∷ 0 ∷ 0 ∷ 2 ^ 31 ∷ [])) ≡ true
 unfolding full
 last-reached = refl
 
@@ -67,16 +67,24 @@ old-at-most = refl
 -- ---- the totals: three sheets, of which one is refused
 
 abbrev three : List Yield
-three = tallied 4 0 0 0 1 ∷ none ∷ tallied 20 3 0 2 5 ∷ []
+three = tallied 4 0 0 0 0 1 ∷ none ∷ tallied 20 3 0 2 4 5 ∷ []
 
 abbrev old : List ℕ
 old = 100 ∷ 7 ∷ 1 ∷ 0 ∷ 9 ∷ []
 
-three-totals : runOver (runFrom old) three ≡ recordOf old 2 (24 ∷ 3 ∷ 0 ∷ 2 ∷ 6 ∷ [])
+three-totals : runOver (runFrom old) three ≡ recordOf old 2 (24 ∷ 3 ∷ 0 ∷ 2 ∷ 4 ∷ 6 ∷ [])
 unfolding runOver
 three-totals = refl
 
-three-tallies : talliesIn (runFrom old) three ≡ (0 ∷ 0 ∷ 0 ∷ 1 ∷ 4 ∷ []) ∷ (3 ∷ 0 ∷ 2 ∷ 5 ∷ 20 ∷ []) ∷ []
+-- five old sums and six new ones; a sheet that keeps two indices and peels off a third
+old-and-new : newRun ≡ recordOf (0 ∷ 0 ∷ 0 ∷ 0 ∷ 0 ∷ []) 0 (0 ∷ 0 ∷ 0 ∷ 0 ∷ 0 ∷ 0 ∷ [])
+old-and-new = refl
+
+one-leaf : runOver (runFrom old) (tallied 2 0 0 0 1 0 ∷ []) ≡ recordOf old 1 (2 ∷ 0 ∷ 0 ∷ 0 ∷ 1 ∷ 0 ∷ [])
+unfolding runOver
+one-leaf = refl
+
+three-tallies : talliesIn (runFrom old) three ≡ (0 ∷ 0 ∷ 0 ∷ 0 ∷ 1 ∷ 4 ∷ []) ∷ (3 ∷ 0 ∷ 2 ∷ 4 ∷ 5 ∷ 20 ∷ []) ∷ []
 unfolding talliesIn
 three-tallies = refl
 
@@ -86,18 +94,18 @@ unfolding runOver
 three-refused = refl
 
 -- past the last sum there is nothing, though what is read there of `summed` is a place in a tally, that of validate
-past-last : getD (runOver newRun (tallied 0 1 0 0 0 ∷ []) .«new_sums») (length summed) 0 ≡ 0
+past-last : getD (runOver newRun (tallied 0 1 0 0 0 0 ∷ []) .«new_sums») (length summed) 0 ≡ 0
 unfolding runOver
 past-last = refl
 
-past-last-sum : sumIn (getD summed (length summed) 0) (talliesIn newRun (tallied 0 1 0 0 0 ∷ [])) ≡ 1
+past-last-sum : sumIn (getD summed (length summed) 0) (talliesIn newRun (tallied 0 1 0 0 0 0 ∷ [])) ≡ 1
 unfolding talliesIn sumIn
 past-last-sum = refl
 
 -- ---- another order of the sheets
 
 abbrev turned : List Yield
-turned = none ∷ tallied 20 3 0 2 5 ∷ tallied 4 0 0 0 1 ∷ []
+turned = none ∷ tallied 20 3 0 2 4 5 ∷ tallied 4 0 0 0 0 1 ∷ []
 
 three-turned : runOver (runFrom old) three ≡ runOver (runFrom old) turned
 unfolding someFull
@@ -126,7 +134,7 @@ large-first-eleven = refl
 -- ---- nothing wraps
 
 -- the largest numbers with which a record still takes a sheet, and the largest sheet
-at-limits : runWith (evenly (2 ^ 32 - 1) 65534 (2 ^ 31 - 1)) (tallied maxPoints maxPoints maxPoints maxPoints maxPoints) ≡ evenly (2 ^ 32 - 1) 65535 (2 ^ 31 - 1 + maxPoints)
+at-limits : runWith (evenly (2 ^ 32 - 1) 65534 (2 ^ 31 - 1)) (tallied maxPoints maxPoints maxPoints maxPoints maxPoints maxPoints) ≡ evenly (2 ^ 32 - 1) 65535 (2 ^ 31 - 1 + maxPoints)
 unfolding runWith
 at-limits = refl
 
@@ -143,7 +151,7 @@ no-u32 = refl
 -- ---- a run from its start on
 
 three-small : All SmallYield three
-three-small = (small-by (0 ∷ 0 ∷ 0 ∷ 1 ∷ 4 ∷ []) refl, (tt, (small-by (3 ∷ 0 ∷ 2 ∷ 5 ∷ 20 ∷ []) refl, tt)))
+three-small = (small-by (0 ∷ 0 ∷ 0 ∷ 0 ∷ 1 ∷ 4 ∷ []) refl, (tt, (small-by (3 ∷ 0 ∷ 2 ∷ 4 ∷ 5 ∷ 20 ∷ []) refl, tt)))
 
 three-bounded : Bounded (runOver (runFrom old) three)
 three-bounded = from-start .stays (runFrom old) three three-small (from-start .start old)

@@ -11,15 +11,16 @@ use Rattle.folds.specs.Among.{anyIn}
 use Rattle.folds.specs.Lists.{listOf, over}
 use Rattle.refusals.specs.First.{Refusal, ruled}
 use Rattle.view.specs.View.{maxPoints}
-use Rattle.marks.specs.Filters.{filterCount, validate, orientation, wrong, component}
+use Rattle.marks.specs.Filters.{filterCount, validate, orientation, wrong, leaf, component}
 use Rattle.runs.specs.declared.Run.{Run}
 
--- "kept and the four filters": the places in a tally whose numbers a run adds up, in the order of its sums. A tally is a list of counts of
--- indices: at the place of each filter in the table those under it, at filterCount those kept.
+-- "kept and the four filters"; "the tally and the run's new sums gain `leaf` before `component`": the places in a tally whose numbers a run
+-- adds up, in the order of its sums. A tally is a list of counts of indices: at the place of each filter in the table those under it, at
+-- filterCount those kept.
 abbrev pub summed : List ℕ
-summed = filterCount ∷ validate ∷ orientation ∷ wrong ∷ component ∷ []
+summed = filterCount ∷ validate ∷ orientation ∷ wrong ∷ leaf ∷ component ∷ []
 
--- "its five old sums": how many there are
+-- "its five old sums": how many there are, whatever is added up since
 abbrev pub oldSums : ℕ
 oldSums = 5
 

@@ -2,6 +2,7 @@
 use marks::COUNTS;
 use marks::filters::COMPONENT;
 use marks::filters::FILTERS;
+use marks::filters::LEAF;
 use marks::filters::ORIENTATION;
 use marks::filters::VALIDATE;
 use marks::filters::WRONG;
@@ -10,11 +11,11 @@ ghost use Prim.Native.Nat.{_<_};
 ghost use lib.ListN.{length, getD};
 ghost use Rattle.runs.specs.Run.{summed, runFrom, newRun, full, withSheet, Takes};
 
-// Kept and the four filters of the old count; never more.
+// Kept and the four filters that there were under the old count; never more.
 pub const OLD_SUMS: usize = 5;
 
 // Kept, and each filter whose numbers a run adds up.
-pub const NEW_SUMS: usize = 5;
+pub const NEW_SUMS: usize = 6;
 
 // A record that counts so many accepted sheets takes no more.
 pub const MOST_SHEETS: u32 = 65535;
@@ -23,7 +24,7 @@ pub const MOST_SHEETS: u32 = 65535;
 pub const SUM_LIMIT: u32 = 0x8000_0000;
 
 // The places in a tally of the numbers that a run adds up, in the order of its sums.
-const SUMMED: [usize; NEW_SUMS] = [FILTERS, VALIDATE, ORIENTATION, WRONG, COMPONENT];
+const SUMMED: [usize; NEW_SUMS] = [FILTERS, VALIDATE, ORIENTATION, WRONG, LEAF, COMPONENT];
 
 // The sums of the tallies under the old count, which counted cells; how many sheets were accepted; and the sums of their tallies, which
 // count indices.

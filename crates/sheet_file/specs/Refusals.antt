@@ -1,4 +1,4 @@
--- The settings of a sheet file, the conditions of the numbers 1 to 5, and what is read of a file and the length of a result buffer.
+-- The settings of a sheet file, the conditions of the numbers 1, 12 and 2 to 5, and what is read of a file and the length of a result buffer.
 -- Assumes nothing.
 use mathlib.Core.Path.{_≡_}
 use mathlib.Core.Bool.{Bool, true, false, cond, not, _&&_, _||_}
@@ -20,6 +20,8 @@ use Rattle.sheet_file.specs.declared.Framing.the-variants.{Framed, Misfr
 use Rattle.sheet_file.specs.declared.EdgeShapeParams.{EdgeShapeParams}
 use Rattle.sheet_file.specs.declared.EdgeGate.{EdgeGate}
 use Rattle.sheet_file.specs.declared.EdgeGate.the-variants.{Off, On}
+use Rattle.sheet_file.specs.declared.Fraction.{Fraction}
+use Rattle.sheet_file.specs.declared.Fraction.the-variants.{Missing, Outside, Given}
 use Rattle.sheet_file.specs.declared.Settings.{Settings}
 use Rattle.sheet_file.specs.declared.Header.{Header}
 use Rattle.sheet_file.specs.declared.Reading.{Reading}
@@ -32,8 +34,8 @@ floatAt file at = f32 (le32 file at)
 -- ---- the settings
 
 -- "Length 4 gives the cell size only; the rest is `ValidationParams::default` with both switches 1": 0.15, 3, 0.20, off, 0.0
-unfoldable pub defaultsFor : Float → EdgeGate → Settings
-defaultsFor cellSize gate = record {
+unfoldable pub defaultsFor : Float → EdgeGate → Fraction → Settings
+defaultsFor cellSize gate fraction = record {
   «cell_size» = cellSize;
   «line_tol_rel» = f32 0x3E19999A;
   «line_min_members» = 3;
@@ -43,12 +45,13 @@ defaultsFor cellSize gate = record {
   «apply_wrong_label_drops» = true;
   «apply_largest_component» = true;
   «edge_shape» = gate;
+  «score_frac» = fraction;
 }
 
 -- "cell size f32, line tolerance f32, line minimum u16, local tolerance f32, step flag u8, step threshold f32, wrong-label switch u8,
 -- largest-patch switch u8", from byte 3 of the file on
-unfoldable pub settingsIn : List ℕ → EdgeGate → Settings
-settingsIn file gate = record {
+unfoldable pub settingsIn : List ℕ → EdgeGate → Fraction → Settings
+settingsIn file gate fraction = record {
   «cell_size» = floatAt file 3;
   «line_tol_rel» = floatAt file 7;
   «line_min_members» = le16 file 11;
@@ -58,6 +61,7 @@ settingsIn file gate = record {
   «apply_wrong_label_drops» = eqb (byteAt file 22) 1;
   «apply_largest_component» = eqb (byteAt file 23) 1;
   «edge_shape» = gate;
+  «score_frac» = fraction;
 }
 
 -- "minimum degree u8, then f32s: least continuation cosine, largest continuation ratio, least cell cosine, largest cell ratio"
@@ -74,8 +78,15 @@ gateIn file at = record {
 unfoldable pub edgeShapeOf : List ℕ → Layout → EdgeGate
 edgeShapeOf file f = cond (f .gated) (On (gateIn file (gateStart (f .full)))) Off
 
+-- "Tag 4, optional, .. carries a fraction f32": that in its first four bytes; one that number 13 refuses is only said to be so
+abbrev pub fractionIn : Float → Fraction
+fractionIn x = cond (outside x) Outside (Given x)
+
+unfoldable pub fractionOf : List ℕ → Layout → Fraction
+fractionOf file f = cond (f .weighed) (fractionIn (floatAt file (f .strengths))) Missing
+
 unfoldable pub settingsOf : List ℕ → Layout → Settings
-settingsOf file f = cond (f .full) (settingsIn file (edgeShapeOf file f)) (defaultsFor (floatAt file 3) (edgeShapeOf file f))
+settingsOf file f = cond (f .full) (settingsIn file (edgeShapeOf file f) (fractionOf file f)) (defaultsFor (floatAt file 3) (edgeShapeOf file f) (fractionOf file f))
 
 -- ---- the conditions
 
@@ -86,6 +97,10 @@ misframing Misframed = true
 
 abbrev pub misframed : List ℕ → Bool
 misframed file = misframing (framingOf file)
+
+-- "It refuses with 12, right after 1, a tag 4 that is not 4 bytes plus 4 per point"
+abbrev pub misfit : Layout → Bool
+misfit f = f .weighed && not (eqb (f .«strengths_len») (4 + 4 * f .count))
 
 -- "2. There are more than 2,048 points"; document 02, A.4, makes it 2,304
 abbrev pub tooMany : Layout → Bool
@@ -131,6 +146,12 @@ pub record GateHeld (file : List ℕ) (at : ℕ) : Type 0 where
 pub record FloatsHeld (file : List ℕ) (f : Layout) : Type 0 where
   pub held : Held file f
   pub inside : badFloat file f ≡ false
+  pub fitting : misfit f ≡ false
+
+-- the data of a tag 4 that fits are within the file
+pub record WeightsHeld (file : List ℕ) (f : Layout) : Type 0 where
+  pub held : Held file f
+  pub fitting : misfit f ≡ false
 
 -- ---- what is read
 
@@ -139,6 +160,7 @@ unfoldable pub headerRefusals : List ℕ → ℕ → Framing → List Refusal
 headerRefusals file room x =
     let f = layoutIn x in
     (1, misframing x)
+    ∷ (12, misfit f)
     ∷ (2, tooMany f)
     ∷ (3, tooShort room f)
     ∷ (4, badFlag file f)
@@ -146,7 +168,7 @@ headerRefusals file room x =
     ∷ []
 
 abbrev pub headerOf : List ℕ → Layout → Header
-headerOf file f = record { settings = settingsOf file f; points = f .points; count = f .count }
+headerOf file f = record { settings = settingsOf file f; layout = f }
 
 -- "A call returns the first number that applies"
 unfoldable pub readingIn : List ℕ → ℕ → Framing → Reading

@@ -1,21 +1,25 @@
-// The sheet file: its fields, the refusals 1 to 5 and the settings. Any bytes are read.
+// The sheet file: its fields, the refusals 1, 12 and 2 to 5 and the settings. Any bytes are read.
 use view::MAX_POINTS;
 ghost use mathlib.Core.Path.{_≡_};
 ghost use mathlib.Core.Bool.{true, false};
-ghost use Prim.Native.Nat.{_+_, _≤_, _<_};
+ghost use Prim.Native.Nat.{_+_, _*_, _≤_, _<_};
 ghost use lib.ListN.{length};
 ghost use Rattle.folds.specs.Among.{anyIn};
+ghost use Rattle.folds.specs.Arith.{f32};
 ghost use Rattle.sheet_file.specs.Bytes.{le16, le32};
 ghost use Rattle.sheet_file.specs.Grammar.{longest};
 ghost use Rattle.sheet_file.specs.Limit.{outside};
-ghost use Rattle.sheet_file.specs.Frame.{fieldAt, endFrom, pointsFrom, gateFrom, framingOf, gateStart, Held};
-ghost use Rattle.sheet_file.specs.Refusals.{floatAt, defaultsFor, settingsIn, gateIn, edgeShapeOf, settingsOf, noFlag, badFlag, settingsFloats, gateFloats, badFloat, FloatHeld, SettingsHeld, GateHeld, FloatsHeld, readingIn, readingOf};
+ghost use Rattle.sheet_file.specs.Frame.{fieldAt, endFrom, weighedAt, unweighed, strengthsFrom, pointsFrom, gateFrom, framingOf, gateStart, Held};
+ghost use Rattle.sheet_file.specs.Refusals.{floatAt, defaultsFor, settingsIn, gateIn, edgeShapeOf, fractionOf, settingsOf, misfit, noFlag, badFlag, settingsFloats, gateFloats, badFloat, FloatHeld, SettingsHeld, GateHeld, FloatsHeld, WeightsHeld, readingIn, readingOf};
 
-// The most records of a field: the most points whose length, 20 times their number, is a two-byte number.
-const MOST_RECORDS: usize = 65535 / 20;
+// The most bytes of data of a field: its length is a two-byte number.
+const MOST_DATA: usize = 65535;
+
+// The most records of a field: the most points whose length is 20 times their number.
+const MOST_RECORDS: usize = MOST_DATA / 20;
 
 // One byte more than the longest well-framed file. The ruling on a longer file is that on its first FILE_SIZE bytes (`cut-ruling`, in ruling).
-pub const FILE_SIZE: usize = 24 + 20 + 3 + 20 * MOST_RECORDS + 1;
+pub const FILE_SIZE: usize = 24 + 20 + 3 + 20 * MOST_RECORDS + 3 + MOST_DATA + 1;
 
 // The number that the specifications use is the code's.
 pub fn file_size() -> usize
@@ -57,21 +61,36 @@ pub fn u32_at(file: &[u8], at: usize) -> u32
         + 16777216 * wide(file[at + 3])
 }
 
-// Whether the float in the four bytes from `at` on is not finite or exceeds 16,384 in magnitude. The highest bit of a pattern is the
-// sign, and 0x46800000 is the pattern of 16,384.
+// Whether the float with this pattern is not finite or exceeds 16,384 in magnitude. The highest bit of a pattern is the sign, and
+// 0x46800000 is the pattern of 16,384.
+pub fn is_outside_bits(bits: u32) -> bool
+    ensures { λ r. ⌜ r ≡ outside (f32 bits) ⌝ }
+{
+    0x4680_0000 < bits % 0x8000_0000
+}
+
+// The same of the float in the four bytes from `at` on.
 pub fn is_outside(file: &[u8], at: usize) -> bool
     requires { ⌜ at + 4 ≤ length (now file) ⌝ }
     ensures { λ r. ⌜ r ≡ outside (floatAt (now (file .entry)) at) ⌝ }
 {
-    0x4680_0000 < u32_at(file, at) % 0x8000_0000
+    is_outside_bits(u32_at(file, at))
 }
 
-// The f32 in the four bytes from `at` on, which is finite and at most 16,384 in magnitude.
+// The f32 with this pattern, which is finite and at most 16,384 in magnitude.
+pub fn float_of(bits: u32) -> f32
+    requires { ⌜ outside (f32 bits) ≡ false ⌝ }
+    ensures { λ r. ⌜ r ≡ f32 bits ⌝ }
+{
+    f32::from_bits(bits)
+}
+
+// The one in the four bytes from `at` on.
 pub fn float_at(file: &[u8], at: usize) -> f32
     requires { ⌜ FloatHeld (now file) at ⌝ }
     ensures { λ r. ⌜ r ≡ floatAt (now (file .entry)) at ⌝ }
 {
-    f32::from_bits(u32_at(file, at))
+    float_of(u32_at(file, at))
 }
 
 // ---- the settings
@@ -90,6 +109,13 @@ pub enum EdgeGate {
     On(EdgeShapeParams),
 }
 
+// The fraction of tag 4: none without that tag; one that number 13 refuses, of which no f32 is made; or the fraction.
+pub enum Fraction {
+    Missing,
+    Outside,
+    Given(f32),
+}
+
 pub struct Settings {
     pub cell_size: f32,
     pub line_tol_rel: f32,
@@ -100,6 +126,7 @@ pub struct Settings {
     pub apply_wrong_label_drops: bool,
     pub apply_largest_component: bool,
     pub edge_shape: EdgeGate,
+    pub score_frac: Fraction,
 }
 
 impl Settings {
@@ -117,9 +144,9 @@ impl Settings {
 
     pub const APPLY_LARGEST_COMPONENT: bool = true;
 
-    // The defaults for a cell size, with or without an edge-shape gate.
-    pub fn new(cell_size: f32, edge_shape: EdgeGate) -> Self
-        ensures { λ r. ⌜ r ≡ defaultsFor «cell_size» «edge_shape» ⌝ }
+    // The defaults for a cell size, with or without an edge-shape gate and a fraction.
+    pub fn new(cell_size: f32, edge_shape: EdgeGate, score_frac: Fraction) -> Self
+        ensures { λ r. ⌜ r ≡ defaultsFor «cell_size» «edge_shape» «score_frac» ⌝ }
     {
         Self {
             cell_size,
@@ -131,18 +158,23 @@ impl Settings {
             apply_wrong_label_drops: Self::APPLY_WRONG_LABEL_DROPS,
             apply_largest_component: Self::APPLY_LARGEST_COMPONENT,
             edge_shape,
+            score_frac,
         }
     }
 }
 
 // ---- the fields
 
-// Where the fields stand: whether tag 1 has length 21, whether there is a tag 2, where the points begin and how many there are.
+// Where the fields stand: whether tag 1 has length 21, whether there is a tag 2, where the points begin and how many there are, whether there
+// is a tag 4, where its data begin and how many bytes they are.
 pub struct Layout {
     pub full: bool,
     pub gated: bool,
     pub points: usize,
     pub count: usize,
+    pub weighed: bool,
+    pub strengths: usize,
+    pub strengths_len: usize,
 }
 
 pub enum Framing {
@@ -177,7 +209,52 @@ fn end_from(file: &[u8], at: usize, f: Layout) -> Framing
     Framing::Misframed
 }
 
-// Tag 3, whose length stands in its own two bytes, and then the end of the file.
+// The layout with `len` bytes of data of tag 4 from `at` on.
+fn weighed_at(f: Layout, at: usize, len: usize) -> Layout
+    ensures { λ r. ⌜ r ≡ weighedAt f at len ⌝ }
+{
+    Layout {
+        full: f.full,
+        gated: f.gated,
+        points: f.points,
+        count: f.count,
+        weighed: true,
+        strengths: at,
+        strengths_len: len,
+    }
+}
+
+// The layout without tag 4.
+fn unweighed(full: bool, gated: bool, points: usize, count: usize) -> Layout
+    ensures { λ r. ⌜ r ≡ unweighed full gated points count ⌝ }
+{
+    Layout {
+        full,
+        gated,
+        points,
+        count,
+        weighed: false,
+        strengths: 0,
+        strengths_len: 0,
+    }
+}
+
+// Tag 4, if it stands at `at`, of the length in its own two bytes, and then the end of the file.
+fn strengths_from(file: &[u8], at: usize, f: Layout) -> Framing
+    requires { ⌜ at ≤ length (now file) ⌝ }
+    ensures { λ r. ⌜ r ≡ strengthsFrom (now (file .entry)) at f ⌝ }
+{
+    if file.len() - at < 3 {
+        return end_from(file, at, f);
+    }
+    let n = view::wide(u16_at(file, at + 1));
+    if field_at(file, at, 4, n) {
+        return end_from(file, at + 3 + n, weighed_at(f, at + 3, n));
+    }
+    end_from(file, at, f)
+}
+
+// Tag 3, whose length stands in its own two bytes, and then tag 4.
 fn points_from(file: &[u8], at: usize, full: bool, gated: bool) -> Framing
     requires { ⌜ at ≤ length (now file) ⌝ }
     ensures { λ r. ⌜ r ≡ pointsFrom (now (file .entry)) at full gated ⌝ }
@@ -188,13 +265,7 @@ fn points_from(file: &[u8], at: usize, full: bool, gated: bool) -> Framing
     let n = view::wide(u16_at(file, at + 1));
     if field_at(file, at, 3, n) {
         if n % 20 == 0 {
-            let f = Layout {
-                full,
-                gated,
-                points: at + 3,
-                count: n / 20,
-            };
-            return end_from(file, at + 3 + n, f);
+            return strengths_from(file, at + 3 + n, unweighed(full, gated, at + 3, n / 20));
         }
         return Framing::Misframed;
     }
@@ -227,11 +298,10 @@ pub fn frame(file: &[u8]) -> Framing
 
 // ---- what is read
 
-// The settings, where the points begin and how many there are.
+// The settings, and where the fields stand.
 pub struct Header {
     pub settings: Settings,
-    pub points: usize,
-    pub count: usize,
+    pub layout: Layout,
 }
 
 pub enum Reading {
@@ -326,10 +396,25 @@ fn edge_shape_of(file: &[u8], f: Layout) -> EdgeGate
     EdgeGate::Off
 }
 
+// The fraction in the first four bytes of tag 4's data.
+fn fraction_of(file: &[u8], f: Layout) -> Fraction
+    requires { ⌜ WeightsHeld (now file) f ⌝ }
+    ensures { λ r. ⌜ r ≡ fractionOf (now (file .entry)) f ⌝ }
+{
+    if f.weighed {
+        let at = f.strengths;
+        if is_outside(file, at) {
+            return Fraction::Outside;
+        }
+        return Fraction::Given(float_at(file, at));
+    }
+    Fraction::Missing
+}
+
 // The settings in the 21 bytes of tag 1.
-fn settings_in(file: &[u8], gate: EdgeGate) -> Settings
+fn settings_in(file: &[u8], gate: EdgeGate, fraction: Fraction) -> Settings
     requires { ⌜ SettingsHeld (now file) ⌝ }
-    ensures { λ r. ⌜ r ≡ settingsIn (now (file .entry)) gate ⌝ }
+    ensures { λ r. ⌜ r ≡ settingsIn (now (file .entry)) gate fraction ⌝ }
 {
     Settings {
         cell_size: float_at(file, 3),
@@ -341,6 +426,7 @@ fn settings_in(file: &[u8], gate: EdgeGate) -> Settings
         apply_wrong_label_drops: file[22] == 1,
         apply_largest_component: file[23] == 1,
         edge_shape: gate,
+        score_frac: fraction,
     }
 }
 
@@ -349,17 +435,32 @@ fn settings_of(file: &[u8], f: Layout) -> Settings
     ensures { λ r. ⌜ r ≡ settingsOf (now (file .entry)) f ⌝ }
 {
     let gate = edge_shape_of(file, f);
+    let fraction = fraction_of(file, f);
     if f.full {
-        return settings_in(file, gate);
+        return settings_in(file, gate, fraction);
     }
-    Settings::new(float_at(file, 3), gate)
+    Settings::new(float_at(file, 3), gate, fraction)
 }
 
-// Refusals 2 to 5 of a file with this layout.
+// Whether tag 4 is not 4 bytes plus 4 per point.
+fn is_misfit(f: Layout) -> bool
+    requires { ⌜ 20 * f .count < 0x1_0000_0000_0000_0000 ⌝ }
+    ensures { λ r. ⌜ r ≡ misfit f ⌝ }
+{
+    if f.weighed {
+        return f.strengths_len != 4 + 4 * f.count;
+    }
+    false
+}
+
+// Refusals 12 and 2 to 5 of a file with this layout.
 fn read_framed(file: &[u8], room: usize, f: Layout) -> Reading
     requires { ⌜ Held (now file) f ⌝ }
     ensures { λ r. ⌜ r ≡ readingIn (now (file .entry)) room (Framing.Framed f) ⌝ }
 {
+    if is_misfit(f) {
+        return Reading::Refused(12);
+    }
     if MAX_POINTS < f.count {
         return Reading::Refused(2);
     }
@@ -374,12 +475,11 @@ fn read_framed(file: &[u8], room: usize, f: Layout) -> Reading
     }
     Reading::Accepted(Header {
         settings: settings_of(file, f),
-        points: f.points,
-        count: f.count,
+        layout: f,
     })
 }
 
-// The settings of a file and where its points stand, or a number from 1 to 5; `room` is the length of the result buffer.
+// The settings of a file and where its fields stand, or one of the numbers 1, 12 and 2 to 5; `room` is the length of the result buffer.
 pub fn read(file: &[u8], room: usize) -> Reading
     ensures { λ r. ⌜ r ≡ readingOf (now (file .entry)) room ⌝ }
 {

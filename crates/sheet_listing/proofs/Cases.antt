@@ -23,13 +23,13 @@ module _ (file : List ℕ) (bytes : Bytes file) (r : Sheet) (h : Ruled (rulingOf
   abbrev of : r .table .number ≡ 0 → AcceptedSheet file rowsSize r
   of z = accepted-sheet file rowsSize r h z
 
-  pub arrays : r .table .number ≡ 0 → Arrays (r .count) (r .table .keys) (r .table .x) (r .table .y)
+  pub arrays : r .table .number ≡ 0 → Arrays (r .count) (r .table .keys) (r .table .x) (r .table .y) (r .table .strength)
   arrays z = sheet-arrays file rowsSize r bytes (of z)
 
   pub few : r .table .number ≡ 0 → r .count ≤ maxPoints
   few z = sheet-few file rowsSize r bytes (of z)
 
-  pub listed : r .table .number ≡ 0 → {j : Judged} → j ≡ judgedBy (r .settings) (r .count) (r .table .keys) (r .table .idx) (r .table .x) (r .table .y) → listingOf (r .count) (cellsAt (r .table .keys)) (r .table .idx) j ≡ textOf file
+  pub listed : r .table .number ≡ 0 → {j : Judged} → j ≡ judgedBy (r .settings) (r .count) (r .table .keys) (r .table .idx) (r .table .x) (r .table .y) (r .table .strength) → listingOf (r .count) (cellsAt (r .table .keys)) (r .table .idx) j ≡ textOf file
   listed z {j} e =
       let o = of z in
       let ps = o .points in

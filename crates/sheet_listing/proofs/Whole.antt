@@ -16,7 +16,7 @@ use Rattle.cells.proofs.Keys.{key-small, cells-are}
 use Rattle.sheet_file.specs.Bytes.{Bytes}
 use Rattle.sheet_file.specs.declared.Settings.{Settings}
 use Rattle.ruling.specs.Ruling.{Ruling, refused, accepted, rulingOf, rowsSize}
-use Rattle.ruling.proofs.Given.{is-given}
+use Rattle.ruling.proofs.Given.{is-given, sheet-number}
 use Rattle.ruling.proofs.Standing.{sound, accepted-order}
 use Rattle.text.specs.Answer.{Shows}
 use Rattle.text.specs.declared.Written.{Written}
@@ -25,7 +25,7 @@ use Rattle.text.proofs.Stores.{refusal-length}
 use Rattle.listing.specs.Listing.{listingSize}
 use Rattle.listing.proofs.Size.{listing-fits}
 use Rattle.judging.specs.Judging.{judgedFor}
-use Rattle.judging.proofs.Laws.{few-components, few-counted}
+use Rattle.judging.proofs.Laws.{few-components, few-rounds, few-counted}
 use Rattle.sheet_listing.specs.Text.{textBy, textOf}
 use Rattle.sheet_listing.proofs.Laws.{text-is}
 
@@ -53,13 +53,13 @@ module _ (file : List ℕ) (b : Bytes file) (s : Settings) (ps : List Point) (e 
   listed-fits =
       let o = accepted-order file rowsSize s ps b e in
       rw (← cells-are ps (o .inside))
-      (listing-fits (length ps) (keysOf ps) (indicesOf ps) (judgedFor s ps) (o .few) (omega (arith, o .few, few-components s ps)) (λ f. omega (arith, o .few, few-counted s ps f)) keys-small indices-small)
+      (listing-fits (length ps) (keysOf ps) (indicesOf ps) (judgedFor s ps) (o .few) (omega (arith, o .few, few-components s ps)) (omega (arith, o .few, few-rounds s ps)) (λ f. omega (arith, o .few, few-counted s ps f)) keys-small indices-small)
 
 pub text-fits : (file : List ℕ) → Bytes file → length (textOf file) ≤ listingSize
 text-fits file b = rw (text-is file) (go (rulingOf file rowsSize) refl)
   where
     go : (x : Ruling) → rulingOf file rowsSize ≡ x → length (textBy x) ≤ listingSize
-    go (refused k) e = omega (arith, refusal-length k (omega (arith, is-given file rowsSize k e .high)))
+    go (refused k) e = omega (arith, refusal-length k (omega (arith, sheet-number k (is-given file rowsSize k e .listed) .high)))
     go (accepted s ps) e = listed-fits file b s ps e
 
 -- so list_sheet, lent such a buffer, writes the text whole

@@ -1,6 +1,7 @@
 // From the bytes of a sheet file to the text that the program `sheet` prints. What it is stands in specs/Text.antt.
 use judged::figures::FIGURE_COUNTS_SIZE;
 use judged::figures::FIGURE_MEASURES_SIZE;
+use judging::Terms;
 use ruling::ROWS_SIZE;
 use text::Written;
 ghost use Rattle.text.specs.Answer.{Shows};
@@ -13,17 +14,18 @@ pub fn list_sheet(file: &[u8], out: &mut [u8]) -> Written
     let sheet = ruling::read(file, ROWS_SIZE);
     let settings = sheet.settings;
     let n = sheet.count;
+    let terms = Terms { settings, count: n };
     let number = sheet.table.number;
     if number == 0 {
         let mut counts = [0u8; FIGURE_COUNTS_SIZE];
         let mut measures = [0.0f32; FIGURE_MEASURES_SIZE];
         let j = judging::judge(
-            settings,
-            n,
+            terms,
             &sheet.table.keys,
             &sheet.table.idx,
             &sheet.table.x,
             &sheet.table.y,
+            &sheet.table.strength,
             &mut counts,
             &mut measures,
         );

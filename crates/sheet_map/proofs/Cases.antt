@@ -37,13 +37,13 @@ module _ (file : List ℕ) (bytes : Bytes file) (r : Sheet) (h : Ruled (rulingOf
     abbrev o : AcceptedSheet file rowsSize r
     o = accepted-sheet file rowsSize r h z
 
-    pub ready : Arrays (r .count) (r .table .keys) (r .table .x) (r .table .y)
+    pub ready : Arrays (r .count) (r .table .keys) (r .table .x) (r .table .y) (r .table .strength)
     ready = sheet-arrays file rowsSize r bytes o
 
     cells : cellsAt (r .table .keys) ≡ cellsOf (o .points)
     cells = ap cellsAt (o .sheet .table-is .keys-are) ∙ cells-are (o .points) (accepted-order file rowsSize (o .settings) (o .points) bytes (o .ruled) .inside)
 
-    pub drawn : drawnBy (r .settings) (r .count) (r .table .keys) (r .table .idx) (r .table .x) (r .table .y) ≡ mapTextOf file
+    pub drawn : drawnBy (r .settings) (r .count) (r .table .keys) (r .table .idx) (r .table .x) (r .table .y) (r .table .strength) ≡ mapTextOf file
     drawn =
         ap (λ x. shown (r .count) (cellsAt (r .table .keys)) (x .marks)) (sheet-judged file rowsSize r bytes o)
         ∙ ap (λ (n : ℕ). shown n (cellsAt (r .table .keys)) (judgedFor (o .settings) (o .points) .marks)) (o .sheet .count-is)

@@ -13,7 +13,7 @@ use Rattle.sheet_file.specs.Bytes.{Bytes}
 use Rattle.sheet_file.specs.Grammar.{longest}
 use Rattle.sheet_file.specs.declared.Settings.{Settings}
 use Rattle.ruling.specs.Ruling.{Ruling, refused, accepted, rulingOf, rowsSize}
-use Rattle.ruling.proofs.Given.{is-given}
+use Rattle.ruling.proofs.Given.{is-given, sheet-number}
 use Rattle.ruling.proofs.Bounds.{cut-ruling, never-three}
 use Rattle.map_lines.specs.Map.{tooWide}
 use Rattle.sheet_map.specs.Text.{mapRefusals, mapRuling, mapRulingOf, mapBy, mapTextOf}
@@ -49,7 +49,7 @@ not-refused e = let z : _≡_ {A = ℕ} 0 1 = cc in omega arith
 
 -- "Number 10 is the map's alone": no sheet gives it
 pub never-ten : (file : List ℕ) (room : ℕ) → rulingOf file room ≡ refused 10 → ⊥
-never-ten file room e = absurd (omega (arith, is-given file room 10 e .high))
+never-ten file room e = sheet-number 10 (is-given file room 10 e .listed) .not-map refl
 
 -- what the ruling on the map says of the sheet
 module _ (file : List ℕ) where
@@ -125,12 +125,12 @@ module _ (file : List ℕ) where
       go (refused j) f = f ∙ sym (older-first j f) ∙ e
       go (accepted t qs) f = absurd (kept t qs (tooWide (length qs) (cellsOf qs)) (sym (drawn-or-ten t qs f) ∙ e))
 
-  pub number-small : (k : ℕ) → mapRulingOf file ≡ refused k → k ≤ 10
+  pub number-small : (k : ℕ) → mapRulingOf file ≡ refused k → k ≤ 14
   number-small k e = go (ℕ-discrete k 10)
     where
-      go : Dec (k ≡ 10) → k ≤ 10
+      go : Dec (k ≡ 10) → k ≤ 14
       go (yes q) = omega arith
-      go (no n) = omega (arith, is-given file rowsSize k (number-given k e n) .high)
+      go (no n) = omega (arith, sheet-number k (is-given file rowsSize k (number-given k e n) .listed) .high)
 
   -- number 3 never arises
   pub never-three-drawn : mapRulingOf file ≡ refused 3 → ⊥

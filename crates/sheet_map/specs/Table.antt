@@ -10,5 +10,5 @@ use Rattle.text.specs.Text.{refusalOf}
 use Rattle.map_lines.specs.Map.{tooWide, mapOf}
 
 -- what is printed of n points that were read of an accepted file
-abbrev pub drawnBy : Settings → ℕ → List ℕ → List ℕ → List Float → List Float → List ℕ
-drawnBy s n keys idx xs ys = cond (tooWide n (cellsAt keys)) (refusalOf 10) (mapOf n (cellsAt keys) (judgedBy s n keys idx xs ys .marks))
+abbrev pub drawnBy : Settings → ℕ → List ℕ → List ℕ → List Float → List Float → List Float → List ℕ
+drawnBy s n keys idx xs ys strength = cond (tooWide n (cellsAt keys)) (refusalOf 10) (mapOf n (cellsAt keys) (judgedBy s n keys idx xs ys strength .marks))

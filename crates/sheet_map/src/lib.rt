@@ -1,10 +1,10 @@
 // From the bytes of a sheet file to the text that the program `map` prints. What it is stands in specs/Text.antt.
 use judged::figures::FIGURE_COUNTS_SIZE;
 use judged::figures::FIGURE_MEASURES_SIZE;
+use judging::Terms;
 use map_lines::spans;
 use map_lines::spans::Axis;
 use ruling::ROWS_SIZE;
-use sheet_file::Settings;
 use text::Written;
 use view::Floats;
 use view::Words;
@@ -13,19 +13,20 @@ ghost use Rattle.text.specs.Answer.{Shows};
 ghost use Rattle.sheet_map.specs.Text.{mapTextOf};
 ghost use Rattle.sheet_map.specs.Table.{drawnBy};
 
-// Writes the map of n points in cell order, or `refused 10`.
+// Writes the map of points in cell order, or `refused 10`.
 fn draw<'a>(
-    s: Settings,
-    n: usize,
+    t: Terms,
     keys: &'a Words,
     idx: &'a Words,
     x: &'a Floats,
     y: &'a Floats,
+    strength: &'a Floats,
     out: &mut [u8],
 ) -> Written
-    requires { ⌜ Arrays n (now keys) (now x) (now y) ⌝ }
-    ensures { λ r. ⌜ Shows (drawnBy s n (now (keys .entry)) (now (idx .entry)) (now (x .entry)) (now (y .entry))) (now (out .entry)) (now (out .exit)) r ⌝ }
+    requires { ⌜ Arrays (t .count) (now keys) (now x) (now y) (now strength) ⌝ }
+    ensures { λ r. ⌜ Shows (drawnBy (t .settings) (t .count) (now (keys .entry)) (now (idx .entry)) (now (x .entry)) (now (y .entry)) (now (strength .entry))) (now (out .entry)) (now (out .exit)) r ⌝ }
 {
+    let n = t.count;
     let u = spans::span_along(keys, n, Axis::AlongU);
     let v = spans::span_along(keys, n, Axis::AlongV);
     if map_lines::too_wide(u, v) {
@@ -33,7 +34,7 @@ fn draw<'a>(
     }
     let mut counts = [0u8; FIGURE_COUNTS_SIZE];
     let mut measures = [0.0f32; FIGURE_MEASURES_SIZE];
-    let j = judging::judge(s, n, keys, idx, x, y, &mut counts, &mut measures);
+    let j = judging::judge(t, keys, idx, x, y, strength, &mut counts, &mut measures);
     let marks = j.marks;
     map_lines::write_map(n, keys, &marks, u, v, out)
 }
@@ -47,13 +48,16 @@ pub fn draw_sheet(file: &[u8], out: &mut [u8]) -> Written
     if 0 < number {
         return text::write_refusal(number, out);
     }
+    let settings = sheet.settings;
+    let n = sheet.count;
+    let terms = Terms { settings, count: n };
     draw(
-        sheet.settings,
-        sheet.count,
+        terms,
         &sheet.table.keys,
         &sheet.table.idx,
         &sheet.table.x,
         &sheet.table.y,
+        &sheet.table.strength,
         out,
     )
 }

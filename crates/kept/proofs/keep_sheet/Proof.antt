@@ -11,7 +11,7 @@ use Rattle.kept.proofs.keep_sheet.Tie as tie
 
 judge-requires : tie.Need-judge-requires
 judge-requires c κs =
-    let t = c .before .before .before .before .before .before .before in
+    let t = c .before .before .before .before .before .before .before .before in
     let k = t .before .before .before in
     let a = k .before .args in (
       arrays (a .file .now) (a .rows .now) (λ i. k .shared-slice-known .given i .fits) (a .t2) (k .before .pre) (t .if1 .taken),
@@ -20,7 +20,7 @@ judge-requires c κs =
 
 write-rows-requires : tie.Need-write-rows-requires
 write-rows-requires c κs =
-    let t = c .before .before .before .before .before .before .before .before .before .before .before in
+    let t = c .before .before .before .before .before .before .before .before .before .before .before .before in
     let k = t .before .before .before in
     let a = k .before .args in
     fit (a .file .now) (a .rows .now) (λ i. k .shared-slice-known .given i .fits) (a .t2) (k .before .pre) (t .if1 .taken)
@@ -29,7 +29,7 @@ returns : tie.Need-returns
 unfolding judgedFrom
 returns c =
     let j = c .before .before .before .before .before .before .before in
-    let t = j .before .before .before .before .before .before .before .before in
+    let t = j .before .before .before .before .before .before .before .before .before in
     let k = t .before .before .before in
     let a = k .before .args in
     done (a .file .now) (a .rows .now) (λ i. k .shared-slice-known .given i .fits) (a .t2) (k .before .pre) (t .if1 .taken) (j .judge .ensures) (c .before .before .before .write-rows .ensures)

@@ -1,4 +1,5 @@
 use Rattle.median.proofs.Steps.{AboveZero, middle-is, middle-fits}
+use Rattle.median.proofs.Sorting.{no-median}
 use Rattle.median.specs.Packed.{positiveAt, positives}
 use Rattle.float.proofs.Nan.{no-nan-pattern}
 use Rattle.float.proofs.Bits.{bits-top}
@@ -6,12 +7,11 @@ use Rattle.median.specs.Median.{medianOf}
 use Rattle.folds.proofs.Below.{tally-le}
 use Rattle.folds.proofs.Lists.{listed-length}
 use lib.Ieee.Bits.{ofBits-toBits}
-use lib.Ieee.{Float, binary32, nan, toBits, ofBits, div}
-use lib.ListN.{length, getD}
+use lib.Ieee.{binary32, nan, toBits, ofBits, div}
+use lib.ListN.{getD}
 use native.Mathlib.Omega.{arith}
 use Prim.Native.Nat.{_/_, _≤_}
-use mathlib.Core.List.{List, [], _∷_}
-use mathlib.Core.Path.{_≡_, refl, sym, ap, _∙_}
+use mathlib.Core.Path.{_≡_, sym, ap, _∙_}
 use Rattle.sort.specs.Sorted.{sort}
 use Rattle.view.specs.View.{maxPoints}
 use borrow.Author.Needs.{needs}
@@ -28,18 +28,12 @@ module _ (c : tie.After-sort) where
   found-ok : AboveZero (medianOf (positives (c .before .before .before .before .before .args .v .now) (c .before .before .before .before .before .args .n)))
   found-ok = middle-fits _ _ _ _ _ (c .before .before .before .pack .ensures) (omega arith) (c .sort .ensures)
 
--- no positive number, no median
-nothing : (l : List Float) → length l ≡ 0 → medianOf l ≡ nan
-unfolding medianOf sort
-nothing [] h = refl
-nothing (a ∷ l) h = absurd (omega arith)
-
 returns : tie.Need-returns
 unfolding div ofBits positives
 returns c =
     let v = c .before .before .before .args .v .now in
     let n = c .before .before .before .args .n in
-    sym (nothing (positives v n) (listed-length (positiveAt v) (λ k. getD v k nan) n ∙ sym (c .before .pack .ensures .count) ∙ c .if1 .taken))
+    sym (no-median (positives v n) (listed-length (positiveAt v) (λ k. getD v k nan) n ∙ sym (c .before .pack .ensures .count) ∙ c .if1 .taken))
 
 sort-requires : tie.Need-sort-requires
 sort-requires c κs = (few (c .before .before), c .before .before .pack .ensures .size)

@@ -1,19 +1,19 @@
 -- `points::indices` meets its contract: the column is filled from its front. Assumes nothing.
-use Rattle.points.specs.Entries.{entryPoint}
+use Rattle.points.specs.Records.{pointIn}
 use Rattle.sort.specs.Packed.{packedPlaces}
 use Rattle.folds.specs.Column.{Filling}
 use Rattle.folds.proofs.Column.{fill-start, fill-more, filled}
 use denote.Ref.{now}
 use native.Mathlib.Omega.{arith}
 use lib.ListN.{getD, length-replicate}
-use Prim.Native.Nat.{ℕ, _-_, _%_, _≤_, _<_}
+use Prim.Native.Nat.{ℕ, _+_, _-_, _*_, _%_, _≤_, _<_}
 use mathlib.Core.Path.{_≡_}
 use borrow.Author.Needs.{needs}
 use Rattle.points.proofs.indices.Statement.{statement}
 use Rattle.points.proofs.indices.Tie as tie
 
 abbrev Inv-loop : tie.InvT-loop
-Inv-loop file at n entries out₀ i₀ out i = (i ≤ n) × Filling out₀ 0 (λ (k : ℕ). entryPoint file at (getD entries k 0) .index) i out
+Inv-loop file at n entries out₀ i₀ out i = (i ≤ n) × Filling out₀ 0 (λ (k : ℕ). pointIn file (at + 20 * (getD entries k 0 % packedPlaces)) 0 .index) i out
 
 abbrev μ-loop : tie.MeasureT-loop
 μ-loop file at n entries out₀ i₀ out i = n - i

@@ -6,7 +6,7 @@ use Rattle.ruling.proofs.read.Statement.{statement}
 use Rattle.ruling.proofs.read.Tie as tie
 
 refused-with-requires : tie.Need-refused-with-requires
-refused-with-requires c κs = let h = c .refused .ensures in record { number-is = refl; keys-are = h .keys-are; indices-are = h .indices-are; xs-are = h .xs-are; ys-are = h .ys-are }
+refused-with-requires c κs = let h = c .refused .ensures in record { number-is = refl; keys-are = h .keys-are; indices-are = h .indices-are; xs-are = h .xs-are; ys-are = h .ys-are; strengths-are = h .strengths-are }
 
 read-points-requires : tie.Need-read-points-requires
 read-points-requires c κs = header-room _ _ _ (sym (c .before .before .before .read .ensures) ∙ c .before .h .given .1)

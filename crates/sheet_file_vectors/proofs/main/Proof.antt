@@ -6,7 +6,7 @@ use Rattle.sheet_file_vectors.proofs.main.Statement.{statement}
 use Rattle.sheet_file_vectors.proofs.main.Tie as tie
 
 abbrev Inv-loop : tie.InvT-loop
-Inv-loop file₀ left₀ file left = length file ≡ 65600
+Inv-loop file₀ left₀ file left = length file ≡ 131200
 
 abbrev μ-loop : tie.MeasureT-loop
 μ-loop file₀ left₀ file left = left

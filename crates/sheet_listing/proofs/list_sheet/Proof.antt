@@ -10,7 +10,7 @@ use Rattle.sheet_listing.proofs.list_sheet.Tie as tie
 
 judge-requires : tie.Need-judge-requires
 judge-requires c κs =
-    let t = c .before .before .before .before .before .before .before in
+    let t = c .before .before .before .before .before .before .before .before in
     let r = t .before .before in
     let f = r .before .before in (
       arrays (f .before .args .file .now) (λ i. f .shared-slice-known .given i .fits) (r .read .result) (r .read .ensures) (t .if1 .taken),
@@ -19,7 +19,7 @@ judge-requires c κs =
 
 write-listing-requires : tie.Need-write-listing-requires
 write-listing-requires c κs =
-    let t = c .before .before .before .before .before .before .before .before .before .before .before .before .before in
+    let t = c .before .before .before .before .before .before .before .before .before .before .before .before .before .before in
     let r = t .before .before in
     let f = r .before .before in
     few (f .before .args .file .now) (λ i. f .shared-slice-known .given i .fits) (r .read .result) (r .read .ensures) (t .if1 .taken)
@@ -27,7 +27,7 @@ write-listing-requires c κs =
 returns : tie.Need-returns
 returns c =
     let j = c .before .before .before .before .before .before .before .before in
-    let t = j .before .before .before .before .before .before .before .before in
+    let t = j .before .before .before .before .before .before .before .before .before in
     let r = t .before .before in
     let f = r .before .before in
     rw (listed (f .before .args .file .now) (λ i. f .shared-slice-known .given i .fits) (r .read .result) (r .read .ensures) (t .if1 .taken) (j .judge .ensures))

@@ -15,7 +15,7 @@ returns c =
 
 draw-requires : tie.Need-draw-requires
 draw-requires c κs =
-    let t = c .before .before .before .before .before .before .before in
+    let t = c .before .before .before .before .before .before .before .before in
     let r = t .before in
     let f = r .before .before in
     ready (f .before .args .file .now) (λ i. f .shared-slice-known .given i .fits) (r .read .result) (r .read .ensures) (omega (arith, t .if1 .left))
@@ -23,7 +23,7 @@ draw-requires c κs =
 returns-2 : tie.Need-returns-2
 returns-2 c =
     let w = c .before .before in
-    let t = w .before .before .before .before .before .before .before .before in
+    let t = w .before .before .before .before .before .before .before .before .before in
     let r = t .before in
     let f = r .before .before in
     rw (drawn (f .before .args .file .now) (λ i. f .shared-slice-known .given i .fits) (r .read .result) (r .read .ensures) (omega (arith, t .if1 .left))) at (w .draw .ensures)

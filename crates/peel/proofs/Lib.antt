@@ -1,0 +1,10 @@
+pub mod Counting
+pub mod Rounds
+pub mod Leaves
+pub mod Chaining
+pub mod Searching
+pub mod Turning
+pub mod Theorems
+pub mod Order
+pub mod Same
+pub mod Sheets
