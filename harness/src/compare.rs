@@ -3,10 +3,10 @@
 use crate::angles;
 use crate::generate::{self, Case, Expected, Kind};
 use crate::library;
-use crate::limits::{map::Seen, Met};
+use crate::limits::{map, peel, Met};
 use crate::run_original::{Held, Prepared};
-use crate::second::{self, Answer, Fault, InRun, Map, Record, ROW};
-use crate::sheet::Sheet;
+use crate::second::{self, Answer, Fault, InRun, Map, Record, FILTERS, LAST_NUMBER, ROW};
+use crate::sheet::{Sheet, Strengths};
 use crate::text;
 
 /// How one case came out.
@@ -37,13 +37,19 @@ fn row_with_angles(row: &[u8]) -> [u8; ROW] {
 /// The first place where what the original holds differs from an answer.
 fn difference(sheet: &Sheet, held: &Held, answer: &Answer) -> Option<String> {
     let Answer::Accepted {
-        components, rows, ..
+        components,
+        rounds,
+        rows,
+        ..
     } = answer
     else {
         return Some("refused".into());
     };
     if held.components() != *components {
         return Some(format!("components {} and {components}", held.components()));
+    }
+    if held.rounds != *rounds {
+        return Some(format!("rounds {} and {rounds}", held.rounds));
     }
     let mut points: Vec<_> = sheet.points.iter().collect();
     points.sort_by_key(|p| (p.u, p.v));
@@ -139,11 +145,16 @@ pub struct Report {
     pub failed: usize,
     pub acos: usize,
     by_kind: Vec<[usize; 4]>,
-    refused: [usize; 10],
-    /// Sheets with an index at several cells.
+    refused: [usize; LAST_NUMBER + 1],
+    /// Accepted sheets with an index at several cells, and those with strengths.
     repeated: usize,
+    weighed: usize,
+    /// Rounds of all sheets, and the most of one.
+    rounds: usize,
+    most_rounds: usize,
     points: usize,
-    marks: [usize; 4],
+    /// By filter.
+    marks: [usize; FILTERS.len()],
     reasons: [usize; 4],
     without_fit: usize,
     not_a_number: usize,
@@ -151,8 +162,9 @@ pub struct Report {
     /// Maps drawn, their lines, and maps refused by number.
     maps: usize,
     lines: usize,
-    no_maps: [usize; 11],
-    pub met: Met<Seen>,
+    no_maps: [usize; LAST_NUMBER + 1],
+    pub met: Met<map::Seen>,
+    pub met_by_peels: Met<peel::Seen>,
     smallest_acos: Option<(usize, Case)>,
 }
 
@@ -160,8 +172,8 @@ impl Report {
     fn count_rows(&mut self, rows: &[u8]) {
         for row in rows.chunks(ROW) {
             self.points += 1;
-            for (bit, count) in self.marks.iter_mut().enumerate() {
-                *count += usize::from(row[0] >> bit & 1);
+            for (filter, count) in FILTERS.iter().zip(&mut self.marks) {
+                *count += usize::from(filter.marks(row[0]));
             }
             self.reasons[usize::from(row[1])] += 1;
             let residual = f32::from_le_bytes(row[8..12].try_into().unwrap());
@@ -171,11 +183,16 @@ impl Report {
         }
     }
 
-    fn count_sheet(&mut self, sheet: &Sheet, rows: &[u8]) {
+    fn count_sheet(&mut self, sheet: &Sheet, rows: &[u8], rounds: usize) {
         self.count_rows(rows);
         self.repeated += usize::from(sheet.repeats_index());
-        let seen = Seen::new(sheet, rows);
+        self.weighed += usize::from(sheet.strengths != Strengths::Missing);
+        self.rounds += rounds;
+        self.most_rounds = self.most_rounds.max(rounds);
+        let seen = map::Seen::new(sheet, rows);
         seen.iter().for_each(|seen| self.met.add(seen));
+        let seen = peel::Seen::new(sheet, rows, rounds);
+        seen.iter().for_each(|seen| self.met_by_peels.add(seen));
     }
 
     fn count_map(&mut self, map: &Map) {
@@ -221,19 +238,24 @@ impl Report {
                 }
             }
         }
-        if let Answer::Accepted { rows, .. } = &answer {
-            self.count_sheet(&Sheet::from_file(&case.file).unwrap(), rows);
+        if let Answer::Accepted { rows, rounds, .. } = &answer {
+            self.count_sheet(&Sheet::from_file(&case.file).unwrap(), rows, *rounds);
         }
     }
 
     fn print_sheets(&self) {
-        println!("refused with 1 to 9: {:?}", &self.refused[1..]);
+        let letters: String = FILTERS.iter().map(|filter| filter.letter).collect();
+        println!("refused with 1 to {LAST_NUMBER}: {:?}", &self.refused[1..]);
         println!(
-            "points {} marks VOWC {:?} reasons 1 to 3 {:?}; sheets with a repeated index {}",
+            "points {} marks {letters} {:?} reasons 1 to 3 {:?}; sheets with a repeated index {}",
             self.points,
             self.marks,
             &self.reasons[1..],
             self.repeated
+        );
+        println!(
+            "accepted sheets with strengths {}, their rounds {}, the most of one {}",
+            self.weighed, self.rounds, self.most_rounds
         );
         println!(
             "residuals: none {} NaN {} infinite {}",
@@ -243,12 +265,13 @@ impl Report {
 
     fn print_maps(&self) {
         println!(
-            "maps {} lines {} refused with 1 to 10: {:?}",
+            "maps {} lines {} refused with 1 to {LAST_NUMBER}: {:?}",
             self.maps,
             self.lines,
             &self.no_maps[1..]
         );
-        for (name, sheets) in self.met.each().filter(|(_, sheets)| *sheets > 0) {
+        let met = self.met.each().chain(self.met_by_peels.each());
+        for (name, sheets) in met.filter(|(_, sheets)| *sheets > 0) {
             println!("{sheets:>6} sheets with {name}");
         }
     }

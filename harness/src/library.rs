@@ -16,7 +16,7 @@ pub type RunCall = unsafe extern "C" fn(*const u8, usize, *mut u8, usize, *mut R
 /// The old sums, kept first.
 pub type OldSums = [u32; OLD];
 
-/// The record of a run: 44 bytes.
+/// The record of a run: 48 bytes.
 #[repr(C)]
 #[derive(Clone, Copy, Debug, PartialEq)]
 pub struct Run {
@@ -97,8 +97,8 @@ fn on_run(call: RunCall, file: &[u8], buffer: &mut [u8], run: &mut Run) -> u64 {
     unsafe { call(file.as_ptr(), file.len(), rows, length, run) }
 }
 
-/// What the library returned for rows: a refusal number of 1 to 9, or 2^32 + 2^16 * points +
-/// components; none without the library.
+/// What the library returned for rows: a refusal number of 1 to 9 or 12 to 14, or 2^48 * rounds + 2^32 +
+/// 2^16 * points + components; none without the library.
 pub fn call(file: &[u8], rows: &mut [u8]) -> Option<u64> {
     functions().map(|calls| on(calls.keep, file, rows))
 }
@@ -127,12 +127,49 @@ pub fn expected(answer: &Answer) -> (u64, &[u8]) {
         Answer::Accepted {
             points,
             components,
+            rounds,
             rows,
             ..
-        } => (
-            (1 << 32) + ((*points as u64) << 16) + *components as u64,
-            rows,
-        ),
+        } => {
+            let [points, components, rounds] = [points, components, rounds].map(|n| *n as u64);
+            (
+                (rounds << 48) + (1 << 32) + (points << 16) + components,
+                rows,
+            )
+        }
+    }
+}
+
+/// What the library returned for rows, taken apart as the header does it.
+#[derive(Clone, Copy, Debug, PartialEq)]
+pub enum Returned {
+    Refused(u64),
+    Accepted {
+        points: usize,
+        components: usize,
+        rounds: usize,
+    },
+}
+
+impl Returned {
+    pub fn new(number: u64) -> Returned {
+        let part = |shift: u32| (number >> shift & 0xFFFF) as usize;
+        match number >> 32 {
+            0 => Returned::Refused(number),
+            _ => Returned::Accepted {
+                points: part(16),
+                components: part(0),
+                rounds: part(48),
+            },
+        }
+    }
+
+    /// The points and rounds of an accepted sheet; none of a refused one.
+    pub fn counts(&self) -> (usize, usize) {
+        match self {
+            Returned::Refused(_) => (0, 0),
+            Returned::Accepted { points, rounds, .. } => (*points, *rounds),
+        }
     }
 }
 

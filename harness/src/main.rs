@@ -13,6 +13,7 @@ mod limits;
 mod load;
 mod map_reader;
 mod mutants;
+mod peel_reader;
 mod properties;
 mod quick;
 mod random;
@@ -38,15 +39,16 @@ use std::process::ExitCode;
 
 const USE: &str = "\
 harness quick                         the checks of the gate
-harness compare [--sheets N] [--seed S] [--kind KIND | --maps]
+harness compare [--sheets N] [--seed S] [--kind KIND | --maps | --peels]
                                       original against second program; --maps: sheets made for
-                                      the map
+                                      the map; --peels: sheets with strengths
 harness compare --runs [--runs-of N] [--sheets N] [--seed S]
                                       runs of N sheets each, from records of every kind: library
                                       against second program
-harness mutants [--sheets N] [--seed S] [--maps | --runs]
+harness mutants [--sheets N] [--seed S] [--maps | --runs | --peels]
                                       how many sheets show each deliberate fault of the answers,
-                                      or of the maps, or how many runs each of the run
+                                      or of the maps, or how many runs each of the run, or how
+                                      many sheets with strengths each of what is made of these
 harness acos [COSINE ..]              what the Rust's acos makes of 30 degrees and of least cosines
 harness generate KIND SEED            a sheet file to standard output
 harness kinds                         the kinds of generated sheets
@@ -55,12 +57,14 @@ harness map                           map of the sheet file on standard input
 harness original                      rows of the original for the sheet file on standard input
 harness vectors float|sheet_file|run FOLDER
 harness vectors sheet FOLDER [--sheets N] [--seed S] [--most BYTES] [--full N] [--maps N]
-                [--full-lines N]
+                [--full-lines N] [--peels N]
                                       the recorded files of a vector crate, stdin and stdout
 harness roots [--step N]              the machine's root against whole numbers
 harness float-check [time]            the static library of float_c against Rust's own functions
-harness load [--files N] [--seed S] [--heap] [--threads N] [--wrong K]
-                                      the static library under load, at guard pages or in heap blocks
+harness load [--files N] [--peels N] [--seed S] [--heap] [--threads N] [--wrong K]
+                                      the static library under load, at guard pages or in heap blocks;
+                                      --peels: files with strengths, half as many as the others
+                                      unless said
 harness load faults                   whether the load notices deliberate faults
 harness bench [--runs N] [--rounds N] [--into FILE]
                                       microseconds a call, in tables
@@ -144,6 +148,7 @@ fn compare(args: &[String]) -> bool {
     let kinds = match kind {
         Some(name) => vec![(named(name), "")],
         None if has(args, "--maps") => Kind::for_map().to_vec(),
+        None if has(args, "--peels") => Kind::for_peels().to_vec(),
         None => Kind::first().to_vec(),
     };
     let sheets = option(args, "--sheets", 2300) as usize;
@@ -166,6 +171,8 @@ fn mutants(args: &[String]) -> bool {
         shown(&mutants::maps(), sheets, seed)
     } else if has(args, "--runs") {
         shown(&mutants::runs(), sheets / generate::RUN_OF, seed)
+    } else if has(args, "--peels") {
+        shown(&mutants::peels(), sheets, seed)
     } else {
         shown(&mutants::answers(), sheets, seed)
     }
@@ -173,15 +180,19 @@ fn mutants(args: &[String]) -> bool {
 
 fn load(args: &[String]) -> bool {
     let files = option(args, "--files", 20_000);
-    let seed = option(args, "--seed", 0);
+    let files = load::Files {
+        files,
+        peels: option(args, "--peels", files / 2),
+        seed: option(args, "--seed", 0),
+    };
     let threads = option(args, "--threads", 1) as usize;
     if threads > 1 {
-        return load::threads(threads, files, seed);
+        return load::threads(threads, files);
     }
     let heap = has(args, "--heap");
     let wrong = option(args, "--wrong", u64::MAX);
     let wrong = (wrong != u64::MAX).then_some(wrong as usize);
-    load::run(files, seed, heap, wrong)
+    load::run(files, heap, wrong)
 }
 
 /// All floats against 30 degrees, or the floats that acos cannot tell from given cosines.
@@ -206,9 +217,10 @@ fn original_rows() {
     };
     let held = prepared.run();
     println!(
-        "points {} components {}",
+        "points {} components {} rounds {}",
         sheet.points.len(),
-        held.components()
+        held.components(),
+        held.rounds
     );
     let mut points = sheet.points.clone();
     points.sort_by_key(|p| (p.u, p.v));
@@ -247,6 +259,7 @@ fn vectors(crate_of: &str, folder: &str, args: &[String]) {
                 full: option(args, "--full", recorded.full as u64) as usize,
                 maps: option(args, "--maps", recorded.maps as u64) as usize,
                 full_lines: option(args, "--full-lines", recorded.full_lines as u64) as usize,
+                peels: option(args, "--peels", recorded.peels as u64) as usize,
             })
         }
         _ => fail("vectors takes float, sheet_file, sheet or run, and a folder"),

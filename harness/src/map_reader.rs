@@ -31,17 +31,18 @@ pub fn lines(map: &str) -> Option<Vec<Line>> {
     map.strip_suffix('\n')?.split('\n').map(line).collect()
 }
 
-/// The cells of a listing with the character that each should have on the map.
+/// The cells of a listing with the character that each should have on the map. The points' lines stand
+/// between the first and the last.
 fn points(listing: &str) -> HashMap<(i32, i32), u8> {
-    let words = listing.lines().map(|l| l.split(' ').collect::<Vec<_>>());
-    words
-        .filter(|words| words.len() == 6)
-        .map(|words| {
-            let cell = (words[0].parse().unwrap(), words[1].parse().unwrap());
-            let marks = words[3].bytes();
-            (cell, marks.into_iter().find(|&m| m != b'-').unwrap_or(b'#'))
-        })
-        .collect()
+    let lines: Vec<&str> = listing.lines().collect();
+    let points = &lines[1..lines.len() - 1];
+    let point = |line: &&str| {
+        let words: Vec<&str> = line.split(' ').collect();
+        let cell = (words[0].parse().unwrap(), words[1].parse().unwrap());
+        let mut marks = words[3].bytes();
+        (cell, marks.find(|&m| m != b'-').unwrap_or(b'#'))
+    };
+    points.iter().map(point).collect()
 }
 
 /// The first thing that is wrong with a map beside the listing of the same sheet.

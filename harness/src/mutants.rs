@@ -42,6 +42,20 @@ pub fn answers() -> Part<Case, Answer> {
     }
 }
 
+/// The answer to a file with strengths, and its map.
+pub fn peels() -> Part<Case, (Answer, Map)> {
+    Part {
+        faults: Fault::PEEL,
+        case: "sheet",
+        nth: |seed, i| generate::nth(Kind::for_peels(), seed, i),
+        name: sheet_name,
+        outcome: |case, fault| {
+            let answer = second::answer(&case.file, case.buffer, fault);
+            (answer, second::map(&case.file, fault))
+        },
+    }
+}
+
 /// The map.
 pub fn maps() -> Part<Case, Map> {
     Part {

@@ -3,13 +3,14 @@
 
 use crate::second::ROW;
 use crate::sheet::Sheet;
-use std::collections::HashSet;
 
 #[allow(dead_code)]
 pub struct Prepared;
 
 #[allow(dead_code)]
-pub struct Held;
+pub struct Held {
+    pub rounds: usize,
+}
 
 impl Prepared {
     pub fn new(_: &Sheet) -> Option<Prepared> {
@@ -19,6 +20,9 @@ impl Prepared {
         unreachable!()
     }
     pub fn validate(&self) {
+        unreachable!()
+    }
+    pub fn all_filters(&self) {
         unreachable!()
     }
     pub fn run(&self) -> Held {
@@ -33,13 +37,4 @@ impl Held {
     pub fn row(&self, _: u32) -> [u8; ROW] {
         unreachable!()
     }
-}
-
-pub fn weak_leaf_peel(
-    _: &Sheet,
-    _: impl Fn(u32) -> f32,
-    _: &[u32],
-    _: f32,
-) -> Option<HashSet<u32>> {
-    None
 }

@@ -2,9 +2,10 @@
 
 use crate::generate::{self, Case, Expected, Kind};
 use crate::map_reader;
+use crate::peel_reader;
 use crate::random::Random;
 use crate::second::{self, Answer, Fault, Map, ROOM, ROW};
-use crate::sheet::{Rest, Sheet};
+use crate::sheet::{Rest, Sheet, Strengths};
 use crate::tally_reader;
 
 fn answer(sheet: &Sheet, buffer: usize) -> Answer {
@@ -51,8 +52,8 @@ fn any_switches(sheet: &Sheet, case: &Case, right: &Answer) -> bool {
         .all(|(w, l)| with(w, l) == right)
 }
 
-/// A row without what a whole move may change: the validate and component marks and the
-/// residual, since the fit is from cell numbers.
+/// A row without what a whole move may change: the residual, since the fit is from cell numbers, the
+/// validate marks, and the leaf and component marks, which go by these.
 fn unmoved(row: &[u8]) -> Vec<u8> {
     let mut out = row.to_vec();
     out[0] &= 6;
@@ -61,8 +62,8 @@ fn unmoved(row: &[u8]) -> Vec<u8> {
     out
 }
 
-/// A whole move changes no more than that, and neither marks nor count if it leaves the
-/// validate marks alone.
+/// A whole move changes no more than that, and neither marks nor counts if it leaves the
+/// validate marks alone: "A whole move keeps L if the earlier marks hold."
 fn any_move(sheet: &Sheet, case: &Case, right: &Answer) -> bool {
     let (other, _) = moved(sheet, case);
     let marks =
@@ -71,15 +72,20 @@ fn any_move(sheet: &Sheet, case: &Case, right: &Answer) -> bool {
     match (right, &answer(&other, case.buffer)) {
         (
             Answer::Accepted {
-                rows, components, ..
+                rows,
+                components,
+                rounds,
+                ..
             },
             Answer::Accepted {
                 rows: moved,
-                components: count,
+                components: also_components,
+                rounds: also_rounds,
                 ..
             },
         ) => {
-            let same_marks = marks(rows, 15) == marks(moved, 15) && components == count;
+            let same_counts = (components, rounds) == (also_components, also_rounds);
+            let same_marks = marks(rows, 255) == marks(moved, 255) && same_counts;
             parts(rows) == parts(moved) && (marks(rows, 1) != marks(moved, 1) || same_marks)
         }
         // Moved out of range, or refused before.
@@ -88,9 +94,9 @@ fn any_move(sheet: &Sheet, case: &Case, right: &Answer) -> bool {
 }
 
 /// The first of the cases on which one of these fails.
-pub fn first_failure(sheets: usize, seed: u64) -> Option<String> {
+pub fn first_failure(kinds: &[(Kind, &str)], sheets: usize, seed: u64) -> Option<String> {
     for i in 0..sheets {
-        let case = generate::nth(Kind::first(), seed, i);
+        let case = generate::nth(kinds, seed, i);
         let Some(sheet) = Sheet::from_file(&case.file) else {
             continue;
         };
@@ -226,4 +232,88 @@ pub fn first_tally_failure(
         repeated += usize::from(accepted && sheet.repeats_index());
     }
     (None, repeated)
+}
+
+/// What the runs of the reader met.
+#[derive(Default)]
+pub struct Peels {
+    pub failure: Option<String>,
+    /// Sheets with rounds; moved ones with rounds that keep the validate marks; sheets whose tag 4 has another
+    /// length, refused in another order too.
+    pub with_rounds: usize,
+    pub moved: usize,
+    pub misfits: usize,
+}
+
+/// The leaf marks and rounds of the cases beside their strengths, and what a whole move and another order
+/// make of them.
+pub fn peels(kinds: &[(Kind, &str)], sheets: usize, seed: u64) -> Peels {
+    let mut out = Peels::default();
+    for i in 0..sheets {
+        let case = generate::nth(kinds, seed, i);
+        let Some(sheet) = Sheet::from_file(&case.file) else {
+            continue;
+        };
+        let right = second::answer(&case.file, case.buffer, Fault::None);
+        let Answer::Accepted { rounds, .. } = right else {
+            let misfit = matches!(sheet.strengths, Strengths::Misfit(_));
+            let other = answer(&another_order(&sheet, &case), case.buffer);
+            let both = right == Answer::Refused(12) && other == right;
+            if misfit && !both {
+                out.failure = Some(format!("{:?} {}: not 12", case.kind, case.seed));
+                return out;
+            }
+            out.misfits += usize::from(misfit);
+            continue;
+        };
+        let mut r = Random::new(case.seed);
+        if let Some(text) = peel_reader::fault(&sheet, &right.listing(), &mut r) {
+            out.failure = Some(format!("{:?} {}: {text}", case.kind, case.seed));
+            return out;
+        }
+        let after = answer(&moved(&sheet, &case).0, ROOM);
+        let kept = validate_marks(&right) == validate_marks(&after);
+        out.with_rounds += usize::from(rounds > 0);
+        out.moved += usize::from(rounds > 0 && kept);
+    }
+    out
+}
+
+/// The leaf marks and the rounds of an accepted sheet.
+fn leaves(answer: &Answer) -> Option<(Vec<u8>, usize)> {
+    match answer {
+        Answer::Refused(_) => None,
+        Answer::Accepted { rows, rounds, .. } => {
+            let marks = rows.chunks(ROW).map(|row| row[0] & 16);
+            Some((marks.collect(), *rounds))
+        }
+    }
+}
+
+/// The first small case and fault of the peel, where its marks or rounds are wrong, that the reader does not
+/// notice; and how many it noticed.
+pub fn first_unread_peel(sheets: usize, seed: u64) -> (Option<String>, usize) {
+    let mut noticed = 0;
+    let all = (0..).map(|i| generate::nth(Kind::for_peels(), seed, i));
+    let small = all.filter(|case| case.file.len() < 2000);
+    for case in small.take(sheets) {
+        let of = |fault| second::answer(&case.file, ROOM, fault);
+        let (right, sheet) = (of(Fault::None), Sheet::from_file(&case.file));
+        let (Some(right), Some(sheet)) = (leaves(&right), sheet) else {
+            continue;
+        };
+        for &(fault, _) in Fault::PEEL {
+            let wrong = of(fault);
+            if leaves(&wrong).is_none_or(|wrong| wrong == right) {
+                continue;
+            }
+            let mut r = Random::new(case.seed);
+            if peel_reader::fault(&sheet, &wrong.listing(), &mut r).is_none() {
+                let name = format!("{:?} {}: {fault:?}", case.kind, case.seed);
+                return (Some(name), noticed);
+            }
+            noticed += 1;
+        }
+    }
+    (None, noticed)
 }

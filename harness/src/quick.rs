@@ -1,32 +1,22 @@
 //! The checks of the gate.
 
-use crate::bench;
 use crate::compare::{self, Report};
 use crate::floats;
 use crate::generate::{self, Kind};
 use crate::mutants::{self, Part};
 use crate::properties;
-use crate::run_original;
 use crate::runs;
 use crate::sheet::Sheet;
 use crate::stars;
 use crate::text;
 use crate::vectors::{self, Choice, Vectors};
 
-/// On a row of five with strengths 1, the last 2, and fraction 2 all but the last are peeled.
-fn weak_ends() -> bool {
-    let mut sheet = bench::board(5, false);
-    sheet.points.retain(|p| p.v == 0);
-    let last = sheet.points[4].index;
-    let strength = |index: u32| if index == last { 2.0 } else { 1.0 };
-    let peeled = run_original::weak_leaf_peel(&sheet, strength, &[], 2.0);
-    let all_but_last = sheet.points[..4].iter().map(|p| p.index).collect();
-    peeled == Some(all_but_last)
-}
-
+/// Sheets with a gate, with strengths, and with a tag 4 of another length.
 fn text_and_back() -> bool {
-    (0..200).all(|seed| {
-        let file = generate::case(Kind::Gated, seed).file;
+    let kinds = [Kind::Gated, Kind::Weighed, Kind::DamagedPeels];
+    let mut seeds = (0..200).flat_map(|seed| kinds.map(|kind| (kind, seed)));
+    seeds.all(|(kind, seed)| {
+        let file = generate::case(kind, seed).file;
         let sheet = Sheet::from_file(&file).unwrap();
         text::from_text(&text::to_text(&sheet)).unwrap().to_file() == file
     })
@@ -43,15 +33,18 @@ fn comparison(of: &str, report: &Report) -> (String, bool) {
     (format!("{of}: {name}"), report.failed == 0)
 }
 
-/// The sheets of all kinds, then those made for the map, which must meet each of its limits.
+/// The sheets of the first kinds, then those made for the map and those with strengths, which must meet
+/// each limit of theirs.
 fn comparisons() -> Vec<(String, bool)> {
     let sheets = compare::run(Kind::first(), 4600, 1);
     let maps = compare::run(Kind::for_map(), 900, 1);
+    let peels = compare::run(Kind::for_peels(), 4800, 1);
     let mut checks = vec![
-        comparison("sheets of all kinds", &sheets),
+        comparison("sheets of the first kinds", &sheets),
         comparison("sheets made for the map", &maps),
+        comparison("sheets with strengths", &peels),
     ];
-    let met = maps.met.each();
+    let met = maps.met.each().chain(peels.met_by_peels.each());
     checks.extend(met.map(|(name, sheets)| (format!("a sheet with {name}"), sheets > 0)));
     checks
 }
@@ -93,13 +86,41 @@ fn tallies(kinds: &[(Kind, &str)]) -> (String, bool) {
     )
 }
 
+/// What holds of all weak ends.
+fn peels() -> Vec<(String, bool)> {
+    let of_strengths = properties::peels(Kind::for_peels(), 1800, 2);
+    let of_others = properties::peels(Kind::first(), 270, 2);
+    println!(
+        "of 1800 sheets with strengths {} with rounds, {} of them kept by a whole move, {} with a tag 4 of another length",
+        of_strengths.with_rounds, of_strengths.moved, of_strengths.misfits
+    );
+    let (unread, noticed) = properties::first_unread_peel(300, 2);
+    println!("{noticed} wrong peels, which the reader notices");
+    vec![
+        (
+            format!("weak ends: {:?}", of_strengths.failure),
+            of_strengths.failure.is_none() && of_strengths.moved > 0 && of_strengths.misfits > 0,
+        ),
+        (
+            format!("no weak ends without strengths: {:?}", of_others.failure),
+            of_others.failure.is_none() && of_others.with_rounds == 0,
+        ),
+        (
+            format!("the reader notices every wrong peel: {unread:?}"),
+            unread.is_none() && noticed > 0,
+        ),
+    ]
+}
+
 /// What holds of every sheet and every map.
 fn properties() -> Vec<(String, bool)> {
-    let failure = properties::first_failure(810, 2);
-    let sheets = (
-        format!("order, move and switches: {failure:?}"),
-        failure.is_none(),
-    );
+    let sheets = |kinds| {
+        let failure = properties::first_failure(kinds, 810, 2);
+        (
+            format!("order, move and switches: {failure:?}"),
+            failure.is_none(),
+        )
+    };
     let maps = |kinds| {
         let (failure, moved) = properties::first_map_failure(kinds, 810, 2);
         println!("of 810 maps {moved} with a whole move that keeps the validate marks");
@@ -112,8 +133,11 @@ fn properties() -> Vec<(String, bool)> {
         format!("the reader notices every wrong map: {unread:?}"),
         unread.is_none() && noticed > 0,
     );
-    let mut checks = vec![sheets, maps(Kind::first()), maps(Kind::for_map()), reader];
-    checks.extend([Kind::first(), Kind::for_map()].map(tallies));
+    let mut checks = vec![sheets(Kind::first()), sheets(Kind::for_peels()), reader];
+    let all = [Kind::first(), Kind::for_map(), Kind::for_peels()];
+    checks.extend(all.map(maps));
+    checks.extend(all.map(tallies));
+    checks.extend(peels());
     checks
 }
 
@@ -144,6 +168,7 @@ pub fn run() -> bool {
     checks.extend(faults(&mutants::answers()));
     checks.extend(faults(&mutants::maps()));
     checks.extend(faults(&mutants::runs()));
+    checks.extend(faults(&mutants::peels()));
     checks.extend(properties());
     checks.push(("text and back".into(), text_and_back()));
     checks.push((
@@ -151,9 +176,6 @@ pub fn run() -> bool {
         floats::roots(4099).1 == 0,
     ));
     checks.extend(recorded());
-    if cfg!(original_at_hand) {
-        checks.push(("weak_leaf_peel is reached".into(), weak_ends()));
-    }
     let failed = checks.iter().filter(|(_, holds)| !holds).count();
     for (name, _) in checks.iter().filter(|(_, holds)| !holds) {
         println!("failed: {name}");

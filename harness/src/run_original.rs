@@ -2,50 +2,68 @@
 
 use crate::angles;
 use crate::second::ROW;
-use crate::sheet::{Rest, Sheet};
+use crate::sheet::{Rest, Sheet, Strengths};
 use nalgebra::Point2;
-use original::shared::validate::wrong_label_filters::{drop_set, DropSet};
+use original::shared::validate::wrong_label_filters::{
+    drop_set, largest_component_filter, DropSet,
+};
 use original::shared::validate::{
     validate, EdgeShapeParams, LabelledEntry, ValidationParams, ValidationResult,
 };
-use original::test_only;
+use original::test_only::wrong_label_filters::weak_leaf_peel;
+use std::cell::RefCell;
 use std::collections::{HashMap, HashSet};
 
-/// Positions by index: a list where the indices are small, so that a caller's look-up costs
-/// the original as little as it can.
-enum Positions {
-    List(Vec<Point2<f32>>),
-    Map(HashMap<usize, Point2<f32>>),
+/// Something by index: a list where the indices are small, so that a caller's look-up costs the
+/// original as little as it can.
+enum ByIndex<T> {
+    List(Vec<T>),
+    Map(HashMap<usize, T>),
 }
 
-impl Positions {
-    fn new(entries: &[LabelledEntry]) -> Positions {
+impl<T: Copy> ByIndex<T> {
+    fn new(entries: &[LabelledEntry], nothing: T, of: impl Fn(usize) -> T) -> ByIndex<T> {
+        let each = entries.iter().enumerate().map(|(k, e)| (e.idx, of(k)));
         let largest = entries.iter().map(|e| e.idx).max().unwrap_or(0);
         if largest >= 1 << 16 {
-            return Positions::Map(entries.iter().map(|e| (e.idx, e.pixel)).collect());
+            return ByIndex::Map(each.collect());
         }
-        let mut list = vec![Point2::new(0.0, 0.0); largest + 1];
-        for e in entries {
-            list[e.idx] = e.pixel;
-        }
-        Positions::List(list)
+        let mut list = vec![nothing; largest + 1];
+        each.for_each(|(index, it)| list[index] = it);
+        ByIndex::List(list)
     }
+
+    fn get(&self, index: usize) -> T {
+        match self {
+            ByIndex::List(list) => list[index],
+            ByIndex::Map(map) => map[&index],
+        }
+    }
+}
+
+/// Tag 4 as the original takes it.
+struct Weights {
+    fraction: f32,
+    strengths: ByIndex<f32>,
 }
 
 /// A sheet as the original takes it.
 pub struct Prepared {
     labelled: HashMap<(i32, i32), usize>,
-    positions: Positions,
+    positions: ByIndex<Point2<f32>>,
     entries: Vec<LabelledEntry>,
     cell_size: f32,
     params: ValidationParams,
     wrong_label: bool,
     largest_patch: bool,
+    weights: Option<Weights>,
 }
 
-/// What the original holds: marks, count, residuals and edge figures by index.
+/// What the original holds: marks, counts, residuals and edge figures by index.
 pub struct Held {
     pub marks: DropSet,
+    pub peeled: HashSet<usize>,
+    pub rounds: usize,
     pub found: ValidationResult,
 }
 
@@ -80,7 +98,14 @@ impl Prepared {
         let entries: Vec<LabelledEntry> = sheet.points.iter().map(entry).collect();
         Some(Prepared {
             labelled: entries.iter().map(|e| (e.grid, e.idx)).collect(),
-            positions: Positions::new(&entries),
+            positions: ByIndex::new(&entries, Point2::new(0.0, 0.0), |k| entries[k].pixel),
+            weights: match sheet.strengths {
+                Strengths::Given(fraction) => Some(Weights {
+                    fraction,
+                    strengths: ByIndex::new(&entries, 0.0, |k| sheet.points[k].strength),
+                }),
+                _ => None,
+            },
             entries,
             cell_size: sheet.settings.cell_size,
             params,
@@ -102,8 +127,8 @@ impl Prepared {
 
     pub fn drop_set(&self) -> DropSet {
         match &self.positions {
-            Positions::List(list) => self.drop_set_with(|index| list[index]),
-            Positions::Map(map) => self.drop_set_with(|index| map[&index]),
+            ByIndex::List(list) => self.drop_set_with(|index| list[index]),
+            ByIndex::Map(map) => self.drop_set_with(|index| map[&index]),
         }
     }
 
@@ -111,11 +136,73 @@ impl Prepared {
         validate(&self.entries, self.cell_size, &self.params)
     }
 
+    /// The marks of all filters: with tag 4, `weak_leaf_peel` from the marks of the first three, and then
+    /// `largest_component_filter`, if its switch is on, from those of the four.
+    fn filters(&self, strength: impl Fn(&Weights, usize) -> f32) -> (DropSet, HashSet<usize>) {
+        let mut marks = self.drop_set();
+        let Some(weights) = &self.weights else {
+            return (marks, HashSet::new());
+        };
+        let earlier = [
+            &marks.validate_drop,
+            &marks.orientation_drop,
+            &marks.wrong_label_drop,
+        ];
+        let mut dropped: HashSet<usize> = earlier.into_iter().flatten().copied().collect();
+        let of = |index: usize| strength(weights, index);
+        let peeled = weak_leaf_peel(&self.labelled, of, &dropped, weights.fraction);
+        if self.largest_patch {
+            dropped.extend(&peeled);
+            let patches = largest_component_filter(&self.labelled, &dropped);
+            marks.component_drop = patches.drop;
+            marks.components_seen = patches.components_seen;
+        }
+        (marks, peeled)
+    }
+
+    /// The same, for a clock.
+    pub fn all_filters(&self) -> (DropSet, HashSet<usize>) {
+        self.filters(|weights, index| weights.strengths.get(index))
+    }
+
     pub fn run(&self) -> Held {
+        let asked = RefCell::new(HashMap::new());
+        let (marks, peeled) = self.filters(|weights, index| {
+            *asked.borrow_mut().entry(index).or_insert(0) += 1;
+            weights.strengths.get(index)
+        });
         Held {
-            marks: self.drop_set(),
+            rounds: self.rounds(&asked.into_inner(), &marks, &peeled),
+            marks,
+            peeled,
             found: self.validate(),
         }
+    }
+
+    /// How many rounds removed something. The original does not hand this back, yet it asks for the
+    /// strength of each cell once, for the median, and then in each round of each cell that is live at its
+    /// start, in a last round, which removes nothing, too; that one asks nothing if nothing is left.
+    fn rounds(
+        &self,
+        asked: &HashMap<usize, usize>,
+        marks: &DropSet,
+        peeled: &HashSet<usize>,
+    ) -> usize {
+        let mut cells: HashMap<usize, usize> = HashMap::new();
+        for index in self.labelled.values() {
+            *cells.entry(*index).or_insert(0) += 1;
+        }
+        let rounds = |(index, asked): (&usize, &usize)| asked / cells[index] - 1;
+        let most = asked.iter().map(rounds).max().unwrap_or(0);
+        let earlier = [
+            &marks.validate_drop,
+            &marks.orientation_drop,
+            &marks.wrong_label_drop,
+            peeled,
+        ];
+        let left = |index: &usize| earlier.iter().all(|set| !set.contains(index));
+        let last_asks = self.weights.is_some() && cells.keys().any(left);
+        most - usize::from(last_asks)
     }
 }
 
@@ -133,6 +220,7 @@ impl Held {
             &self.marks.orientation_drop,
             &self.marks.wrong_label_drop,
             &self.marks.component_drop,
+            &self.peeled,
         ];
         for (bit, set) in sets.into_iter().enumerate() {
             out[0] |= u8::from(set.contains(&index)) << bit;
@@ -178,23 +266,4 @@ fn put(row: &mut [u8; ROW], k: usize, float: f32) {
         float.to_bits()
     };
     row[8 + 4 * k..12 + 4 * k].copy_from_slice(&bits.to_le_bytes());
-}
-
-/// The filter that the original compiles for its tests only: the indices that it peels, some
-/// being dropped before. None where the original is not at hand.
-pub fn weak_leaf_peel(
-    sheet: &Sheet,
-    strength: impl Fn(u32) -> f32,
-    dropped: &[u32],
-    fraction: f32,
-) -> Option<HashSet<u32>> {
-    let labelled = sheet
-        .points
-        .iter()
-        .map(|p| ((p.u, p.v), p.index as usize))
-        .collect();
-    let dropped = dropped.iter().map(|&index| index as usize).collect();
-    let of = |index: usize| strength(index as u32);
-    let peeled = test_only::wrong_label_filters::weak_leaf_peel(&labelled, of, &dropped, fraction);
-    Some(peeled.into_iter().map(|index| index as u32).collect())
 }

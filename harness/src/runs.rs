@@ -5,7 +5,9 @@ use crate::generate::{self, Run, Start, Step};
 use crate::library;
 use crate::limits::{run::Seen, Met};
 use crate::random::Random;
-use crate::second::{self, Answer, Fault, InRun, Record, FULL, MOST_SHEETS, SUMMED, SUM_LIMIT};
+use crate::second::{
+    self, Answer, Fault, InRun, Record, FULL, LAST_NUMBER, MOST_SHEETS, SUMMED, SUM_LIMIT,
+};
 use crate::sheet::Sheet;
 use crate::tally_reader;
 
@@ -123,7 +125,7 @@ pub struct Report {
     starts: [usize; 3],
     calls: usize,
     accepted: usize,
-    refused: [usize; FULL as usize + 1],
+    refused: [usize; LAST_NUMBER + 1],
     /// Runs whose record is the same in another order of the sheets, none being refused with 11; runs
     /// with 11 in an order; of these, those whose record is another.
     alike: usize,
@@ -191,7 +193,7 @@ impl Report {
         let [new, old, given] = self.starts;
         println!("runs: new {new}, from old sums {old}, from other records {given}");
         println!(
-            "calls {calls}: accepted {}, refused with 1 to 11: {:?}",
+            "calls {calls}: accepted {}, refused with 1 to {LAST_NUMBER}: {:?}",
             self.accepted,
             &self.refused[1..]
         );

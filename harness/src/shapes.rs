@@ -3,7 +3,7 @@
 
 use crate::random::Random;
 use crate::second::MAX_POINTS;
-use crate::sheet::{Gate, Point, Rest, Settings, Sheet};
+use crate::sheet::{Gate, Point, Rest, Settings, Sheet, Strengths, MOST_RECORDS};
 use std::collections::HashSet;
 
 /// The side of the largest square board that a sheet has room for.
@@ -142,7 +142,7 @@ impl Shape {
         for (&(u, v), index) in cells.iter().zip(indices) {
             let held = &mut first[(index as usize).min(cells.len())];
             let (x, y) = *held.get_or_insert_with(|| self.place.at(u, v, spacing, &mut r));
-            points.push(Point { u, v, index, x, y });
+            points.push(Point::new(u, v, index, x, y));
         }
         match self.order {
             Order::Rising => {}
@@ -156,6 +156,7 @@ impl Shape {
             },
             gate: self.gate.clone(),
             points,
+            strengths: Strengths::Missing,
         }
     }
 }
@@ -384,13 +385,13 @@ pub fn columns(count: usize, height: usize) -> Sheet {
     let cell_size = 100f32.min(16384.0 / extent as f32);
     let point = |k: usize| {
         let (u, v) = (k / height, k % height);
-        Point {
-            u: u as i32,
-            v: v as i32,
-            index: k as u32,
-            x: cell_size * u as f32,
-            y: cell_size * v as f32,
-        }
+        Point::new(
+            u as i32,
+            v as i32,
+            k as u32,
+            cell_size * u as f32,
+            cell_size * v as f32,
+        )
     };
     Sheet {
         settings: Settings {
@@ -399,6 +400,7 @@ pub fn columns(count: usize, height: usize) -> Sheet {
         },
         gate: None,
         points: (0..count).map(point).collect(),
+        strengths: Strengths::Missing,
     }
 }
 
@@ -427,6 +429,73 @@ pub fn gated_columns(count: usize, height: usize) -> Sheet {
     let mut sheet = columns(count, height);
     sheet.settings.rest = Some(all_filters());
     sheet.gate = Some(default_gate());
+    sheet
+}
+
+/// The same sheet with a fraction and strengths, by the points' places in it.
+pub fn with_strengths(mut sheet: Sheet, fraction: f32, strength: impl Fn(usize) -> f32) -> Sheet {
+    sheet.strengths = Strengths::Given(fraction);
+    for (k, point) in sheet.points.iter_mut().enumerate() {
+        point.strength = strength(k);
+    }
+    sheet
+}
+
+/// A row of points that are all weak but the last: each round takes the one at the free end.
+pub fn chain(count: usize) -> Sheet {
+    let last = count.saturating_sub(1);
+    with_strengths(
+        columns(count, 1),
+        2.0,
+        |k| if k == last { 2.0 } else { 1.0 },
+    )
+}
+
+/// A straight sheet that a peel can take apart: a chain, a comb, a spiral, steps, pairs, patches or a board.
+pub fn peeled(r: &mut Random, points: usize) -> Sheet {
+    let cells = [
+        Cells::Row,
+        Cells::Column,
+        Cells::Comb,
+        Cells::Spiral,
+        Cells::Stairs,
+        Cells::Pairs,
+        Cells::Fours,
+        Cells::Isolated,
+        Cells::Patches,
+        Cells::Ragged(SIDE),
+        Cells::Board(SIDE),
+    ];
+    let mut shape = unmarked(r.pick(&cells), points);
+    shape.index = r.pick(&[Index::Rising, Index::Mixed, Index::Twice, Index::Few(64)]);
+    if matches!(shape.index, Index::Twice | Index::Few(_)) {
+        shape.rest.wrong_label = 0;
+    }
+    shape.order = r.pick(&[Order::Rising, Order::Mixed]);
+    shape.seed = r.bits();
+    shape.sheet()
+}
+
+/// A shape on a straight lattice, without a gate and without lines, no two points close, on which no earlier
+/// filter marks a point unless an index repeats.
+pub fn unmarked(cells: Cells, points: usize) -> Shape {
+    Shape {
+        place: Place::Straight,
+        cell_size: 1.0,
+        gate: None,
+        rest: Rest {
+            line_minimum: u16::MAX,
+            ..Rest::defaults()
+        },
+        ..Shape::new(cells, points)
+    }
+}
+
+/// The longest well-framed file: all settings, the gate, as many points as a field holds, and a tag 4 of
+/// as many bytes.
+pub fn longest() -> Sheet {
+    let mut sheet = gated_columns(MOST_RECORDS, 1);
+    sheet.strengths = Strengths::Misfit(vec![0; usize::from(u16::MAX)]);
     sheet
 }
 

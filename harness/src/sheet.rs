@@ -1,4 +1,6 @@
 //! A sheet as data, its file and back. The second program has a reader of its own.
+//!
+//! Each point carries its strength, so that points listed in another order take theirs along.
 
 use std::collections::HashSet;
 
@@ -50,6 +52,33 @@ pub struct Point {
     pub index: u32,
     pub x: f32,
     pub y: f32,
+    /// 0 unless the sheet has strengths.
+    pub strength: f32,
+}
+
+impl Point {
+    /// A point of strength 0.
+    pub fn new(u: i32, v: i32, index: u32, x: f32, y: f32) -> Point {
+        Point {
+            u,
+            v,
+            index,
+            x,
+            y,
+            strength: 0.0,
+        }
+    }
+}
+
+/// Tag 4, but for what the points carry.
+#[derive(Clone, Debug, PartialEq)]
+pub enum Strengths {
+    /// There is no such field.
+    Missing,
+    /// The fraction; each point has its strength.
+    Given(f32),
+    /// The data of a field that is not 4 bytes and 4 for each point long.
+    Misfit(Vec<u8>),
 }
 
 #[derive(Clone, Debug, PartialEq)]
@@ -57,6 +86,7 @@ pub struct Sheet {
     pub settings: Settings,
     pub gate: Option<Gate>,
     pub points: Vec<Point>,
+    pub strengths: Strengths,
 }
 
 /// The most points that a field holds: its length has two bytes, and a point twenty.
@@ -107,11 +137,25 @@ impl Sheet {
         field(3, &data)
     }
 
+    pub fn strengths_field(&self) -> Vec<u8> {
+        match &self.strengths {
+            Strengths::Missing => Vec::new(),
+            Strengths::Given(fraction) => {
+                let strengths = self.points.iter().map(|p| p.strength);
+                let floats = std::iter::once(*fraction).chain(strengths);
+                let data: Vec<u8> = floats.flat_map(f32::to_le_bytes).collect();
+                field(4, &data)
+            }
+            Strengths::Misfit(data) => field(4, data),
+        }
+    }
+
     pub fn to_file(&self) -> Vec<u8> {
         [
             self.settings_field(),
             self.gate_field(),
             self.points_field(),
+            self.strengths_field(),
         ]
         .concat()
     }
@@ -150,16 +194,18 @@ impl Sheet {
             _ => None,
         };
         let length = reader.field(3)?;
-        if length % 20 != 0 || reader.rest.len() != length {
+        if length % 20 != 0 {
             return None;
         }
-        let points = (0..length / 20)
+        let mut points = (0..length / 20)
             .map(|_| reader.point())
-            .collect::<Option<_>>()?;
+            .collect::<Option<Vec<Point>>>()?;
+        let strengths = reader.strengths(&mut points)?;
         Some(Sheet {
             settings,
             gate,
             points,
+            strengths,
         })
     }
 }
@@ -209,13 +255,31 @@ impl Reader<'_> {
             largest_patch: self.u8()?,
         })
     }
+    /// Tag 4, if it is there, and the end of the file; the points get their strengths.
+    fn strengths(&mut self, points: &mut [Point]) -> Option<Strengths> {
+        if self.rest.is_empty() {
+            return Some(Strengths::Missing);
+        }
+        let length = self.field(4)?;
+        if self.rest.len() != length {
+            return None;
+        }
+        if length != 4 + 4 * points.len() {
+            return Some(Strengths::Misfit(self.rest.to_vec()));
+        }
+        let fraction = self.f32()?;
+        for p in points {
+            p.strength = self.f32()?;
+        }
+        Some(Strengths::Given(fraction))
+    }
     fn point(&mut self) -> Option<Point> {
-        Some(Point {
-            u: self.i32()?,
-            v: self.i32()?,
-            index: self.u32()?,
-            x: self.f32()?,
-            y: self.f32()?,
-        })
+        Some(Point::new(
+            self.i32()?,
+            self.i32()?,
+            self.u32()?,
+            self.f32()?,
+            self.f32()?,
+        ))
     }
 }

@@ -1,7 +1,8 @@
 //! The sheets that document 01 names, with what it says of them, one on which the Rust's acos
-//! differs, maps, tallies and calls in a run written out from document 02, A.1 and A.2, and sheets
-//! about A.4's limit of points.
+//! differs, maps, tallies and calls in a run written out from document 02, A.1 and A.2, sheets
+//! about A.4's limit of points, and sheets with A.5's strengths.
 
+mod peels;
 mod points;
 mod runs;
 
@@ -26,16 +27,16 @@ const SHEETS: &[(&str, &str, Says)] = &[
         "no points",
         "cell 100",
         Says::Listing(
-            "points 0 components 0\nkept 0 validate 0 orientation 0 wrong 0 component 0\n",
+            "points 0 components 0 rounds 0\nkept 0 validate 0 orientation 0 wrong 0 leaf 0 component 0\n",
         ),
     ),
     (
         "the sheet of five points",
         FIVE,
         Says::Listing(
-            "points 5 components 2\n0 0 10 ---- - -\n0 1 12 ---- - -\n1 0 11 ---- - -\n\
-             1 1 13 ---- - -\n5 5 14 ---C - -\n\
-             kept 4 validate 0 orientation 0 wrong 0 component 1\n",
+            "points 5 components 2 rounds 0\n0 0 10 ----- - -\n0 1 12 ----- - -\n1 0 11 ----- - -\n\
+             1 1 13 ----- - -\n5 5 14 ----C - -\n\
+             kept 4 validate 0 orientation 0 wrong 0 leaf 0 component 1\n",
         ),
     ),
     // What demand 3 says of the kept patch asks for distinct indices ..
@@ -43,16 +44,16 @@ const SHEETS: &[(&str, &str, Says)] = &[
         "a repeated index: survivors, yet nothing is kept",
         "settings 100 0.15 3 0.2 0 0 0 1\n0 0 7 0 0\n5 5 7 0 0",
         Says::Listing(
-            "points 2 components 2\n0 0 7 ---C - -\n5 5 7 ---C - -\n\
-             kept 0 validate 0 orientation 0 wrong 0 component 1\n",
+            "points 2 components 2 rounds 0\n0 0 7 ----C - -\n5 5 7 ----C - -\n\
+             kept 0 validate 0 orientation 0 wrong 0 leaf 0 component 1\n",
         ),
     ),
     (
         "a repeated index: what is kept lies in pieces",
         "settings 100 0.15 3 0.2 0 0 0 1\n0 0 1 0 0\n1 0 2 100 0\n2 0 3 200 0\n9 9 2 100 0",
         Says::Listing(
-            "points 4 components 2\n0 0 1 ---- - -\n1 0 2 ---C - -\n2 0 3 ---- - -\n\
-             9 9 2 ---C - -\nkept 2 validate 0 orientation 0 wrong 0 component 1\n",
+            "points 4 components 2 rounds 0\n0 0 1 ----- - -\n1 0 2 ----C - -\n2 0 3 ----- - -\n\
+             9 9 2 ----C - -\nkept 2 validate 0 orientation 0 wrong 0 leaf 0 component 1\n",
         ),
     ),
     // .. and what it says of a whole move, for the same validate marks: moved by (1, 0), this sheet
@@ -61,60 +62,60 @@ const SHEETS: &[(&str, &str, Says)] = &[
         "a sheet before a whole move",
         "settings 128 0.02 3 0.25989172 0 0 1 1\n0 0 10 -10 -10\n0 1 11 -2 132\n\
          1 0 12 131 -9\n1 1 13 125 133\n2 0 14 253 10",
-        Says::Marks(&["V---", "----", "V---", "----", "---C"]),
+        Says::Marks(&["V----", "-----", "V----", "-----", "----C"]),
     ),
     (
         "the sheet after it",
         "settings 128 0.02 3 0.25989172 0 0 1 1\n1 0 10 -10 -10\n1 1 11 -2 132\n\
          2 0 12 131 -9\n2 1 13 125 133\n3 0 14 253 10",
-        Says::Marks(&["V---", "----", "----", "----", "----"]),
+        Says::Marks(&["V----", "-----", "-----", "-----", "-----"]),
     ),
     (
         "two patches of one",
         "cell 100\n5 5 1 500 500\n0 0 2 0 0",
-        Says::Marks(&["----", "---C"]),
+        Says::Marks(&["-----", "----C"]),
     ),
     (
         "19 pixels apart",
         "cell 100\n0 0 1 0 0\n1 0 2 19 0",
-        Says::Marks(&["--W-", "--W-"]),
+        Says::Marks(&["--W--", "--W--"]),
     ),
     (
         "20 pixels apart",
         "cell 100\n0 0 1 0 0\n1 0 2 20 0",
-        Says::Marks(&["----", "----"]),
+        Says::Marks(&["-----", "-----"]),
     ),
     (
         "row with both ends wrong",
         "cell 100\n0 0 1 0 0\n1 0 2 140 0\n2 0 3 240 0\n3 0 4 340 0",
-        Says::Marks(&["--W-", "----", "----", "--W-"]),
+        Says::Marks(&["--W--", "-----", "-----", "--W--"]),
     ),
     (
         "row with 440 added",
         "cell 100\n0 0 1 0 0\n1 0 2 140 0\n2 0 3 240 0\n3 0 4 340 0\n4 0 5 440 0",
-        Says::Marks(&["--W-", "----", "----", "----", "----"]),
+        Says::Marks(&["--W--", "-----", "-----", "-----", "-----"]),
     ),
     (
         "row at 0, 130, 230, 330",
         "cell 100\n0 0 1 0 0\n1 0 2 130 0\n2 0 3 230 0\n3 0 4 330 0",
-        Says::Marks(&["----", "----", "----", "----"]),
+        Says::Marks(&["-----", "-----", "-----", "-----"]),
     ),
     (
         "row with one line flag each",
         "cell 100\n0 0 1 0 0\n1 0 2 100 60\n2 0 3 200 0",
-        Says::Marks(&["----", "----", "----"]),
+        Says::Marks(&["-----", "-----", "-----"]),
     ),
     (
         "no vote",
         "cell 100\n0 0 1 0 0\n1 0 2 30 0\n0 1 3 60 0",
-        Says::Marks(&["----", "----", "----"]),
+        Says::Marks(&["-----", "-----", "-----"]),
     ),
     (
         "index 7 twice",
         TWICE,
         Says::Listing(
-            "points 2 components 0\n0 0 7 --W- - -\n1 0 7 --W- - -\n\
-             kept 0 validate 0 orientation 0 wrong 1 component 0\n",
+            "points 2 components 0 rounds 0\n0 0 7 --W-- - -\n1 0 7 --W-- - -\n\
+             kept 0 validate 0 orientation 0 wrong 1 leaf 0 component 0\n",
         ),
     ),
     // The Rust gives no reason here: its acos cannot tell the cosine from the least one.
@@ -122,8 +123,8 @@ const SHEETS: &[(&str, &str, Says)] = &[
         "a cosine one float under the least",
         "cell 1\ngate 1 0.6 16384 -2 16384\n0 0 0 0 0\n1 0 1 3 -14\n2 0 2 16 -20",
         Says::Listing(
-            "points 3 components 2\n0 0 0 ---- - -\n1 0 1 V--- 2 -\n2 0 2 ---C - -\n\
-             kept 1 validate 1 orientation 0 wrong 0 component 1\n",
+            "points 3 components 2 rounds 0\n0 0 0 ----- - -\n1 0 1 V---- 2 -\n2 0 2 ----C - -\n\
+             kept 1 validate 1 orientation 0 wrong 0 leaf 0 component 1\n",
         ),
     ),
 ];
@@ -183,13 +184,13 @@ fn mark_word(line: &str) -> &str {
     line.split(' ').nth(3).unwrap()
 }
 
-/// The marks of each point; a point's line has six words.
+/// The marks of each point, whose lines stand between the first and the last.
 fn marks(listing: &str) -> Vec<&str> {
-    listing
-        .lines()
-        .filter(|line| line.split(' ').count() == 6)
-        .map(mark_word)
-        .collect()
+    let lines: Vec<&str> = listing.lines().collect();
+    match lines.as_slice() {
+        [_, points @ .., _] => points.iter().map(|line| mark_word(line)).collect(),
+        _ => Vec::new(),
+    }
 }
 
 fn listing_of(sheet: &str) -> String {
@@ -218,6 +219,7 @@ pub fn small_files() -> Vec<Vec<u8>> {
     let mut out: Vec<Vec<u8>> = SHEETS.iter().map(|(_, sheet, _)| file(sheet)).collect();
     out.extend([file(TORN), file(REPEATED_AND_INFINITE), Vec::new()]);
     out.extend(runs::files());
+    out.extend(peels::files());
     out
 }
 
@@ -227,6 +229,7 @@ pub fn files() -> Vec<Vec<u8>> {
     out.extend([file(REPEATED_AND_INFINITE), Vec::new()]);
     out.extend(points::files());
     out.extend(MAPS.iter().map(|(_, sheet, _)| file(sheet)));
+    out.extend(peels::files());
     out
 }
 
@@ -251,6 +254,7 @@ pub fn checks() -> Vec<(String, bool)> {
     }
     out.extend(maps());
     out.extend(points::checks());
+    out.extend(peels::checks());
     out.extend(runs::tallies());
     out.extend(runs::calls());
     let mut also = |name: &str, holds: bool| out.push((name.to_string(), holds));

@@ -17,8 +17,8 @@ impl Index<'_> {
     }
 }
 
-/// The different indices of a listing, if the cells of each share their marks. A point's line has six
-/// words.
+/// The different indices of a listing, if the cells of each share their marks. The lines of the points
+/// come after the first, and each has six words; the last has more.
 pub fn indices(listing: &str) -> Option<Vec<Index<'_>>> {
     let mut indices: HashMap<&str, Index> = HashMap::new();
     for line in listing.lines().skip(1) {

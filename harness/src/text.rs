@@ -7,12 +7,17 @@
 //! # optional: minimum degree, least continuation cosine, largest continuation ratio,
 //! # least cell cosine, largest cell ratio
 //! gate 2 0.99 1.18 0.99 1.1
+//! # optional, tag 4: the fraction; each point then has its strength as a sixth number
+//! fraction 0.5
 //! # points: u v index x y
 //! 0 0 10 0 0
+//! # in the place of a fraction, where points have no sixth number: the data of a tag 4 of any
+//! # length, two hexadecimal digits a byte, or nothing for no data
+//! tag4 0000003F00
 //! ```
 //! A float is a decimal number or its eight hexadecimal digits after `0x`.
 
-use crate::sheet::{Gate, Point, Rest, Settings, Sheet, MOST_RECORDS};
+use crate::sheet::{Gate, Point, Rest, Settings, Sheet, Strengths, MOST_RECORDS};
 use std::fmt::Write;
 use std::str::FromStr;
 
@@ -47,17 +52,21 @@ pub fn to_text(sheet: &Sheet) -> String {
         let floats = gate.floats.map(float_text).join(" ");
         writeln!(out, "gate {} {floats}", gate.minimum_degree).unwrap();
     }
+    match &sheet.strengths {
+        Strengths::Missing => {}
+        Strengths::Given(fraction) => writeln!(out, "fraction {}", float_text(*fraction)).unwrap(),
+        Strengths::Misfit(data) => {
+            let digits: String = data.iter().map(|byte| format!("{byte:02X}")).collect();
+            writeln!(out, "{}", format!("tag4 {digits}").trim_end()).unwrap();
+        }
+    }
+    let with_strength = matches!(sheet.strengths, Strengths::Given(_));
     for p in &sheet.points {
-        writeln!(
-            out,
-            "{} {} {} {} {}",
-            p.u,
-            p.v,
-            p.index,
-            float_text(p.x),
-            float_text(p.y)
-        )
-        .unwrap();
+        let mut floats = vec![p.x, p.y];
+        floats.extend(with_strength.then_some(p.strength));
+        let floats: Vec<String> = floats.into_iter().map(float_text).collect();
+        let floats = floats.join(" ");
+        writeln!(out, "{} {} {} {floats}", p.u, p.v, p.index).unwrap();
     }
     out
 }
@@ -105,62 +114,99 @@ fn gate(words: &[&str]) -> Result<Gate, String> {
     })
 }
 
-fn point(words: &[&str]) -> Result<Point, String> {
-    let [u, v, index, x, y] = words else {
-        return Err("a point takes u v index x y".into());
+/// Bytes from their hexadecimal digits.
+fn bytes(digits: &str) -> Result<Vec<u8>, String> {
+    let wrong = || format!("not bytes: {digits}");
+    let pair = |pair: &[u8]| {
+        let text = std::str::from_utf8(pair).map_err(|_| wrong())?;
+        match pair.len() {
+            2 => u8::from_str_radix(text, 16).map_err(|_| wrong()),
+            _ => Err(wrong()),
+        }
     };
-    Ok(Point {
-        u: number(u)?,
-        v: number(v)?,
-        index: number(index)?,
-        x: float(x)?,
-        y: float(y)?,
-    })
+    digits.as_bytes().chunks(2).map(pair).collect()
+}
+
+/// A point, and whether it has a strength.
+fn point(words: &[&str]) -> Result<(Point, bool), String> {
+    let ([u, v, index, x, y], strength) = match words {
+        [u, v, index, x, y] => ([u, v, index, x, y], None),
+        [u, v, index, x, y, strength] => ([u, v, index, x, y], Some(strength)),
+        _ => {
+            return Err("a point takes u v index x y, and a strength if there is a fraction".into())
+        }
+    };
+    let mut point = Point::new(number(u)?, number(v)?, number(index)?, float(x)?, float(y)?);
+    if let Some(strength) = strength {
+        point.strength = float(strength)?;
+    }
+    Ok((point, strength.is_some()))
+}
+
+/// What the lines have said so far.
+struct Lines {
+    settings: Option<Settings>,
+    gate: Option<Gate>,
+    strengths: Strengths,
+    points: Vec<(Point, bool)>,
+}
+
+impl Lines {
+    fn read(&mut self, words: &[&str]) -> Result<(), String> {
+        match words {
+            [] => {}
+            ["cell", size] => {
+                self.settings = Some(Settings {
+                    cell_size: float(size)?,
+                    rest: None,
+                })
+            }
+            ["settings", rest @ ..] => self.settings = Some(settings(rest)?),
+            ["gate", rest @ ..] => self.gate = Some(gate(rest)?),
+            ["fraction", fraction] => self.strengths = Strengths::Given(float(fraction)?),
+            ["tag4"] => self.strengths = Strengths::Misfit(Vec::new()),
+            ["tag4", digits] => self.strengths = Strengths::Misfit(bytes(digits)?),
+            words => self.points.push(point(words)?),
+        }
+        Ok(())
+    }
+
+    fn sheet(self) -> Result<Sheet, String> {
+        let settings = self.settings.ok_or("no line `cell` or `settings`")?;
+        if self.points.len() > MOST_RECORDS {
+            return Err(format!("a field holds at most {MOST_RECORDS} points"));
+        }
+        let fraction = matches!(self.strengths, Strengths::Given(_));
+        if self
+            .points
+            .iter()
+            .any(|(_, strength)| *strength != fraction)
+        {
+            return Err(
+                "every point has a strength, or none, as there is a fraction or not".into(),
+            );
+        }
+        Ok(Sheet {
+            settings,
+            gate: self.gate,
+            points: self.points.into_iter().map(|(point, _)| point).collect(),
+            strengths: self.strengths,
+        })
+    }
 }
 
 pub fn from_text(text: &str) -> Result<Sheet, String> {
-    let mut sheet = Sheet {
-        settings: Settings {
-            cell_size: 0.0,
-            rest: None,
-        },
+    let mut lines = Lines {
+        settings: None,
         gate: None,
+        strengths: Strengths::Missing,
         points: Vec::new(),
     };
-    let mut set = false;
     for (number, line) in text.lines().enumerate() {
-        let words: Vec<&str> = line
-            .split('#')
-            .next()
-            .unwrap_or("")
-            .split_whitespace()
-            .collect();
-        let mut read = || -> Result<(), String> {
-            match words.as_slice() {
-                [] => {}
-                ["cell", size] => {
-                    sheet.settings = Settings {
-                        cell_size: float(size)?,
-                        rest: None,
-                    };
-                    set = true;
-                }
-                ["settings", rest @ ..] => {
-                    sheet.settings = settings(rest)?;
-                    set = true;
-                }
-                ["gate", rest @ ..] => sheet.gate = Some(gate(rest)?),
-                words => sheet.points.push(point(words)?),
-            }
-            Ok(())
-        };
-        read().map_err(|e| format!("line {}: {e}", number + 1))?;
+        let line = line.split('#').next().unwrap_or("");
+        let words: Vec<&str> = line.split_whitespace().collect();
+        let read = lines.read(&words);
+        read.map_err(|e| format!("line {}: {e}", number + 1))?;
     }
-    if !set {
-        return Err("no line `cell` or `settings`".into());
-    }
-    if sheet.points.len() > MOST_RECORDS {
-        return Err(format!("a field holds at most {MOST_RECORDS} points"));
-    }
-    Ok(sheet)
+    lines.sheet()
 }

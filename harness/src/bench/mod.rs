@@ -1,6 +1,7 @@
 //! Microseconds a call: the least processor time of many runs, in tables of Markdown.
 
 mod hard;
+mod peels;
 
 pub use hard::worst;
 
@@ -74,7 +75,7 @@ fn all_ours(rounds: &Rounds, sheet: &Sheet) -> Option<Vec<f64>> {
     let mut rows = vec![0; second::ROW * sheet.points.len()];
     let returned = library::call(&file, &mut rows)?;
     assert!(
-        returned >> 32 == 1,
+        returned >> 32 > 0,
         "a sheet of the bench is refused with {returned}"
     );
     Some(rounds.times(|| library::call(&file, &mut rows)))
@@ -322,6 +323,7 @@ pub fn run(runs: usize, count: usize, file: Option<&str>) {
         hard(&mut out, &rounds);
         growth(&mut out, &rounds);
         others(&mut out, &rounds);
+        peels::table(&mut out, &rounds);
     }
     print!("{}", out.0);
     let Some(file) = file else { return };

@@ -3,7 +3,7 @@
 use crate::random::Random;
 use crate::second::MAX_POINTS;
 use crate::shapes::SIDE;
-use crate::sheet::{Point, Settings, Sheet};
+use crate::sheet::{Point, Settings, Sheet, Strengths};
 
 /// A map from cells to positions that a camera might give.
 struct View {
@@ -60,13 +60,7 @@ pub fn board(r: &mut Random, width: i32, height: i32) -> Sheet {
     for u in 0..width {
         for v in 0..height {
             let (x, y) = view.at(u as f32, v as f32);
-            points.push(Point {
-                u,
-                v,
-                index: points.len() as u32,
-                x,
-                y,
-            });
+            points.push(Point::new(u, v, points.len() as u32, x, y));
         }
     }
     Sheet {
@@ -76,6 +70,7 @@ pub fn board(r: &mut Random, width: i32, height: i32) -> Sheet {
         },
         gate: None,
         points,
+        strengths: Strengths::Missing,
     }
 }
 

@@ -2,8 +2,8 @@
 
 use super::{pages, sheet, Case, Expected, Kind};
 use crate::random::Random;
-use crate::second::{MAX_POINTS, ROW};
-use crate::sheet::{field, Gate, Point, Rest, Sheet, MOST_RECORDS};
+use crate::second::{MAX_POINTS, ORDER, ROW};
+use crate::sheet::{field, Gate, Point, Rest, Sheet, Strengths, MOST_RECORDS};
 
 /// A sheet of any accepted kind, kept short.
 fn whole_sheet(r: &mut Random) -> Sheet {
@@ -108,12 +108,10 @@ fn repeat_cell(r: &mut Random, s: &mut Sheet, whole: bool) {
     s.points.insert(at, p);
 }
 
-/// A point with the index of another and a position that differs in its bits.
-fn tear_index(r: &mut Random, s: &mut Sheet) {
-    let from = s.points[r.below(s.points.len())];
+/// A point like another at a free cell in range, as all cells here are.
+fn like(s: &Sheet, from: Point) -> Point {
     let v = s.points.iter().map(|p| p.v).max().unwrap();
     let u = s.points.iter().map(|p| p.u).max().unwrap();
-    // A free cell in range, as all cells here are.
     let mut p = Point {
         u,
         v: if v < 8000 { v + 1 } else { -8000 },
@@ -122,6 +120,13 @@ fn tear_index(r: &mut Random, s: &mut Sheet) {
     while s.points.iter().any(|q| (q.u, q.v) == (p.u, p.v)) {
         p.v += 1;
     }
+    p
+}
+
+/// A point with the index of another and a position that differs in its bits.
+fn tear_index(r: &mut Random, s: &mut Sheet) {
+    let from = s.points[r.below(s.points.len())];
+    let mut p = like(s, from);
     if r.one_in(3) && from.x == 0.0 {
         p.x = -from.x;
     } else if r.one_in(2) {
@@ -135,6 +140,67 @@ fn tear_index(r: &mut Random, s: &mut Sheet) {
     }
     let at = r.below(s.points.len() + 1);
     s.points.insert(at, p);
+}
+
+/// A float of other bits: another zero, a neighbour or a number apart.
+fn other_bits(r: &mut Random, float: f32) -> f32 {
+    if float == 0.0 && r.one_in(2) {
+        return -float;
+    }
+    match r.below(3) {
+        0 if float < 16384.0 => float.next_up(),
+        1 if float > -16384.0 => float.next_down(),
+        _ if float == 1.0 => 2.0,
+        _ => 1.0,
+    }
+}
+
+/// A point with the index and the position of another and a strength that differs in its bits.
+fn tear_strength(r: &mut Random, s: &mut Sheet) {
+    let from = s.points[r.below(s.points.len())];
+    let mut p = like(s, from);
+    p.strength = other_bits(r, from.strength);
+    let at = r.below(s.points.len() + 1);
+    s.points.insert(at, p);
+}
+
+/// A fraction or a strength that is not finite or too large.
+fn bad_strength(r: &mut Random, s: &mut Sheet) {
+    let bad = r.pick(&NOT_BOUNDED);
+    if r.one_in(3) {
+        s.strengths = Strengths::Given(bad);
+    } else {
+        let at = r.below(s.points.len());
+        s.points[at].strength = bad;
+    }
+}
+
+/// A tag 4 that is longer or shorter than its points ask for.
+fn misfit(r: &mut Random, s: &mut Sheet) {
+    let mut data = s.strengths_field().split_off(3);
+    let right = data.len();
+    let length = match r.below(8) {
+        0 => 0,
+        1 => right - 4,
+        2 => right + 4,
+        3 => right - 1,
+        4 => right + 1,
+        5 => r.below(right),
+        6 => right + 1 + r.below(60),
+        _ => r.pick(&[1, 3, 4, 5, 20 * s.points.len(), usize::from(u16::MAX)]),
+    };
+    data.resize(length, r.bits() as u8);
+    if length == right {
+        data.pop();
+    }
+    s.strengths = Strengths::Misfit(data);
+}
+
+/// Puts numbers into the order in which they are looked for, each once.
+pub fn in_order(numbers: &mut Vec<u8>) {
+    let place = |number: &u8| ORDER.iter().position(|one| one == number);
+    numbers.sort_by_key(place);
+    numbers.dedup();
 }
 
 /// More points than are allowed, and at most as many as a field can hold.
@@ -194,7 +260,8 @@ pub fn map_number(s: &Sheet, chosen: &[u8]) -> Expected {
     older.map_or_else(|| pages::expected(s), |&number| Expected::Refused(number))
 }
 
-/// Puts in the damages of these numbers, rising, and gives the length of the buffer.
+/// Puts in the damages of these numbers, in the order in which they are looked for, and gives the length
+/// of the buffer. A sheet for 12 to 14 has strengths.
 pub fn put_in(r: &mut Random, s: &mut Sheet, chosen: &[u8]) -> usize {
     // Later numbers first, so that an earlier damage cannot undo a later one.
     for &number in chosen.iter().rev() {
@@ -210,6 +277,9 @@ pub fn put_in(r: &mut Random, s: &mut Sheet, chosen: &[u8]) -> usize {
                 repeat_cell(r, s, whole)
             }
             9 => tear_index(r, s),
+            12 => misfit(r, s),
+            13 => bad_strength(r, s),
+            14 => tear_strength(r, s),
             _ => {}
         }
     }

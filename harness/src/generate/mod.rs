@@ -4,6 +4,7 @@ mod boards;
 mod changes;
 mod damage;
 mod pages;
+mod peels;
 mod runs;
 mod settings;
 mod small;
@@ -60,6 +61,18 @@ kinds! {
     Several: "points that several filters mark",
     FarPages: "spans at the map's limits, cells at the limits of 8,000",
     DamagedPages: "damaged files, too wide for a map at times",
+    Chains: "strengths: chains, straight or bent",
+    Combs: "strengths: combs with teeth of several lengths",
+    Rings: "strengths: rings, with tails and chords",
+    Trees: "strengths: trees",
+    Joined: "strengths: patches joined by one cell or a few",
+    Ends: "strengths: repeated indices of which some cell is an end",
+    Scattered: "strengths: cells at random",
+    Weighed: "strengths: sheets of the first kinds, which the earlier filters mark",
+    Long: "strengths: chains, combs, spirals and stairs of many points, to the most of a sheet",
+    DamagedPeels: "strengths: damaged files, several damages at once among them",
+    FramingPeels: "strengths: files whose fields, lengths or end are wrong",
+    ScrambledPeels: "strengths: files with bytes changed at random",
 }
 
 /// What the generator knows of the answer.
@@ -85,6 +98,9 @@ pub struct Case {
 /// How many kinds there were before those for the map: the seeds of the first ones go by it.
 const FIRST: usize = 27;
 
+/// How many there were before those with strengths.
+const BEFORE_PEELS: usize = 33;
+
 impl Kind {
     /// The kinds of all sheets.
     pub fn first() -> &'static [(Kind, &'static str)] {
@@ -93,7 +109,17 @@ impl Kind {
 
     /// The kinds made for the map.
     pub fn for_map() -> &'static [(Kind, &'static str)] {
-        &Kind::ALL[FIRST..]
+        &Kind::ALL[FIRST..BEFORE_PEELS]
+    }
+
+    /// The kinds without strengths.
+    pub fn without_strengths() -> &'static [(Kind, &'static str)] {
+        &Kind::ALL[..BEFORE_PEELS]
+    }
+
+    /// The kinds with strengths.
+    pub fn for_peels() -> &'static [(Kind, &'static str)] {
+        &Kind::ALL[BEFORE_PEELS..]
     }
 
     pub fn from_name(name: &str) -> Option<Kind> {
@@ -105,8 +131,12 @@ impl Kind {
 /// The case of a kind and a seed.
 pub fn case(kind: Kind, seed: u64) -> Case {
     let place = kind as u64;
+    let mut own = Random::new(seed ^ place << 56);
+    if kind as usize >= BEFORE_PEELS {
+        return peels::case(kind, &mut own, seed);
+    }
     if kind as usize >= FIRST {
-        return pages::case(kind, &mut Random::new(seed ^ place << 56), seed);
+        return pages::case(kind, &mut own, seed);
     }
     let mut random = Random::new(seed * FIRST as u64 + place);
     let r = &mut random;

@@ -3,7 +3,7 @@
 use super::{damage, Kind};
 use crate::random::Random;
 use crate::second::{self, Fault, InRun, Record, MOST_SHEETS, NUMBERS, OLD, ROW, SUM_LIMIT};
-use crate::sheet::{Point, Rest, Settings, Sheet};
+use crate::sheet::{Point, Rest, Settings, Sheet, Strengths};
 
 /// How a run begins.
 #[derive(Clone, Copy, Debug)]
@@ -114,8 +114,8 @@ pub fn start(r: &mut Random) -> Start {
     }
 }
 
-/// Kinds of accepted sheets that are small or have repeated indices.
-const KINDS: [Kind; 12] = [
+/// Kinds of accepted sheets that are small or have repeated indices, some with strengths.
+const KINDS: [Kind; 16] = [
     Kind::Small,
     Kind::Small,
     Kind::Wild,
@@ -128,13 +128,19 @@ const KINDS: [Kind; 12] = [
     Kind::Noise,
     Kind::Gated,
     Kind::Several,
+    Kind::Chains,
+    Kind::Ends,
+    Kind::Weighed,
+    Kind::Weighed,
 ];
 
 /// A file that is refused with some number.
 fn refused(r: &mut Random) -> Step {
-    let number = r.whole(1, 9) as u8;
-    if number == 1 {
-        return damage::framing(r, 0).into();
+    let number = r.whole(1, 12) as u8;
+    match number {
+        1 => return damage::framing(r, 0).into(),
+        10.. => return super::case(Kind::DamagedPeels, r.bits() >> 16).into(),
+        _ => {}
     }
     let mut sheet = super::sheet(Kind::Noise, r);
     while sheet.points.len() < 2 {
@@ -187,6 +193,7 @@ fn sheet(rest: Option<Rest>, points: Vec<Point>) -> Sheet {
         },
         gate: None,
         points,
+        strengths: Strengths::Missing,
     }
 }
 
@@ -196,13 +203,13 @@ pub fn few_indices(r: &mut Random) -> Sheet {
     let (height, indices) = (r.whole(1, 4), r.whole(1, 12) as usize);
     let point = |k: i32| {
         let index = r.below(indices) as u32;
-        Point {
-            u: k / height,
-            v: k % height,
+        Point::new(
+            k / height,
+            k % height,
             index,
-            x: 100.0 * index as f32,
-            y: 10.0 * (index % 3) as f32,
-        }
+            100.0 * index as f32,
+            10.0 * (index % 3) as f32,
+        )
     };
     let mut points: Vec<Point> = (0..height * 4).map(point).collect();
     points.retain(|_| !r.one_in(5));

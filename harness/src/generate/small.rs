@@ -1,7 +1,7 @@
 //! Small sheets: few points, small whole positions, degenerate and tiny ones.
 
 use crate::random::Random;
-use crate::sheet::{Gate, Point, Rest, Settings, Sheet};
+use crate::sheet::{Gate, Point, Rest, Settings, Sheet, Strengths};
 
 fn sheet(cell_size: f32, points: Vec<Point>) -> Sheet {
     Sheet {
@@ -11,6 +11,7 @@ fn sheet(cell_size: f32, points: Vec<Point>) -> Sheet {
         },
         gate: None,
         points,
+        strengths: Strengths::Missing,
     }
 }
 
@@ -27,13 +28,7 @@ fn block(
         for v in 0..height {
             if !r.one_in(left_out) {
                 let (x, y) = at(r, u, v);
-                points.push(Point {
-                    u,
-                    v,
-                    index: points.len() as u32,
-                    x,
-                    y,
-                });
+                points.push(Point::new(u, v, points.len() as u32, x, y));
             }
         }
     }
@@ -53,7 +48,7 @@ pub fn shapes(r: &mut Random) -> Sheet {
             let off = r.pick(&[0.0, 0.0, 30.0, 50.0, 100.0]);
             (100.0 * u as f32 + off, 100.0 * v as f32)
         };
-        points.push(Point { u, v, index, x, y });
+        points.push(Point::new(u, v, index, x, y));
     }
     let mut s = sheet(r.pick(&[100.0, 100.0, 50.0, 0.0, -1.0, 1.0]), points);
     if r.one_in(3) {
@@ -139,13 +134,8 @@ pub fn perpendicular(r: &mut Random) -> Sheet {
             (1, 2, down),
             (1, 1, (0.0, 0.0)),
         ];
-        let point = |(k, (u, v, (x, y))): (usize, (i32, i32, (f32, f32)))| Point {
-            u,
-            v,
-            index: k as u32,
-            x,
-            y,
-        };
+        let point =
+            |(k, (u, v, (x, y))): (usize, (i32, i32, (f32, f32)))| Point::new(u, v, k as u32, x, y);
         points = cells.into_iter().enumerate().map(point).collect();
     }
     let mut s = sheet(10.0, points);
@@ -167,13 +157,7 @@ pub fn bent(r: &mut Random) -> Sheet {
     let mut points = Vec::new();
     for k in 0..r.pick(&[3, 3, 4]) {
         let (x, y) = (r.whole(-20, 20) as f32, r.whole(-20, 20) as f32);
-        points.push(Point {
-            u: k,
-            v: 0,
-            index: k as u32,
-            x,
-            y,
-        });
+        points.push(Point::new(k, 0, k as u32, x, y));
     }
     sheet(1.0, points)
 }
@@ -194,20 +178,8 @@ pub fn rows(r: &mut Random) -> Sheet {
         for k in 0..length {
             let (u, v, along, other) = (k, row, x, 100.0 * row as f32);
             let index = points.len() as u32;
-            let p = Point {
-                u,
-                v,
-                index,
-                x: along,
-                y: other,
-            };
-            let turned = Point {
-                u: v,
-                v: u,
-                index,
-                x: other,
-                y: along,
-            };
+            let p = Point::new(u, v, index, along, other);
+            let turned = Point::new(v, u, index, other, along);
             if !(gaps && r.one_in(8)) {
                 points.push(if across { turned } else { p });
             }
@@ -232,13 +204,7 @@ pub fn shared(r: &mut Random) -> Sheet {
     for k in 0..length {
         let bend = r.pick(&[0.0, 0.0, 60.0, 200.0]);
         let (x, y) = (100.0 * (from + k) as f32, bend);
-        points.push(Point {
-            u: from + k,
-            v: 0,
-            index: points.len() as u32,
-            x,
-            y,
-        });
+        points.push(Point::new(from + k, 0, points.len() as u32, x, y));
     }
     for _ in 0..r.whole(1, 5) {
         if n > 0 {
@@ -267,13 +233,7 @@ pub fn two_steps(r: &mut Random) -> Sheet {
     let (x, y) = (r.between(-50.0, 50.0), r.between(-50.0, 50.0));
     let (dx, dy) = (r.between(1.0, 50.0), r.between(1.0, 50.0));
     let cells = [(0, 0, x, y), (0, 1, x, y), (1, 0, x + dx, y + dy)];
-    let point = |(k, (u, v, x, y)): (usize, (i32, i32, f32, f32))| Point {
-        u,
-        v,
-        index: k as u32,
-        x,
-        y,
-    };
+    let point = |(k, (u, v, x, y)): (usize, (i32, i32, f32, f32))| Point::new(u, v, k as u32, x, y);
     let mut s = sheet(dx, cells.into_iter().enumerate().map(point).collect());
     s.settings.rest = Some(Rest {
         line_tolerance: 0.0,

@@ -1,6 +1,8 @@
-//! Which limits of the map some sheets met, and which of a run some calls.
+//! Which limits of the map some sheets met, which kinds of weak ends, and which limits of a run some
+//! calls.
 
 pub mod map;
+pub mod peel;
 pub mod run;
 
 /// A limit's name, and whether it is met.

@@ -100,6 +100,12 @@ impl Limits for Seen {
         ("wrong at 2^31, 11", |s| {
             s.alone("wrong", SUM_LIMIT) && s.full()
         }),
+        ("leaf at 2^31 - 1, accepted", |s| {
+            s.alone("leaf", BELOW) && s.accepted()
+        }),
+        ("leaf at 2^31, 11", |s| {
+            s.alone("leaf", SUM_LIMIT) && s.full()
+        }),
         ("component at 2^31 - 1, accepted", |s| {
             s.alone("component", BELOW) && s.accepted()
         }),
@@ -114,6 +120,7 @@ impl Limits for Seen {
             s.taken_over("orientation")
         }),
         ("wrong taken beyond 2^31 - 1", |s| s.taken_over("wrong")),
+        ("leaf taken beyond 2^31 - 1", |s| s.taken_over("leaf")),
         ("component taken beyond 2^31 - 1", |s| {
             s.taken_over("component")
         }),
@@ -144,6 +151,15 @@ impl Limits for Seen {
         ("11 where the file alone is refused with 7", |s| s.beside(7)),
         ("11 where the file alone is refused with 8", |s| s.beside(8)),
         ("11 where the file alone is refused with 9", |s| s.beside(9)),
+        ("11 where the file alone is refused with 12", |s| {
+            s.beside(12)
+        }),
+        ("11 where the file alone is refused with 13", |s| {
+            s.beside(13)
+        }),
+        ("11 where the file alone is refused with 14", |s| {
+            s.beside(14)
+        }),
         ("an accepted sheet without points", |s| {
             s.accepted() && s.handed.written.is_empty()
         }),

@@ -5,7 +5,7 @@ use crate::library::MAP_SIZE;
 use crate::random::Random;
 use crate::second::{MAX_POINTS, ROW};
 use crate::shapes::{self, any_bits};
-use crate::sheet::{field, Gate, Point, Rest, Settings, Sheet, MOST_RECORDS};
+use crate::sheet::{field, Gate, Point, Rest, Settings, Sheet, Strengths, MOST_RECORDS};
 
 #[derive(Clone, Copy, Debug, PartialEq)]
 pub enum Form {
@@ -17,11 +17,16 @@ pub enum Form {
     Fields,
     Full,
     Fixed,
+    Peels,
+    PeelsChanged,
+    PeelsFramed,
+    PeelsFull,
 }
 
 impl Form {
-    /// Every form with what it holds and its share in a hundred files; the fixed ones are in every run.
-    pub const ALL: [(Form, &'static str, usize); 8] = [
+    /// Every form with what it holds and its share in a hundred files without strengths; the fixed ones are in
+    /// every run, and those with strengths have seeds of their own (`peels.rs`).
+    pub const ALL: [(Form, &'static str, usize); 12] = [
         (Form::Noise, "random bytes, 0 to 66,000", 15),
         (Form::Framed, "right frame, the rest random", 15),
         (Form::Whole, "generated sheets of every kind", 27),
@@ -30,6 +35,18 @@ impl Form {
         (Form::Fields, "the same, fields swapped, repeated, lost", 15),
         (Form::Full, "large sheets of any shape", 3),
         (Form::Fixed, "fixed ones about the most points", 0),
+        (Form::Peels, "generated sheets with strengths", 0),
+        (
+            Form::PeelsChanged,
+            "the same, bytes, fields or the length of tag 4 changed",
+            0,
+        ),
+        (
+            Form::PeelsFramed,
+            "right frame, a tag 4, the rest random",
+            0,
+        ),
+        (Form::PeelsFull, "large sheets with strengths", 0),
     ];
 }
 
@@ -44,7 +61,7 @@ pub struct Load {
 pub const LONGEST_FILE: usize = 140_000;
 pub const LONGEST_BUFFER: usize = 1 << 20;
 
-fn random_bytes(r: &mut Random, length: usize) -> Vec<u8> {
+pub fn random_bytes(r: &mut Random, length: usize) -> Vec<u8> {
     let words = (0..length.div_ceil(8)).flat_map(|_| r.bits().to_le_bytes());
     words.take(length).collect()
 }
@@ -109,20 +126,20 @@ fn any_points(r: &mut Random, right: usize, count: usize) -> Vec<Point> {
         // With every condition right, a position goes by its index.
         let mut from = Random::new(index.into());
         let from = if right == 6 { &mut from } else { &mut *r };
-        Point {
+        Point::new(
             u,
             v,
             index,
-            x: float(from, right >= 4),
-            y: float(from, right >= 4),
-        }
+            float(from, right >= 4),
+            float(from, right >= 4),
+        )
     });
     points.collect()
 }
 
 /// A right frame. Of the rest, a number of conditions holds from the first on; beyond that all is
 /// random.
-fn framed(r: &mut Random) -> Sheet {
+pub fn framed(r: &mut Random) -> Sheet {
     let count = any_count(r);
     let right = r.below(7);
     let settings = any_settings(r, right);
@@ -134,12 +151,13 @@ fn framed(r: &mut Random) -> Sheet {
         settings,
         gate,
         points: any_points(r, right, count),
+        strengths: Strengths::Missing,
     }
 }
 
-/// A generated file of any kind.
+/// A generated file of any kind without strengths.
 fn generated(r: &mut Random) -> Vec<u8> {
-    let kind = r.pick(Kind::ALL).0;
+    let kind = r.pick(Kind::without_strengths()).0;
     generate::case(kind, r.bits() >> 16).file
 }
 
@@ -260,16 +278,21 @@ pub fn nth(seed: u64) -> Load {
         Form::Resized => resized(r),
         Form::Fields => fields(r),
         Form::Full => full(r),
-        Form::Fixed => unreachable!("their share is 0"),
+        _ => unreachable!("their share is 0"),
     };
-    let exact = ROW * claimed(&file).unwrap_or_else(|| r.below(100));
-    let buffer = match r.below(20) {
+    let buffer = buffer(r, &file);
+    Load { form, file, buffer }
+}
+
+/// The length of the buffer that a file is called with.
+pub fn buffer(r: &mut Random, file: &[u8]) -> usize {
+    let exact = ROW * claimed(file).unwrap_or_else(|| r.below(100));
+    match r.below(20) {
         0 | 1 => 0,
         2 | 3 => exact.saturating_sub(1),
         4..7 => r.below(70_000),
         7..9 => exact + r.below(100),
         9 => LONGEST_BUFFER - r.below(5000) * r.below(2),
         _ => exact,
-    };
-    Load { form, file, buffer }
+    }
 }

@@ -3,6 +3,7 @@
 
 mod files;
 mod fixed;
+mod peels;
 mod report;
 mod runner;
 mod wrong;
@@ -15,7 +16,6 @@ use files::Load;
 use fixed::{Origin, FIXED_FILES};
 use report::Report;
 use runner::{Function, Job, Runner, FUNCTIONS};
-use std::ops::Range;
 use std::sync::atomic::{AtomicU64, Ordering};
 use std::time::{Duration, Instant};
 
@@ -81,8 +81,8 @@ impl One<'_> {
     fn in_run(&mut self) -> Option<String> {
         let Load { file, buffer, .. } = self.load;
         let before = match self.origin {
-            Origin::Seed(_) => generate::start(&mut self.r).record(Fault::None),
             Origin::Fixed(_) => Record::new(),
+            _ => generate::start(&mut self.r).record(Fault::None),
         };
         let handed = second::keep_in_run(file, *buffer, &before, Fault::None);
         let number = library::expected(&handed.answer).0;
@@ -94,11 +94,35 @@ impl One<'_> {
     }
 }
 
+/// How many files of seeds there are, without strengths and with them, and the first seed of both.
+#[derive(Clone, Copy)]
+pub struct Files {
+    pub files: u64,
+    pub peels: u64,
+    pub seed: u64,
+}
+
+impl Files {
+    fn origins(&self) -> impl Iterator<Item = Origin> {
+        let (first, files, peels) = (self.seed, self.files, self.peels);
+        let seeds = (first..first + files).map(Origin::Seed);
+        let peels = (first..first + peels).map(Origin::Peel);
+        (0..FIXED_FILES)
+            .map(Origin::Fixed)
+            .chain(seeds)
+            .chain(peels)
+    }
+
+    fn text(&self) -> String {
+        let Files { files, peels, .. } = self;
+        format!("{files} files, {peels} with strengths and {FIXED_FILES} fixed ones")
+    }
+}
+
 /// Runs the fixed files and those of some seeds; ends at the first failure if `short`.
-fn pass(runner: &mut Runner, seeds: Range<u64>, short: bool) -> Report {
+fn pass(runner: &mut Runner, files: Files, short: bool) -> Report {
     let mut report = Report::default();
-    let fixed = (0..FIXED_FILES).map(Origin::Fixed);
-    for origin in fixed.chain(seeds.map(Origin::Seed)) {
+    for origin in files.origins() {
         CASE.store(origin.number(), Ordering::Relaxed);
         let load = origin.load();
         let one = One {
@@ -126,9 +150,8 @@ fn without_library() -> bool {
     false
 }
 
-/// Runs the fixed files and `files` ones from a seed on; with `wrong`, through calls with that deliberate
-/// fault.
-pub fn run(files: u64, seed: u64, heap: bool, wrong: Option<usize>) -> bool {
+/// Runs the fixed files and those of seeds; with `wrong`, through calls with that deliberate fault.
+pub fn run(files: Files, heap: bool, wrong: Option<usize>) -> bool {
     let Some(right) = library::functions() else {
         return without_library();
     };
@@ -136,27 +159,24 @@ pub fn run(files: u64, seed: u64, heap: bool, wrong: Option<usize>) -> bool {
     report_faults();
     let start = Instant::now();
     let mut runner = Runner::new(calls, heap);
-    let report = pass(&mut runner, seed..seed + files, wrong.is_some());
+    let report = pass(&mut runner, files, wrong.is_some());
     report.print(runner.deepest(), start.elapsed());
-    println!(
-        "{files} files and {FIXED_FILES} fixed ones, {} failed",
-        report.failed
-    );
+    println!("{}, {} failed", files.text(), report.failed);
     report.failed == 0
 }
 
 /// Runs the same files in several threads at once, each with its own memory and stack.
-pub fn threads(count: usize, files: u64, seed: u64) -> bool {
+pub fn threads(count: usize, files: Files) -> bool {
     let Some(calls) = library::functions() else {
         return without_library();
     };
     report_faults();
-    let one = || pass(&mut Runner::new(calls, false), seed..seed + files, false).failed;
+    let one = || pass(&mut Runner::new(calls, false), files, false).failed;
     let failed: usize = std::thread::scope(|scope| {
         let all: Vec<_> = (0..count).map(|_| scope.spawn(one)).collect();
         all.into_iter().map(|thread| thread.join().unwrap()).sum()
     });
-    println!("{count} threads, {files} files and {FIXED_FILES} fixed ones each, {failed} failed");
+    println!("{count} threads, {} each, {failed} failed", files.text());
     failed == 0
 }
 

@@ -4,8 +4,8 @@ use super::files::{Form, Load};
 use super::fixed::{Origin, FIXED};
 use super::runner::{Job, FUNCTIONS};
 use crate::header::STACK_SIZE;
-use crate::library::NO_ROOM;
-use crate::second::{Map, FULL, MAX_POINTS};
+use crate::library::{Returned, NO_ROOM};
+use crate::second::{Map, LAST_NUMBER, MAX_POINTS};
 use std::time::Duration;
 
 fn micros(time: Duration) -> f64 {
@@ -43,27 +43,39 @@ impl Times {
     }
 }
 
+/// How many by refusal number; the first counts what is none.
+type ByNumber = [usize; LAST_NUMBER + 1];
+
+fn count(refused: &mut ByNumber, number: u64) {
+    let place = usize::try_from(number).ok().filter(|n| *n <= LAST_NUMBER);
+    refused[place.unwrap_or(0)] += 1;
+}
+
 #[derive(Default)]
 pub struct Report {
     /// Files, accepted ones, their points, longest call, by form.
     forms: [(usize, usize, usize, Duration); Form::ALL.len()],
-    refused: [usize; 10],
+    refused: ByNumber,
     empty_buffers: usize,
     full: usize,
+    /// Accepted sheets with rounds, their rounds, and the most of one.
+    with_rounds: usize,
+    rounds: usize,
+    most_rounds: usize,
     /// How many of each fixed file, and its bytes.
     fixed: [(usize, usize); FIXED.len()],
     rows: Times,
     /// Maps drawn, their lines, maps refused by number.
     maps: usize,
     lines: usize,
-    no_maps: [usize; 11],
+    no_maps: ByNumber,
     /// Maps asked for with a buffer of length 0, and with one too short.
     empty_map_buffers: usize,
     no_room: usize,
     map: Times,
     /// Sheets that a run took, and those that it refused by number.
     taken: usize,
-    not_taken: [usize; FULL as usize + 1],
+    not_taken: ByNumber,
     run: Times,
     pub failed: usize,
 }
@@ -74,13 +86,16 @@ impl Report {
         let form = &mut self.forms[load.form as usize];
         form.0 += 1;
         form.3 = form.3.max(time);
-        if returned >> 32 == 1 {
-            let points = (returned >> 16 & 0xFFFF) as usize;
-            form.1 += 1;
-            form.2 += points;
-            self.full += usize::from(points == MAX_POINTS);
-        } else {
-            self.refused[(returned as usize).min(9)] += 1;
+        match Returned::new(returned) {
+            Returned::Accepted { points, rounds, .. } => {
+                form.1 += 1;
+                form.2 += points;
+                self.full += usize::from(points == MAX_POINTS);
+                self.with_rounds += usize::from(rounds > 0);
+                self.rounds += rounds;
+                self.most_rounds = self.most_rounds.max(rounds);
+            }
+            Returned::Refused(number) => count(&mut self.refused, number),
         }
         self.empty_buffers += usize::from(load.buffer == 0);
         if let Some(which) = origin.which_fixed() {
@@ -97,7 +112,7 @@ impl Report {
                 self.maps += 1;
                 self.lines += text.lines().count();
             }
-            Err(number) => self.no_maps[usize::from(*number)] += 1,
+            Err(number) => count(&mut self.no_maps, (*number).into()),
         }
         self.empty_map_buffers += usize::from(job.buffer == 0);
         self.no_room += usize::from(returned == NO_ROOM);
@@ -106,10 +121,9 @@ impl Report {
 
     /// Counts a call in a run.
     pub fn add_run(&mut self, job: &Job, origin: Origin, returned: u64, time: Duration) {
-        if returned >> 32 == 1 {
-            self.taken += 1;
-        } else {
-            self.not_taken[(returned as usize).min(FULL.into())] += 1;
+        match Returned::new(returned) {
+            Returned::Accepted { .. } => self.taken += 1,
+            Returned::Refused(number) => count(&mut self.not_taken, number),
         }
         self.run.add(job.form, origin, time);
     }
@@ -117,8 +131,8 @@ impl Report {
     /// How many fixed files there were.
     fn print_fixed(&self) {
         let fixed = FIXED.iter().zip(self.fixed);
-        let each = fixed.map(|((points, _), (count, bytes))| {
-            format!("{count} of {points} points in {bytes} bytes")
+        let each = fixed.map(|((what, points, _), (count, bytes))| {
+            format!("{count} of {points} points in {bytes} bytes ({what})")
         });
         println!("fixed: {}", each.collect::<Vec<_>>().join(", "));
     }
@@ -137,14 +151,18 @@ impl Report {
             points += size;
         }
         println!(
-            "accepted {accepted} sheets with {points} points, {} sheets of {MAX_POINTS}; refused with 1 to 9: {:?}; buffers of length 0: {}",
+            "accepted {accepted} sheets with {points} points, {} sheets of {MAX_POINTS}; refused with 1 to {LAST_NUMBER}: {:?}; buffers of length 0: {}",
             self.full,
             &self.refused[1..],
             self.empty_buffers
         );
+        println!(
+            "{} sheets with rounds, {} rounds, the most of one {}",
+            self.with_rounds, self.rounds, self.most_rounds
+        );
         self.print_fixed();
         println!(
-            "maps: {} drawn with {} lines; refused with 1 to 10: {:?}; buffers of length 0: {}, too short for the text: {}",
+            "maps: {} drawn with {} lines; refused with 1 to {LAST_NUMBER}: {:?}; buffers of length 0: {}, too short for the text: {}",
             self.maps,
             self.lines,
             &self.no_maps[1..],
@@ -152,7 +170,7 @@ impl Report {
             self.no_room
         );
         println!(
-            "runs: {} sheets taken; refused with 1 to 11: {:?}",
+            "runs: {} sheets taken; refused with 1 to {LAST_NUMBER}: {:?}",
             self.taken,
             &self.not_taken[1..]
         );

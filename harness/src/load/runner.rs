@@ -5,9 +5,9 @@ use super::LIMIT;
 use crate::clock::processor;
 use crate::guarded::{Area, Callee, Stack};
 use crate::header::STACK_SIZE;
-use crate::library::{Calls, Run, MAP_SIZE, NO_ROOM};
+use crate::library::{Calls, Returned, Run, MAP_SIZE, NO_ROOM};
 use crate::random::Random;
-use crate::second::{Record, FULL, MAX_POINTS, NUMBERS};
+use crate::second::{Record, FULL, MAX_POINTS, NUMBERS, ORDER};
 use std::ops::Range;
 use std::time::Duration;
 
@@ -79,11 +79,22 @@ pub struct Runner {
     paint: Vec<u8>,
 }
 
-/// Whether a function may return this number at all.
+/// Whether a function may return this number at all. Each round removes a point or more, and each patch has
+/// a point that is left.
 fn possible(function: Function, returned: u64) -> bool {
-    let (points, components) = ((returned >> 16 & 0xFFFF) as usize, returned & 0xFFFF);
-    let success = returned >> 32 == 1 && points <= MAX_POINTS && components <= points as u64;
-    let of_sheet = success || (1..=9).contains(&returned);
+    let of_sheet = match Returned::new(returned) {
+        Returned::Refused(number) => {
+            number == 1 || ORDER.iter().any(|one| u64::from(*one) == number)
+        }
+        Returned::Accepted {
+            points,
+            components,
+            rounds,
+        } => {
+            let one = returned >> 32 & 0xFFFF == 1;
+            one && points <= MAX_POINTS && components + rounds <= points
+        }
+    };
     match function {
         Function::Keep => of_sheet,
         Function::Map => returned <= MAP_SIZE as u64 || returned == NO_ROOM,

@@ -2,7 +2,7 @@
 
 use crate::clock::processor;
 use crate::guarded::Callee;
-use crate::library::{self, Calls, Run, NO_ROOM};
+use crate::library::{self, Calls, Returned, Run, NO_ROOM};
 use crate::second::{self, Fault, MAX_POINTS};
 use crate::sheet::MOST_RECORDS;
 use std::hint::black_box;
@@ -11,7 +11,7 @@ use std::sync::Mutex;
 use std::time::Duration;
 
 /// Faults of the call for rows.
-const KEEP: [&str; 17] = [
+const KEEP: [&str; 28] = [
     "reads a byte beyond the file",
     "reads a byte before the file",
     "writes a byte beyond the buffer",
@@ -29,10 +29,21 @@ const KEEP: [&str; 17] = [
     "refuses the most points with 2",
     "refuses with 1 what has more",
     "refuses with 2 what no field holds",
+    "refuses with 11",
+    "counts a round too many",
+    "hands back no rounds",
+    "hands back as many rounds as points and one",
+    "shows weak ends as kept",
+    "shows weak ends as of other patches",
+    "refuses with 1 a tag 4 of another length",
+    "refuses with 7 a strength that is not bounded",
+    "refuses with 9 an index with two strengths",
+    "refuses with 1 the longest well-framed file",
+    "refuses with 12 a byte after it",
 ];
 
 /// Faults of the call for the map.
-const MAP: [&str; 14] = [
+const MAP: [&str; 16] = [
     "map: reads a byte beyond the file",
     "map: reads a byte before the file",
     "map: writes a byte beyond the buffer",
@@ -47,10 +58,12 @@ const MAP: [&str; 14] = [
     "map: answers as in the call before",
     "map: takes 10 ms more than the limit",
     "map: takes 400 KB more of the stack",
+    "map: shows weak ends as kept",
+    "map: gives 13 for 14",
 ];
 
 /// Faults of the call in a run, those aside that the second program has of its own.
-const RUN: [&str; 16] = [
+const RUN: [&str; 20] = [
     "run: takes 400 KB more of the stack",
     "run: reads a byte beyond the file",
     "run: writes a byte beyond the buffer",
@@ -67,6 +80,10 @@ const RUN: [&str; 16] = [
     "run: hands back the record of the call before",
     "run: takes 10 ms more than the limit",
     "run: writes on a refusal",
+    "run: counts a round too many",
+    "run: hands back no rounds",
+    "run: shows weak ends as kept",
+    "run: refuses with 1 a tag 4 of another length",
 ];
 
 /// The faults of the second program's run that one call can show.
@@ -117,6 +134,25 @@ unsafe fn look(at: *const u8) {
     black_box(at.read_volatile());
 }
 
+/// The bit of a weak end, and that of another patch.
+const LEAF: u8 = 16;
+const COMPONENT: u8 = 8;
+
+/// Puts another mark, or none, in the place of each weak end's.
+unsafe fn unmark(rows: *mut u8, points: usize, mark: u8) {
+    for k in 0..points {
+        let at = rows.add(28 * k);
+        if at.read() & LEAF > 0 {
+            at.write(at.read() & !LEAF | mark);
+        }
+    }
+}
+
+/// The number with so many rounds.
+fn with_rounds(returned: u64, rounds: usize) -> u64 {
+    returned & 0xFFFF_FFFF_FFFF | (rounds as u64) << 48
+}
+
 /// The answer of the call before.
 fn earlier(returned: u64) -> u64 {
     BEFORE.swap(returned as usize, Ordering::Relaxed) as u64
@@ -131,8 +167,8 @@ fn linger() {
 unsafe extern "C" fn keep(file: *const u8, file_len: usize, rows: *mut u8, rows_len: usize) -> u64 {
     let keep = library::functions().unwrap().keep;
     let returned = keep(file, file_len, rows, rows_len);
-    let accepted = returned >> 32 == 1;
-    let points = (returned >> 16 & 0xFFFF) as usize;
+    let (points, rounds) = Returned::new(returned).counts();
+    let accepted = returned >> 32 > 0;
     match CHOSEN.load(Ordering::Relaxed) {
         0 => look(file.wrapping_add(file_len)),
         1 => look(file.wrapping_sub(1)),
@@ -151,6 +187,17 @@ unsafe extern "C" fn keep(file: *const u8, file_len: usize, rows: *mut u8, rows_
         14 if points == MAX_POINTS => return 2,
         15 if returned == 2 => return 1,
         16 if returned == 1 && file_len > 20 * MOST_RECORDS => return 2,
+        17 if !accepted => return 11,
+        18 if accepted => return with_rounds(returned, rounds + 1),
+        19 => return with_rounds(returned, 0),
+        20 if accepted => return with_rounds(returned, points + 1),
+        21 => unmark(rows, points, 0),
+        22 => unmark(rows, points, COMPONENT),
+        23 if returned == 12 => return 1,
+        24 if returned == 13 => return 7,
+        25 if returned == 14 => return 9,
+        26 if returned == 12 && file_len == LONGEST => return 1,
+        27 if returned == 1 && file_len == LONGEST + 1 => return 12,
         _ => {}
     }
     returned
@@ -180,6 +227,12 @@ unsafe extern "C" fn map(file: *const u8, file_len: usize, text: *mut u8, text_l
         11 => return earlier(returned),
         12 => linger(),
         13 => return deep(Callee::Plain(map), file, file_len, text, text_len),
+        14 if whole => (0..length).for_each(|k| {
+            if text.add(k).read() == b'L' {
+                text.add(k).write(b'#');
+            }
+        }),
+        15 if whole && length == 11 && text.add(9).read() == b'4' => text.add(9).write(b'3'),
         _ => {}
     }
     returned
@@ -202,7 +255,8 @@ unsafe extern "C" fn keep_in_run(
         return deep(callee, file, file_len, rows, rows_len);
     }
     let returned = callee.call(file, file_len, rows, rows_len);
-    let (accepted, points) = (returned >> 32 == 1, (returned >> 16 & 0xFFFF) as usize);
+    let (points, rounds) = Returned::new(returned).counts();
+    let accepted = returned >> 32 > 0;
     match chosen {
         1 => look(file.wrapping_add(file_len)),
         2 => flip(rows.wrapping_add(rows_len)),
@@ -219,10 +273,17 @@ unsafe extern "C" fn keep_in_run(
         13 if accepted => swap_record(&mut *run),
         14 => linger(),
         15 if !accepted && rows_len > 0 => flip(rows.add(rows_len / 2)),
+        16 if accepted => return with_rounds(returned, rounds + 1),
+        17 => return with_rounds(returned, 0),
+        18 => unmark(rows, points, 0),
+        19 if returned == 12 => return 1,
         _ => {}
     }
     returned
 }
+
+/// The bytes of the longest well-framed file.
+const LONGEST: usize = 131_105;
 
 /// A longer file would take the second program more time than a call may take.
 const LONGEST_BY_SECOND: usize = 10_000;

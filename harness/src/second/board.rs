@@ -62,6 +62,11 @@ impl Board {
         self.find(u, v).map(|k| self.at(k))
     }
 
+    /// What is held at the homes, for each rank.
+    pub fn at_each(&self, held: &[bool]) -> Vec<bool> {
+        self.home.iter().map(|&home| held[home]).collect()
+    }
+
     /// The ranks at the four cells that share an edge with a cell.
     pub fn beside(&self, (u, v): (i32, i32)) -> Vec<usize> {
         let cells = [(u - 1, v), (u + 1, v), (u, v - 1), (u, v + 1)];

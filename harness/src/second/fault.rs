@@ -5,7 +5,8 @@ macro_rules! faults {
         $($name:ident: $text:literal,)* ;
         $($of_tally:ident: $counted:literal,)* ;
         $($of_map:ident: $what:literal,)* ;
-        $($of_run:ident: $wrong:literal,)*
+        $($of_run:ident: $wrong:literal,)* ;
+        $($of_peel:ident: $peeled:literal,)*
     ) => {
         #[derive(Clone, Copy, Debug, PartialEq, Eq)]
         pub enum Fault {
@@ -17,6 +18,7 @@ macro_rules! faults {
             $($of_tally,)*
             $($of_map,)*
             $($of_run,)*
+            $($of_peel,)*
         }
 
         impl Fault {
@@ -34,6 +36,9 @@ macro_rules! faults {
                 $((Fault::$of_tally, $counted),)*
                 $((Fault::$of_run, $wrong),)*
             ];
+
+            /// Every deliberate fault of strengths and of what is made of them.
+            pub const PEEL: &'static [(Fault, &'static str)] = &[$((Fault::$of_peel, $peeled),)*];
 
             /// a above b; under the fault `wrong` also where they are equal.
             pub fn above(self, a: f32, b: f32, wrong: Fault) -> bool {
@@ -153,7 +158,8 @@ faults! {
     RunKeptLast: "kept is added to the last sum, each other number to the sum before its own",
     RunSheetNotCounted: "an accepted sheet is not counted",
     RunEmptyNotCounted: "an accepted sheet without points is not counted",
-    RunCountsRefused: "a sheet refused with 1 to 9 is counted",
+    RunCountsRefused: "a sheet refused with a number of its own is counted",
+    RunCountsNewRefused: "a sheet refused with 12, 13 or 14 is counted",
     RunAddsRefused: "the tally of a sheet refused with 3 is added",
     RunCountsFull: "a sheet refused with 11 is counted",
     RunClearedByRefusal: "a refusal hands back a new record",
@@ -166,6 +172,47 @@ faults! {
     RunOldTested: "an old sum of 2^31 or more is refused with 11",
     RunBothLimits: "11 is given only if sheets and sums are both at their limits",
     RunLastUntested: "the last new sum is not tested",
+    RunLeafUntested: "the new sum of leaf is not tested",
+    RunLeafLost: "leaf is added to no sum",
+    RunLeafIntoComponent: "leaf is added to the new sum of component",
+    RunLeafLast: "the new sum of leaf stands after that of component",
     RunKeptAlone: "of the new sums only kept is tested",
     RunWritesFull: "rows are written on 11",
+    // Those of tag 4.
+    ;
+    NoPeel: "there are no leaf marks and no rounds",
+    RoundSeesRemovals: "a round sees its own removals",
+    OneRound: "there is one round",
+    EmptyRoundCounted: "the last round, which removes nothing, is counted",
+    RoundsByIndex: "rounds counts the indices that are removed",
+    NoWordForZero: "the first line has no `rounds` where there are none",
+    MedianOfLive: "the median is of the live points only",
+    MedianByIndex: "the median counts an index once",
+    LowerStrength: "the median of n strengths is entry (n-1)/2",
+    ThresholdNotRounded: "fraction times median is not rounded",
+    WeakBelowMedian: "a strength below the median is weak, whatever the fraction",
+    WeakAtEqual: "a strength at the threshold itself is weak",
+    EndAtTwo: "a point with two live neighbours is an end",
+    LoneIsNoEnd: "a point without neighbours is no end",
+    EndIsAlone: "only a point without live neighbours is an end",
+    PeelOverCorners: "cells that touch by a corner are neighbours",
+    PeelByCell: "ends go by cell, not by index",
+    EveryCellAnEnd: "an index goes only if all its cells are ends",
+    PeelFromNothing: "the peel starts without the earlier marks",
+    PeelBeforeWrong: "the peel starts without the wrong-label marks",
+    PeelAfterComponent: "the peel runs after the component filter",
+    PeelBySwitch: "the peel runs only with the largest-patch switch",
+    ComponentWithoutLeaf: "the component filter starts without the leaf marks",
+    LeafAfterComponent: "leaf is counted after component",
+    LetterAfterComponent: "the letter L stands after C",
+    LeafAtBit5: "the leaf mark is bit 5",
+    MisfitGives1: "a tag 4 of another length is refused with 1",
+    MisfitAfterMost: "refusal 2 is given before 12",
+    StrengthsBeforePositions: "refusal 13 is given before 7",
+    StrengthsAfterCells: "refusal 8 is given before 13",
+    TornStrengthFirst: "refusal 14 is given before 9",
+    FractionUnbounded: "13 does not look at the fraction",
+    FractionAlone: "13 looks at the fraction alone",
+    StrengthsByValue: "14 compares strengths by value",
+    StrengthsInCellOrder: "strengths are taken in cell order",
 }

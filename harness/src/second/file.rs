@@ -37,6 +37,8 @@ pub struct Point {
     pub v: i32,
     pub index: u32,
     pub at: Vector,
+    /// That of tag 4; 0 without.
+    pub strength: f32,
     /// Place in the file, from 0.
     pub place: usize,
 }
@@ -47,6 +49,15 @@ pub struct Sheet {
     pub settings: Settings,
     pub gate: Option<Gate>,
     pub points: Vec<Point>,
+    /// The fraction of tag 4.
+    pub fraction: Option<f32>,
+}
+
+/// A well-framed file, its points in cell order; those of one cell in the file's.
+pub struct Framed {
+    pub sheet: Sheet,
+    /// "a tag 4 that is not 4 bytes plus 4 per point"
+    misfit: bool,
 }
 
 fn f32_at(data: &[u8], at: usize) -> f32 {
@@ -66,7 +77,12 @@ fn fields(file: &[u8], fault: Fault) -> Option<Vec<(u8, &[u8])>> {
     let mut out = Vec::new();
     let mut rest = file;
     while !rest.is_empty() {
-        if fault == Fault::TailTaken && matches!(out.last(), Some((3, _))) {
+        let ended = match out.last() {
+            Some((3, _)) => rest[0] != 4,
+            Some((4, _)) => true,
+            _ => false,
+        };
+        if fault == Fault::TailTaken && ended {
             break;
         }
         if rest.len() < 3 || rest.len() < 3 + u16_at(rest, 1) {
@@ -125,27 +141,59 @@ fn points(data: &[u8]) -> Option<Vec<Point>> {
                 x: f32_at(record, 12),
                 y: f32_at(record, 16),
             },
+            strength: 0.0,
             place,
         };
         data.chunks(20).enumerate().map(point).collect()
     })
 }
 
-/// The contents of a well-framed file, its points in file order.
-pub fn framed(file: &[u8], fault: Fault) -> Option<Sheet> {
-    let (first, second, third) = match fields(file, fault)?.as_slice() {
+/// "Tag 4, optional, after tag 3, carries a fraction f32 and one strength f32 per point, in the
+/// points' order": hands the points, as the file lists them, their strengths and gives the fraction.
+fn strengths(data: &[u8], points: &mut [Point], fault: Fault) -> Option<f32> {
+    if data.len() != 4 + 4 * points.len() {
+        return None;
+    }
+    if fault == Fault::StrengthsInCellOrder {
+        points.sort_by_key(|p| (p.u, p.v));
+    }
+    for (k, point) in points.iter_mut().enumerate() {
+        point.strength = f32_at(data, 4 + 4 * k);
+    }
+    Some(f32_at(data, 0))
+}
+
+/// The contents of a well-framed file.
+pub fn framed(file: &[u8], fault: Fault) -> Option<Framed> {
+    let fields = fields(file, fault)?;
+    let (fields, fourth) = match fields.as_slice() {
+        [fields @ .., (4, fourth)] => (fields, Some(*fourth)),
+        fields => (fields, None),
+    };
+    let (first, second, third) = match fields {
         [(1, first), (3, third)] => (*first, None, *third),
         [(1, first), (2, second), (3, third)] => (*first, Some(*second), *third),
         _ => return None,
     };
-    Some(Sheet {
-        settings: settings(first)?,
-        gate: match second {
-            Some(data) => Some(gate(data)?),
-            None => None,
-        },
-        points: points(third)?,
-    })
+    let settings = settings(first)?;
+    let gate = match second {
+        Some(data) => Some(gate(data)?),
+        None => None,
+    };
+    let mut points = points(third)?;
+    let fraction = fourth.and_then(|data| strengths(data, &mut points, fault));
+    let misfit = fourth.is_some() && fraction.is_none();
+    if misfit && fault == Fault::MisfitGives1 {
+        return None;
+    }
+    points.sort_by_key(|p| (p.u, p.v));
+    let sheet = Sheet {
+        settings,
+        gate,
+        points,
+        fraction,
+    };
+    Some(Framed { sheet, misfit })
 }
 
 fn out_of_bounds(float: f32) -> bool {
@@ -190,8 +238,30 @@ fn torn_index(points: &[Point]) -> bool {
     keys.windows(2).any(|k| k[0].0 == k[1].0 && k[0] != k[1])
 }
 
-/// The bytes of a file of the most points, with all settings and the gate.
-const LONGEST_ACCEPTED: usize = 3 + 21 + 3 + 17 + 3 + 20 * MAX_POINTS;
+/// "a number in it that is not finite or exceeds 16,384 in magnitude", the fraction included.
+fn bad_strength(sheet: &Sheet, fault: Fault) -> bool {
+    let strengths = || sheet.points.iter().map(|p| p.strength);
+    let fraction = sheet.fraction.filter(|_| fault != Fault::FractionUnbounded);
+    match fault {
+        Fault::FractionAlone => fraction.is_some_and(out_of_bounds),
+        _ => fraction.into_iter().chain(strengths()).any(out_of_bounds),
+    }
+}
+
+/// "one index with different strength bits"
+fn torn_strength(points: &[Point], fault: Fault) -> bool {
+    let bits = |p: &Point| match fault {
+        // Of equal numbers only the zeros differ in their bits.
+        Fault::StrengthsByValue if p.strength == 0.0 => 0,
+        _ => p.strength.to_bits(),
+    };
+    let mut keys: Vec<_> = points.iter().map(|p| (p.index, bits(p))).collect();
+    keys.sort_unstable();
+    keys.windows(2).any(|k| k[0].0 == k[1].0 && k[0] != k[1])
+}
+
+/// The bytes of a file of the most points, with all settings, the gate and strengths.
+const LONGEST_ACCEPTED: usize = 3 + 21 + 3 + 17 + 3 + 20 * MAX_POINTS + 3 + 4 + 4 * MAX_POINTS;
 
 /// The most points of an accepted sheet.
 fn most_points(fault: Fault) -> usize {
@@ -202,43 +272,66 @@ fn most_points(fault: Fault) -> usize {
     }
 }
 
+impl Framed {
+    /// Whether the condition of a number applies, of those but 1.
+    fn applies(&self, number: u8, buffer: usize, fault: Fault) -> bool {
+        let Sheet {
+            settings,
+            gate,
+            points,
+            ..
+        } = &self.sheet;
+        let bad_position = |p: &Point| out_of_bounds(p.at.x) || out_of_bounds(p.at.y);
+        match number {
+            12 => self.misfit,
+            2 => points.len() > most_points(fault),
+            3 => buffer + usize::from(fault == Fault::BufferShort) < ROW * points.len(),
+            4 => bad_flag(settings),
+            5 => bad_float(settings, gate),
+            6 => points.iter().any(|p| bad_cell(p, fault)),
+            7 => points.iter().any(bad_position),
+            13 => bad_strength(&self.sheet, fault),
+            8 => repeated_cell(points),
+            9 => torn_index(points),
+            14 => torn_strength(points, fault),
+            _ => false,
+        }
+    }
+}
+
+/// The largest of all numbers, those of the map and of a run too.
+pub const LAST_NUMBER: usize = 14;
+
+/// The numbers in the order in which they are looked for, after 1: "12, right after 1", "13, right
+/// after 7", "14, right after 9".
+pub const ORDER: [u8; 11] = [12, 2, 3, 4, 5, 6, 7, 13, 8, 9, 14];
+
+/// The order with two exchanged, under a fault.
+fn order(fault: Fault) -> [u8; ORDER.len()] {
+    let mut order = ORDER;
+    let exchanged = match fault {
+        Fault::FlagsAfterFloats => (4, 5),
+        Fault::CellsBeforePositions => (7, 8),
+        Fault::MisfitAfterMost => (12, 2),
+        Fault::StrengthsBeforePositions => (7, 13),
+        Fault::StrengthsAfterCells => (13, 8),
+        Fault::TornStrengthFirst => (9, 14),
+        _ => return order,
+    };
+    let place = |number| ORDER.iter().position(|one| *one == number).unwrap();
+    order.swap(place(exchanged.0), place(exchanged.1));
+    order
+}
+
 /// The accepted sheet, or the first number whose condition applies.
 pub fn read(file: &[u8], buffer: usize, fault: Fault) -> Result<Sheet, u8> {
     if fault == Fault::LongGives2 && file.len() > LONGEST_ACCEPTED {
         return Err(2);
     }
-    let mut sheet = framed(file, fault).ok_or(1)?;
-    let n = sheet.points.len();
-    if n > most_points(fault) {
-        return Err(2);
+    let framed = framed(file, fault).ok_or(1)?;
+    let applies = |number: &u8| framed.applies(*number, buffer, fault);
+    match order(fault).into_iter().find(applies) {
+        Some(number) => Err(number),
+        None => Ok(framed.sheet),
     }
-    if buffer + usize::from(fault == Fault::BufferShort) < ROW * n {
-        return Err(3);
-    }
-    let flags = bad_flag(&sheet.settings);
-    let floats = bad_float(&sheet.settings, &sheet.gate);
-    if flags && !(fault == Fault::FlagsAfterFloats && floats) {
-        return Err(4);
-    }
-    if floats {
-        return Err(5);
-    }
-    if sheet.points.iter().any(|p| bad_cell(p, fault)) {
-        return Err(6);
-    }
-    sheet.points.sort_by_key(|p| (p.u, p.v));
-    if fault == Fault::CellsBeforePositions && repeated_cell(&sheet.points) {
-        return Err(8);
-    }
-    let bad_position = |p: &Point| out_of_bounds(p.at.x) || out_of_bounds(p.at.y);
-    if sheet.points.iter().any(bad_position) {
-        return Err(7);
-    }
-    if repeated_cell(&sheet.points) {
-        return Err(8);
-    }
-    if torn_index(&sheet.points) {
-        return Err(9);
-    }
-    Ok(sheet)
 }

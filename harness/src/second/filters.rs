@@ -13,10 +13,13 @@ const fn filter(bit: u8, letter: char, word: &'static str) -> Filter {
     Filter { bit, letter, word }
 }
 
-pub const FILTERS: [Filter; 4] = [
+/// Document 02, A.5: "Its mark is bit 4, letter L between W and C"; the tally gains "`leaf` before
+/// `component`".
+pub const FILTERS: [Filter; 5] = [
     filter(0, 'V', "validate"),
     filter(1, 'O', "orientation"),
     filter(2, 'W', "wrong"),
+    filter(4, 'L', "leaf"),
     filter(3, 'C', "component"),
 ];
 

@@ -1,4 +1,4 @@
-//! Orientation, wrong-label and component marks, each held at the home of its index.
+//! Orientation and wrong-label marks, each held at the home of its index, and component marks.
 
 use super::board::Board;
 use super::fault::Fault;
@@ -223,9 +223,10 @@ pub fn wrong_label(board: &Board, cell_size: f32, fault: Fault) -> Vec<bool> {
 }
 
 /// "Patches join cells by shared edges; smaller patches are marked, the one with the smaller
-/// least cell winning a tie." Marks at each rank's home, and how many patches there are.
-pub fn component(board: &Board, earlier: &[bool], fault: Fault) -> (Vec<bool>, usize) {
-    let survivor: Vec<bool> = board.home.iter().map(|&home| !earlier[home]).collect();
+/// least cell winning a tie." From the marks of the earlier filters, one for each rank: those of this
+/// one, and how many patches there are.
+pub fn component(board: &Board, dropped: &[bool], fault: Fault) -> (Vec<bool>, usize) {
+    let survivor: Vec<bool> = dropped.iter().map(|dropped| !dropped).collect();
     let patches = board.patches(&survivor, fault == Fault::DiagonalPatches);
     let size = |patch: &[usize]| match fault {
         Fault::PatchesByIndex => patch
@@ -243,17 +244,19 @@ pub fn component(board: &Board, earlier: &[bool], fault: Fault) -> (Vec<bool>, u
         }
     }
     let mut marked = vec![false; board.len()];
-    for (p, patch) in patches.iter().enumerate() {
-        if p != kept || fault == Fault::EmptyPatch {
-            for &k in patch {
-                let at = if fault == Fault::ComponentByCell {
-                    k
-                } else {
-                    board.home[k]
-                };
-                marked[at] = true;
-            }
-        }
+    let marked_patches = patches
+        .iter()
+        .enumerate()
+        .filter(|(p, _)| *p != kept || fault == Fault::EmptyPatch);
+    for &k in marked_patches.flat_map(|(_, patch)| patch) {
+        marked[if fault == Fault::ComponentByCell {
+            k
+        } else {
+            board.home[k]
+        }] = true;
     }
-    (marked, patches.len())
+    match fault {
+        Fault::ComponentByCell => (marked, patches.len()),
+        _ => (board.at_each(&marked), patches.len()),
+    }
 }

@@ -12,6 +12,7 @@ mod fit;
 mod labels;
 mod lines;
 mod map;
+mod peel;
 mod plane;
 mod root;
 mod rows;
@@ -20,13 +21,16 @@ mod tally;
 mod validate;
 
 pub use fault::Fault;
-pub use file::{MAX_POINTS, ROOM, ROW};
+pub use file::{LAST_NUMBER, MAX_POINTS, ORDER, ROOM, ROW};
+pub use filters::FILTERS;
 pub use plane::over_30_degrees;
 pub use root::root;
 pub use run::{keep_in_run, InRun, Record, FULL, MOST_SHEETS, NUMBERS, OLD, SUMMED, SUM_LIMIT};
 pub use tally::Tally;
 
 use board::Board;
+use peel::Peeled;
+use rows::Counts;
 
 /// The answer to a file and a buffer's length.
 #[derive(Clone, Debug, PartialEq)]
@@ -35,6 +39,8 @@ pub enum Answer {
     Accepted {
         points: usize,
         components: usize,
+        /// How many rounds removed weak ends.
+        rounds: usize,
         /// 28 bytes a point, in cell order.
         rows: Vec<u8>,
         tally: Tally,
@@ -74,7 +80,7 @@ pub fn map_text(map: &Map) -> String {
 /// A sheet with all its marks.
 struct Judged {
     board: Board,
-    components: usize,
+    counts: Counts,
     rows: Vec<u8>,
     tally: Tally,
 }
@@ -94,28 +100,36 @@ impl Judged {
             _ => labels::wrong_label(&board, settings.cell_size, fault),
         };
         let earlier = [&findings.marked, &orientation, &wrong_label];
-        let (component, components) = components(&settings, &board, earlier, fault);
-        let marks: rows::Marks = [&findings.marked, &orientation, &wrong_label, &component];
+        let [validate, orientation, wrong] = earlier.map(|marked| board.at_each(marked));
+        let patch = Patches::new(&sheet, &board, [&validate, &orientation, &wrong], fault);
+        let (peeled, component) = (patch.peeled, patch.component);
+        let marks: rows::Marks = [validate, orientation, wrong, peeled.marked, component];
         let mut rows = rows::rows(&board, &findings, &marks, fault);
         if fault == Fault::SameRows {
             rows.fill(0);
         }
         let tally = Tally::new(&board, &rows, fault);
+        let counts = Counts {
+            points: board.len(),
+            components: patch.components,
+            rounds: peeled.rounds,
+        };
         Judged {
             board,
-            components,
+            counts,
             rows,
             tally,
         }
     }
 
-    fn answer(&self) -> Answer {
+    fn answer(&self, fault: Fault) -> Answer {
         Answer::Accepted {
-            points: self.board.len(),
-            components: self.components,
+            points: self.counts.points,
+            components: self.counts.components,
+            rounds: self.counts.rounds,
             rows: self.rows.clone(),
             tally: self.tally,
-            listing: rows::listing(&self.board, &self.rows, self.components, &self.tally),
+            listing: rows::listing(&self.board, &self.rows, self.counts, &self.tally, fault),
         }
     }
 
@@ -124,21 +138,76 @@ impl Judged {
     }
 }
 
+/// What the filters after the first three find.
+struct Patches {
+    peeled: Peeled,
+    component: Vec<bool>,
+    components: usize,
+}
+
+/// For each rank whether one of some filters marks it.
+fn any_of<'a>(board: &Board, marks: impl IntoIterator<Item = &'a Vec<bool>>) -> Vec<bool> {
+    let mut any = vec![false; board.len()];
+    for marked in marks {
+        any.iter_mut()
+            .zip(marked)
+            .for_each(|(any, marked)| *any |= marked);
+    }
+    any
+}
+
+impl Patches {
+    /// "it starts from the marks of the three earlier filters and runs before the component filter".
+    fn new(sheet: &file::Sheet, board: &Board, earlier: [&Vec<bool>; 3], fault: Fault) -> Patches {
+        let three = any_of(board, earlier);
+        let peel = |dropped: &[bool]| match (sheet.fraction, fault) {
+            (None, _) | (_, Fault::NoPeel) => Peeled::nothing(board.len()),
+            _ if fault == Fault::PeelBySwitch && sheet.settings.largest_patch == 0 => {
+                Peeled::nothing(board.len())
+            }
+            (Some(fraction), _) => peel::weak_leaf_peel(board, fraction, dropped, fault),
+        };
+        if fault == Fault::PeelAfterComponent {
+            let (component, components) = components(&sheet.settings, board, &three, fault);
+            let peeled = peel(&any_of(board, [&three, &component]));
+            return Patches {
+                peeled,
+                component,
+                components,
+            };
+        }
+        let dropped = match fault {
+            Fault::PeelFromNothing => any_of(board, []),
+            Fault::PeelBeforeWrong => any_of(board, [earlier[0], earlier[1]]),
+            _ => three.clone(),
+        };
+        let peeled = peel(&dropped);
+        let four = match fault {
+            Fault::ComponentWithoutLeaf => three,
+            _ => any_of(board, [&three, &peeled.marked]),
+        };
+        let (component, components) = components(&sheet.settings, board, &four, fault);
+        Patches {
+            peeled,
+            component,
+            components,
+        }
+    }
+}
+
 /// The component marks and count, from the marks of the earlier filters.
 fn components(
     settings: &file::Settings,
     board: &Board,
-    earlier: [&Vec<bool>; 3],
+    dropped: &[bool],
     fault: Fault,
 ) -> (Vec<bool>, usize) {
-    let n = board.len();
-    let earlier: Vec<bool> = (0..n).map(|k| earlier.iter().any(|m| m[k])).collect();
     let (marks, count) = match settings.largest_patch {
-        0 => (vec![false; n], 0),
-        _ => labels::component(board, &earlier, fault),
+        0 => (vec![false; board.len()], 0),
+        _ => labels::component(board, dropped, fault),
     };
     match fault {
-        Fault::NoComponent => (vec![false; n], count),
+        Fault::NoComponent => (vec![false; board.len()], count),
         Fault::InventedCount if settings.largest_patch == 1 => (marks, 1),
         _ => (marks, count),
     }
@@ -150,7 +219,7 @@ pub fn answer(file: &[u8], buffer: usize, fault: Fault) -> Answer {
         return Answer::Refused(1);
     }
     match file::read(file, buffer, fault) {
-        Ok(sheet) => Judged::new(sheet, fault).answer(),
+        Ok(sheet) => Judged::new(sheet, fault).answer(fault),
         Err(number) => Answer::Refused(number),
     }
 }
@@ -158,8 +227,8 @@ pub fn answer(file: &[u8], buffer: usize, fault: Fault) -> Answer {
 /// The map of a file: the older numbers first, with room for all rows, then 10.
 pub fn map(file: &[u8], fault: Fault) -> Map {
     if fault == Fault::MapRefusedFirst {
-        let sheet = file::framed(file, fault);
-        if sheet.is_some_and(|sheet| map::too_wide(&sheet.points, fault)) {
+        let framed = file::framed(file, fault);
+        if framed.is_some_and(|framed| map::too_wide(&framed.sheet.points, fault)) {
             return Err(map::TOO_WIDE);
         }
     }
@@ -174,7 +243,7 @@ pub fn answer_and_map(file: &[u8], buffer: usize) -> (Answer, Map) {
         Ok(sheet) => {
             let judged = Judged::new(sheet, fault);
             let answer = match file::read(file, buffer, fault) {
-                Ok(_) => judged.answer(),
+                Ok(_) => judged.answer(fault),
                 Err(number) => Answer::Refused(number),
             };
             (answer, judged.map(fault))

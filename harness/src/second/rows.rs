@@ -9,8 +9,8 @@ use super::tally::Tally;
 use super::validate::Findings;
 use std::fmt::Write;
 
-/// The marks of each filter, in the order of the table, at the home of their index.
-pub type Marks<'a> = [&'a [bool]; FILTERS.len()];
+/// The marks of each filter, in the order of the table, one for each rank.
+pub type Marks = [Vec<bool>; FILTERS.len()];
 
 /// "Absent is zero; NaN is 0x7FC00000."
 fn bits(float: Option<f32>) -> u32 {
@@ -49,8 +49,11 @@ pub fn rows(board: &Board, findings: &Findings, marks: &Marks, fault: Fault) -> 
     for k in 0..board.len() {
         let home = board.home[k];
         let byte = FILTERS.iter().zip(marks).fold(0, |byte, (filter, marked)| {
-            let by_cell = fault == Fault::ComponentByCell && filter.letter == 'C';
-            byte | u8::from(marked[if by_cell { k } else { home }]) << filter.bit
+            let bit = match fault {
+                Fault::LeafAtBit5 if filter.letter == 'L' => 5,
+                _ => filter.bit,
+            };
+            byte | u8::from(marked[k]) << bit
         });
         let figures = findings
             .figures
@@ -61,13 +64,40 @@ pub fn rows(board: &Board, findings: &Findings, marks: &Marks, fault: Fault) -> 
     out
 }
 
-/// What the program `sheet` prints for an accepted file.
-pub fn listing(board: &Board, rows: &[u8], components: usize, tally: &Tally) -> String {
+/// The letters of a byte of marks, in the order of the table.
+fn letters(byte: u8, fault: Fault) -> String {
+    let letter = |f: &Filter| if f.marks(byte) { f.letter } else { '-' };
+    let mut letters: Vec<char> = FILTERS.iter().map(letter).collect();
+    if fault == Fault::LetterAfterComponent {
+        letters.swap(3, 4);
+    }
+    letters.into_iter().collect()
+}
+
+/// The counts of the first line.
+#[derive(Clone, Copy)]
+pub struct Counts {
+    pub points: usize,
+    pub components: usize,
+    pub rounds: usize,
+}
+
+/// What the program `sheet` prints for an accepted file: "the first line of the listing ends with
+/// `rounds` and the number of rounds that removed something".
+pub fn listing(board: &Board, rows: &[u8], counts: Counts, tally: &Tally, fault: Fault) -> String {
     let mut out = String::new();
-    writeln!(out, "points {} components {components}", board.len()).unwrap();
+    let Counts {
+        points,
+        components,
+        rounds,
+    } = counts;
+    let rounds = match (fault, rounds) {
+        (Fault::NoWordForZero, 0) => String::new(),
+        _ => format!(" rounds {rounds}"),
+    };
+    writeln!(out, "points {points} components {components}{rounds}").unwrap();
     for (p, row) in board.points.iter().zip(rows.chunks(ROW)) {
-        let letter = |f: &Filter| if f.marks(row[0]) { f.letter } else { '-' };
-        let marks: String = FILTERS.iter().map(letter).collect();
+        let marks = letters(row[0], fault);
         let reason = match row[1] {
             0 => "-".to_string(),
             number => number.to_string(),

@@ -1,4 +1,4 @@
-//! A run of sheets, its record and the second form of the call, from document 02, A.2.
+//! A run of sheets, its record and the second form of the call, from document 02, A.2 and A.5.
 
 use super::fault::Fault;
 use super::file::ROOM;
@@ -8,9 +8,16 @@ use super::{answer, Answer};
 /// "its five old sums": kept and the four filters there were, for ever.
 pub const OLD: usize = 5;
 
-/// "totals of a run, kept and the four filters": the words of the tally that have a new sum, in the
-/// record's order.
-pub const SUMMED: [&str; 5] = ["kept", "validate", "orientation", "wrong", "component"];
+/// "totals of a run, kept and the four filters", and "the run's new sums gain `leaf` before
+/// `component`": the words of the tally that have a new sum, in the record's order.
+pub const SUMMED: [&str; 6] = [
+    "kept",
+    "validate",
+    "orientation",
+    "wrong",
+    "leaf",
+    "component",
+];
 
 /// How many numbers a record has.
 pub const NUMBERS: usize = OLD + 1 + SUMMED.len();
@@ -88,13 +95,19 @@ impl Record {
             Fault::RunRefusesBelow => SUM_LIMIT - 1,
             _ => SUM_LIMIT,
         };
-        let new = match fault {
-            Fault::RunLastUntested => &self.new_sums[..SUMMED.len() - 1],
-            Fault::RunKeptAlone => &self.new_sums[..1],
-            _ => &self.new_sums[..],
+        let tested = |place: usize| match fault {
+            Fault::RunLastUntested => place < SUMMED.len() - 1,
+            Fault::RunLeafUntested => SUMMED[place] != "leaf",
+            Fault::RunKeptAlone => place == 0,
+            _ => true,
         };
+        let new = self.new_sums.iter().enumerate();
+        let new: Vec<u32> = new
+            .filter(|(k, _)| tested(*k))
+            .map(|(_, sum)| *sum)
+            .collect();
         let reaches = |sums: &[u32]| sums.iter().any(|sum| *sum >= limit);
-        let (sheets, sums) = (self.sheets >= most, reaches(new));
+        let (sheets, sums) = (self.sheets >= most, reaches(&new));
         match fault {
             Fault::RunBothLimits => sheets && sums,
             Fault::RunOldTested => sheets || sums || reaches(&self.old_sums),
@@ -106,10 +119,16 @@ impl Record {
     /// can wrap.
     fn add(&mut self, tally: &Tally, fault: Fault) {
         let mut columns = SUMMED;
-        if fault == Fault::RunKeptLast {
-            columns.rotate_left(1);
+        match fault {
+            Fault::RunKeptLast => columns.rotate_left(1),
+            Fault::RunLeafLast => columns.swap(4, 5),
+            _ => {}
         }
-        let numbers = columns.map(|word| tally.of(word));
+        let numbers = columns.map(|word| match (fault, word) {
+            (Fault::RunLeafLost | Fault::RunLeafIntoComponent, "leaf") => 0,
+            (Fault::RunLeafIntoComponent, "component") => tally.of("leaf") + tally.of(word),
+            _ => tally.of(word),
+        });
         let up = |sums: &mut [u32]| {
             let sums = sums.iter_mut().zip(numbers);
             sums.for_each(|(sum, n)| *sum = sum.wrapping_add(n));
@@ -143,7 +162,8 @@ impl Record {
     /// "a refused sheet adds nothing"
     fn after_refusal(mut self, number: u8, file: &[u8], fault: Fault) -> Record {
         match (fault, number) {
-            (Fault::RunCountsRefused, 1..=9) | (Fault::RunCountsFull, FULL) => self.count(),
+            (Fault::RunCountsRefused, 1..=9 | 12..) => self.count(),
+            (Fault::RunCountsNewRefused, 12..) | (Fault::RunCountsFull, FULL) => self.count(),
             (Fault::RunAddsRefused, 3) => {
                 if let Answer::Accepted { tally, .. } = answer(file, ROOM, fault) {
                     self.add(&tally, fault);

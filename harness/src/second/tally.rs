@@ -36,6 +36,9 @@ impl Tally {
                 numbers[place] += 1;
             }
         }
+        if fault == Fault::LeafAfterComponent {
+            numbers.swap(4, 5);
+        }
         Tally(numbers)
     }
 

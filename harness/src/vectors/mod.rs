@@ -8,7 +8,7 @@ mod sheet_file;
 pub use float::float;
 pub use run::run;
 pub use sheet::{sheet, Choice};
-pub use sheet_file::sheet_file;
+pub use sheet_file::{long, sheet_file, spoilt, weighed};
 
 /// A program's files `stdin` and `stdout`.
 pub struct Vectors {

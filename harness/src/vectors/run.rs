@@ -3,19 +3,19 @@
 //! Numbers are little-endian u32. `stdin` is the count of cases, then each case:
 //!
 //! ```text
-//! file length, buffer length, the 11 numbers of the record before, refusal number (0: accepted),
-//! points, components, the 11 numbers of the record after
+//! file length, buffer length, the 12 numbers of the record before, refusal number (0: accepted),
+//! points, components, rounds, the 12 numbers of the record after
 //! the file's bytes
 //! the rows, 28 bytes a point (none for a refusal)
 //! ```
 
-use super::sheet_file::{long, short, spoilt};
+use super::sheet_file::{long, short, spoilt, weighed};
 use super::Vectors;
 use crate::generate::{self, Case, Kind, Step};
 use crate::second::{
     self, Answer, Fault, Record, MAX_POINTS, MOST_SHEETS, NUMBERS, OLD, ROW, SUMMED, SUM_LIMIT,
 };
-use crate::shapes::{columns, gated_columns, half_mirrored, SIDE};
+use crate::shapes::{chain, columns, gated_columns, half_mirrored, longest, SIDE};
 use crate::sheet::{Sheet, MOST_RECORDS};
 use crate::stars;
 
@@ -42,10 +42,13 @@ impl Cases {
     fn call(&mut self, Step { file, buffer }: &Step, before: &Record) -> Record {
         let handed = second::keep_in_run(file, *buffer, before, Fault::None);
         let answer = match handed.answer {
-            Answer::Refused(number) => [u32::from(number), 0, 0],
+            Answer::Refused(number) => [u32::from(number), 0, 0, 0],
             Answer::Accepted {
-                points, components, ..
-            } => [0, points as u32, components as u32],
+                points,
+                components,
+                rounds,
+                ..
+            } => [0, points as u32, components as u32, rounds as u32],
         };
         self.count += 1;
         self.put(&[file.len() as u32, *buffer as u32]);
@@ -79,7 +82,7 @@ fn almost_full() -> Record {
 
 /// A small generated sheet that counts some index under every word.
 fn counted_everywhere() -> Step {
-    let cases = (0..).map(|seed| generate::case(Kind::Several, seed));
+    let cases = (0..).map(|seed| generate::case(Kind::Weighed, seed));
     let mut small = cases.filter(|case| case.file.len() < 1000);
     let everywhere = |case: &Case| match second::answer(&case.file, BUFFER, Fault::None) {
         Answer::Accepted { tally, .. } => SUMMED.iter().all(|word| tally.of(word) > 0),
@@ -129,9 +132,10 @@ fn numbers(cases: &mut Cases) {
     by_sheets.sheets = MOST_SHEETS;
     let mut by_sum = any_record();
     by_sum.new_sums[0] = SUM_LIMIT;
-    for number in 1..=9 {
+    for number in (1..=9).chain(12..=14) {
         let (file, buffer) = match number {
             2 => (short(MAX_POINTS + 1).to_file(), BUFFER),
+            12.. => spoilt(weighed(long(6)), &[number]),
             number => spoilt(long(6), &[number]),
         };
         let step = step(file, buffer);
@@ -149,8 +153,9 @@ fn buffers(cases: &mut Cases) {
 }
 
 /// In a run, a sheet of the most points, with several marks; one point more, the most points that a field
-/// holds, one more than these, and the longest well-framed file, each with room for all its rows. Then the
-/// most points, all kept, as the last sheet of a record with every sum just below its limit.
+/// holds, one more than these, the same with all settings and the gate, and the longest well-framed file,
+/// each with room for all its rows; a chain of the most points. Then the most points, all kept, as the last
+/// sheet of a record with every sum just below its limit.
 fn most_points(cases: &mut Cases) {
     let side = SIDE as usize;
     let sheets = [
@@ -159,6 +164,8 @@ fn most_points(cases: &mut Cases) {
         columns(MOST_RECORDS, 1),
         columns(MOST_RECORDS + 1, 1),
         gated_columns(MOST_RECORDS, 1),
+        longest(),
+        chain(MAX_POINTS),
     ];
     let with_room = |sheet: &Sheet| step(sheet.to_file(), ROW * sheet.points.len());
     cases.calls(&sheets.each_ref().map(with_room), any_record());

@@ -3,8 +3,8 @@
 //! Numbers are little-endian u32. `stdin` is the count of cases, then each case:
 //!
 //! ```text
-//! file length, buffer length, refusal number (0: accepted), points, components, listing length,
-//! map length
+//! file length, buffer length, refusal number (0: accepted), points, components, rounds, listing
+//! length, map length
 //! the file's bytes
 //! the rows, 28 bytes a point (none for a refusal)
 //! the listing's bytes, by a buffer with room for every sheet
@@ -31,30 +31,21 @@ fn put(out: &mut Vec<u8>, numbers: &[usize]) {
 fn encode(file: &[u8], buffer: usize, answer: &Answer, map: &Map) -> Vec<u8> {
     let listing = second::answer(file, ROOM, Fault::None).listing();
     let map = second::map_text(map);
-    let (number, points, components, rows) = match answer {
-        Answer::Refused(number) => (usize::from(*number), 0, 0, &[][..]),
+    let counts = match answer {
+        Answer::Refused(number) => [usize::from(*number), 0, 0, 0],
         Answer::Accepted {
             points,
             components,
-            rows,
+            rounds,
             ..
-        } => (0, *points, *components, &rows[..]),
+        } => [0, *points, *components, *rounds],
     };
     let mut out = Vec::new();
-    put(
-        &mut out,
-        &[
-            file.len(),
-            buffer,
-            number,
-            points,
-            components,
-            listing.len(),
-            map.len(),
-        ],
-    );
+    put(&mut out, &[file.len(), buffer]);
+    put(&mut out, &counts);
+    put(&mut out, &[listing.len(), map.len()]);
     out.extend(file);
-    out.extend(rows);
+    out.extend(answer.rows());
     out.extend(listing.as_bytes());
     out.extend(map.as_bytes());
     out
@@ -82,6 +73,8 @@ pub struct Choice {
     pub maps: usize,
     /// Cases of full lines, with almost the most points each.
     pub full_lines: usize,
+    /// Cases with strengths, of at most `most` bytes of file each.
+    pub peels: usize,
 }
 
 impl Choice {
@@ -93,6 +86,7 @@ impl Choice {
         full: 20,
         maps: 56,
         full_lines: 4,
+        peels: 120,
     };
 }
 
@@ -101,7 +95,7 @@ fn first(cases: impl Iterator<Item = Case>, count: usize) -> Vec<Vec<u8>> {
     cases.filter_map(|case| agreed(&case)).take(count).collect()
 }
 
-/// Document 01's sheets, maps written out by hand, and generated ones.
+/// Document 01's sheets, maps and weak ends written out by hand, and generated ones.
 pub fn sheet(choice: &Choice) -> Vectors {
     let (seed, most) = (choice.seed, choice.most);
     let named = stars::files().into_iter().map(|file| {
@@ -119,11 +113,13 @@ pub fn sheet(choice: &Choice) -> Vectors {
     let lines = (seed..)
         .map(|seed| generate::case(Kind::FullLines, seed))
         .filter(|case| case.file.len() >= 20 * (MAX_POINTS - 100));
+    let peels = of(Kind::for_peels()).filter(|case| case.file.len() <= most);
     let mut cases: Vec<Vec<u8>> = named.collect();
     cases.extend(first(small, choice.sheets));
     cases.extend(first(large, choice.full));
     cases.extend(first(maps, choice.maps));
     cases.extend(first(lines, choice.full_lines));
+    cases.extend(first(peels, choice.peels));
     let mut stdin = Vec::new();
     put(&mut stdin, &[cases.len()]);
     stdin.extend(cases.concat());
