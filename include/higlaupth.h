@@ -2,9 +2,9 @@
  * higlaupth: kept corners of a calibration sheet.
  *
  * Three functions take the bytes of a sheet file and a buffer for the result. higlaupth_keep either
- * refuses the file with a number of 1 to 9 or writes one row of 28 bytes for each point: which
- * filters mark the point, why, its residual and its edge figures. higlaupth_map writes text: a map
- * of the sheet with one character for each cell, or `refused` and a number of 1 to 10.
+ * refuses the file with a number of 1 to 9 or 12 to 14 or writes one row of 28 bytes for each
+ * point: which filters mark the point, why, its residual and its edge figures. higlaupth_map writes
+ * text: a map of the sheet with one character for each cell, or `refused` and such a number or 10.
  * higlaupth_keep_in_run is the second form of higlaupth_keep: it also adds an accepted sheet to the
  * record of a run, or refuses with 11. Two functions start such a record: higlaupth_run_new and
  * higlaupth_run_from_old_sums.
@@ -27,6 +27,8 @@
  *     no edge-shape gate.
  *   tag 3, length 20 times the number of points: for each point u i32, v i32, index u32, x f32,
  *     y f32. Zero points is allowed, and so is any order of the points.
+ *   tag 4, optional, length 4 plus 4 times the number of points: fraction f32, then one strength
+ *     f32 for each point, in the order of tag 3. Without it no weak ends are looked for.
  */
 #ifndef HIGLAUPTH_H
 #define HIGLAUPTH_H
@@ -40,10 +42,10 @@ extern "C" {
 
 /* The version of this header and of the library that is installed with it. A change that breaks a
    caller raises the first number, an addition the second, anything else the third. */
-#define HIGLAUPTH_VERSION_MAJOR 2
-#define HIGLAUPTH_VERSION_MINOR 1
+#define HIGLAUPTH_VERSION_MAJOR 3
+#define HIGLAUPTH_VERSION_MINOR 0
 #define HIGLAUPTH_VERSION_PATCH 0
-#define HIGLAUPTH_VERSION "2.1.0"
+#define HIGLAUPTH_VERSION "3.0.0"
 
 /* Sizes, in bytes but for the first three. */
 #define HIGLAUPTH_MOST_POINTS 2304  /* a sheet with more is refused */
@@ -51,14 +53,15 @@ extern "C" {
 #define HIGLAUPTH_MAP_LINES 60      /* values of v that a map has room for */
 #define HIGLAUPTH_ROW_SIZE 28       /* a row */
 #define HIGLAUPTH_MAP_SIZE 4860     /* 60 lines of a map: a buffer of this size always suffices */
-#define HIGLAUPTH_STACK_SIZE 491520 /* stack to have free; the note at the functions */
+#define HIGLAUPTH_STACK_SIZE 516096 /* stack to have free; the note at the functions */
 
 /* The rows of the most points: a buffer of this size always suffices. */
 #define HIGLAUPTH_ROWS_SIZE (HIGLAUPTH_ROW_SIZE * HIGLAUPTH_MOST_POINTS)
-/* The longest file that can be accepted: tags 1 and 2, and tag 3 with the most points. */
-#define HIGLAUPTH_FILE_SIZE (3 + 21 + 3 + 17 + 3 + 20 * HIGLAUPTH_MOST_POINTS)
+/* The longest file that can be accepted: tags 1 and 2, and tags 3 and 4 with the most points. */
+#define HIGLAUPTH_FILE_SIZE                                                                        \
+    (3 + 21 + 3 + 17 + 3 + 20 * HIGLAUPTH_MOST_POINTS + 3 + 4 + 4 * HIGLAUPTH_MOST_POINTS)
 /* Read so much of a file whose length is not known. */
-#define HIGLAUPTH_READ_SIZE (3 + 21 + 3 + 17 + 3 + 20 * (65535 / 20) + 1)
+#define HIGLAUPTH_READ_SIZE (3 + 21 + 3 + 17 + 3 + 20 * (65535 / 20) + 3 + 65535 + 1)
 
 /* Limits of a run: a record that has reached one, or is over it, takes no more sheets. */
 #define HIGLAUPTH_MOST_SHEETS 65535     /* accepted sheets that it counts */
@@ -66,10 +69,11 @@ extern "C" {
 
 /*
  * HIGLAUPTH_READ_SIZE is one byte more than the longest well-framed file has: 3 + 21 bytes of
- * settings, 3 + 17 of the gate, 3 + 65,520 of points, 3,276 of them. A longer file is refused
- * with 1, and so are its first HIGLAUPTH_READ_SIZE bytes: a reader that stops there gets the
- * whole file's answer. One that stops at HIGLAUPTH_FILE_SIZE may cut a file into one that is
- * accepted though the whole is refused: an accepted file of that size and a byte after it.
+ * settings, 3 + 17 of the gate, 3 + 65,520 of points, 3,276 of them, and 3 + 65,535 of a tag 4,
+ * which is well framed at any length. A longer file is refused with 1, and so are its first
+ * HIGLAUPTH_READ_SIZE bytes: a reader that stops there gets the whole file's answer. One that stops
+ * at HIGLAUPTH_FILE_SIZE may cut a file into one that is accepted though the whole is refused: an
+ * accepted file of that size and a byte after it.
  */
 
 /*
@@ -83,26 +87,34 @@ extern "C" {
 #define HIGLAUPTH_GATE_CELL_COSINE 0.99026811122894287109375f         /* bits 0x3F7D8236 */
 #define HIGLAUPTH_GATE_CELL_RATIO 1.10f                               /* bits 0x3F8CCCCD */
 
-/* Refusals. A call gives the first number whose condition holds. higlaupth_keep looks for 1 to 9 in
-   this order, higlaupth_map for 10 after them, higlaupth_keep_in_run for 11 before them. */
+/* Refusals. A call gives the first number whose condition holds. higlaupth_keep looks for 1 to 9
+   and 12 to 14 in the order in which they stand here, higlaupth_map for 10 after them,
+   higlaupth_keep_in_run for 11 before them. */
 enum higlaupth_refusal {
-    HIGLAUPTH_MISFRAMED = 1,       /* The fields, their order, their lengths or the end of the
-                                      file differ from the list above. */
-    HIGLAUPTH_TOO_MANY_POINTS = 2, /* There are more than 2,304 points. */
-    HIGLAUPTH_SHORT_BUFFER = 3,    /* The result buffer is shorter than 28 bytes per point. */
-    HIGLAUPTH_BAD_SWITCH = 4,      /* The step flag or a switch is neither 0 nor 1. */
-    HIGLAUPTH_BAD_SETTING = 5,     /* A float of tag 1 or 2 is not finite or exceeds 16,384 in
-                                      magnitude. */
-    HIGLAUPTH_BAD_CELL = 6,        /* A u or v lies outside -8,000 to 8,000. */
-    HIGLAUPTH_BAD_POSITION = 7,    /* A position is not finite or exceeds 16,384 in magnitude. */
-    HIGLAUPTH_REPEATED_CELL = 8,   /* Two points have the same cell. */
-    HIGLAUPTH_TWO_POSITIONS = 9,   /* One index stands at positions with different bits. */
-    HIGLAUPTH_MAP_TOO_WIDE = 10,   /* The points span more than 72 values of u or 60 of v, from
-                                      the smallest to the largest. higlaupth_map alone looks for
-                                      this. */
-    HIGLAUPTH_RUN_FULL = 11        /* The run counts 65,535 or more accepted sheets or has a new
-                                      sum of 2^31 or more. higlaupth_keep_in_run alone looks for
-                                      this, before it reads the file. */
+    HIGLAUPTH_MISFRAMED = 1,         /* The fields, their order, their lengths or the end of the
+                                        file differ from the list above. A tag 4 may have any
+                                        length here. */
+    HIGLAUPTH_STRENGTHS_LENGTH = 12, /* Tag 4 is not 4 bytes plus 4 per point. */
+    HIGLAUPTH_TOO_MANY_POINTS = 2,   /* There are more than 2,304 points. */
+    HIGLAUPTH_SHORT_BUFFER = 3,      /* The result buffer is shorter than 28 bytes per point. */
+    HIGLAUPTH_BAD_SWITCH = 4,        /* The step flag or a switch is neither 0 nor 1. */
+    HIGLAUPTH_BAD_SETTING = 5,       /* A float of tag 1 or 2 is not finite or exceeds 16,384 in
+                                        magnitude. */
+    HIGLAUPTH_BAD_CELL = 6,          /* A u or v lies outside -8,000 to 8,000. */
+    HIGLAUPTH_BAD_POSITION = 7,      /* A position is not finite or exceeds 16,384 in
+                                        magnitude. */
+    HIGLAUPTH_BAD_STRENGTH = 13,     /* A number of tag 4, the fraction or a strength, is not
+                                        finite or exceeds 16,384 in magnitude. */
+    HIGLAUPTH_REPEATED_CELL = 8,     /* Two points have the same cell. */
+    HIGLAUPTH_TWO_POSITIONS = 9,     /* One index stands at positions with different bits. */
+    HIGLAUPTH_TWO_STRENGTHS = 14,    /* One index has strengths with different bits: 0 and -0
+                                        differ. */
+    HIGLAUPTH_MAP_TOO_WIDE = 10,     /* The points span more than 72 values of u or 60 of v, from
+                                        the smallest to the largest. higlaupth_map alone looks for
+                                        this. */
+    HIGLAUPTH_RUN_FULL = 11          /* The run counts 65,535 or more accepted sheets or has a new
+                                        sum of 2^31 or more. higlaupth_keep_in_run alone looks for
+                                        this, before it reads the file. */
 };
 
 /*
@@ -146,7 +158,8 @@ enum higlaupth_mark {
     HIGLAUPTH_MARK_VALIDATE = 1,
     HIGLAUPTH_MARK_ORIENTATION = 2,
     HIGLAUPTH_MARK_WRONG_LABEL = 4,
-    HIGLAUPTH_MARK_COMPONENT = 8
+    HIGLAUPTH_MARK_COMPONENT = 8,
+    HIGLAUPTH_MARK_LEAF = 16 /* A weak end of a patch; only with tag 4, whatever the switches. */
 };
 
 /* Values of byte 1: the first reason that holds. */
@@ -185,7 +198,7 @@ enum higlaupth_present {
  * What a caller owes:
  * - `file` points to file_len readable bytes, the buffer to as many writable bytes as its length
  *   says. Either pointer may be null if its length is 0. No alignment is asked for.
- * - `run` points to the 44 bytes of a record, readable and writable, `old_sums` to its 20 readable
+ * - `run` points to the 48 bytes of a record, readable and writable, `old_sums` to its 20 readable
  *   bytes. Neither is null; both are aligned for uint32_t, as any variable of their types is.
  * - No two of these overlap, and during the call nobody else writes `file` or `old_sums` or touches
  *   the buffer or the record.
@@ -201,9 +214,9 @@ enum higlaupth_present {
 
 /*
  * Judges a sheet file and writes its rows: 28 bytes for each point, or nothing if it is refused.
- * Returns a refusal number, 1 to 9, or 2^32 + 2^16 * points + components; higlaupth_refused,
- * higlaupth_points and higlaupth_components take this number apart, and that of
- * higlaupth_keep_in_run, and no other.
+ * Returns a refusal number, 1 to 9 or 12 to 14, or 2^48 * rounds + 2^32 + 2^16 * points +
+ * components; higlaupth_refused, higlaupth_points, higlaupth_components and higlaupth_rounds take
+ * this number apart, and that of higlaupth_keep_in_run, and no other.
  * Example, of the bytes file[0] to file[file_len - 1]; those below go on from it:
  *
  *     uint8_t rows[HIGLAUPTH_ROWS_SIZE];
@@ -253,6 +266,12 @@ static inline const char *higlaupth_refusal_text(unsigned number) {
         return "the points span more than 72 values of u or 60 of v";
     case HIGLAUPTH_RUN_FULL:
         return "the run counts 65,535 or more accepted sheets or has a new sum of 2^31 or more";
+    case HIGLAUPTH_STRENGTHS_LENGTH:
+        return "tag 4 is not 4 bytes plus 4 per point";
+    case HIGLAUPTH_BAD_STRENGTH:
+        return "a number of tag 4 is not finite or exceeds 16,384 in magnitude";
+    case HIGLAUPTH_TWO_STRENGTHS:
+        return "one index has strengths with different bits";
     default:
         return "no such refusal";
     }
@@ -282,6 +301,15 @@ static inline unsigned higlaupth_points(uint64_t returned) {
 static inline unsigned higlaupth_components(uint64_t returned) {
     return (unsigned)(returned & 0xFFFF);
 }
+
+/*
+ * Of a number that higlaupth_keep or higlaupth_keep_in_run returned and that is no refusal: how
+ * many rounds removed weak ends; 0 without tag 4, and never more than there are points.
+ * Example:
+ *
+ *     printf("%u rounds\n", higlaupth_rounds(returned));
+ */
+static inline unsigned higlaupth_rounds(uint64_t returned) { return (unsigned)(returned >> 48); }
 
 /*
  * What a reason, byte 1 of a row, says, in one line of text.
@@ -314,11 +342,12 @@ typedef struct {
     const char *word; /* in the tally of a listing */
 } higlaupth_filter;
 
-#define HIGLAUPTH_FILTERS 4 /* how many there are */
+#define HIGLAUPTH_FILTERS 5 /* how many there are */
 
 /*
- * The filter at a place from 0 to HIGLAUPTH_FILTERS - 1, in the order in which an index is counted:
- * under the first of them that marks it. At any other place there is none, and its mark is 0.
+ * The filter at a place from 0 to HIGLAUPTH_FILTERS - 1, in the order in which they run and in
+ * which an index is counted: under the first of them that marks it. At any other place there is
+ * none, and its mark is 0.
  * Example:
  *
  *     for (unsigned k = 0; k < higlaupth_points(returned); k++) {
@@ -335,6 +364,7 @@ static inline higlaupth_filter higlaupth_filter_at(unsigned place) {
         {HIGLAUPTH_MARK_VALIDATE, 'V', "validate"},
         {HIGLAUPTH_MARK_ORIENTATION, 'O', "orientation"},
         {HIGLAUPTH_MARK_WRONG_LABEL, 'W', "wrong"},
+        {HIGLAUPTH_MARK_LEAF, 'L', "leaf"},
         {HIGLAUPTH_MARK_COMPONENT, 'C', "component"},
         {0, '-', "no such filter"},
     };
@@ -402,13 +432,14 @@ typedef struct {
 } higlaupth_old_sums;
 
 /* The new sums: those of the tallies, which count indices, of the accepted sheets that the record
-   counts. The old sums are no part of them. */
+   counts. The old sums are no part of them, and there are one fewer of these, for ever. */
 typedef struct {
-    uint32_t kept, validate, orientation, wrong, component;
+    uint32_t kept, validate, orientation, wrong, leaf, component;
 } higlaupth_new_sums;
 
-/* The record of a run: 11 u32s, 44 bytes, in this order. It can be copied, stored and handed in
-   again. */
+/* The record of a run: 12 u32s, 48 bytes, in this order. It can be copied, stored and handed in
+   again. One that version 2 stored has 11 u32s: `leaf`, which is then 0, is missing before the
+   last. */
 typedef struct {
     higlaupth_old_sums old_sums;
     uint32_t sheets; /* how many accepted sheets were added to the new sums */

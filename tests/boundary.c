@@ -15,8 +15,12 @@
 enum { PAINT = 0xA5, MOST_RECORDS = 65535 / 20, LINE_SIZE = 6 + 1 + HIGLAUPTH_MAP_COLUMNS + 1 + 1 };
 /* The height of the sheets that are written here: no list of points is then too wide for a map. */
 enum { HEIGHT = 48 };
-/* The record of a run as an array: how many numbers, and where those after the old sums stand. */
-enum { NUMBERS = 11, SHEETS = 5, NEW_SUMS = 6, SUMS = 5 };
+/* The record of a run as an array: how many numbers, old sums and new ones, and where those after
+   the old sums stand. */
+enum { NUMBERS = 12, OLD_SUMS = 5, SHEETS = 5, NEW_SUMS = 6, SUMS = 6 };
+/* Every refusal of higlaupth_keep, in the order in which it looks for them. */
+static const unsigned refusals[] = {1, 12, 2, 3, 4, 5, 6, 7, 13, 8, 9, 14};
+enum { REFUSALS = sizeof refusals / sizeof *refusals, LAST_REFUSAL = 14 };
 
 /* The sizes are constants for the preprocessor too, each one operand. */
 #if HIGLAUPTH_ROWS_SIZE / HIGLAUPTH_ROWS_SIZE != 1 || HIGLAUPTH_FILE_SIZE - HIGLAUPTH_FILE_SIZE != 0
@@ -153,6 +157,30 @@ static size_t write_sheet(unsigned points) {
     return (size_t)(at - file);
 }
 
+/* Writes after the first bytes of `file` a tag 4 of so many bytes: a fraction and strengths, if there
+   is room for all, and zeros. Returns the length of all. */
+static size_t write_strengths(size_t file_len, unsigned size, float fraction,
+                              const float *strengths, unsigned count) {
+    uint8_t *at = write_number(file + file_len, 4, 1);
+    at = write_number(at, size, 2);
+    memset(at, 0, size);
+    if (size >= 4 + 4 * count) {
+        uint8_t *number = write_number(at, bits(fraction), 4);
+        for (unsigned k = 0; k < count; k++) number = write_number(number, bits(strengths[k]), 4);
+    }
+    return (size_t)(at + size - file);
+}
+
+/* The sheet of write_sheet with a tag 4 of its length, all strengths 0, so that nothing is weak. */
+static size_t write_weighed(unsigned points) {
+    return write_strengths(write_sheet(points), 4 + 4 * points, 0, NULL, 0);
+}
+
+/* The longest well-framed file: as many points as a field holds and a tag 4 of as many bytes. */
+static size_t write_longest(void) {
+    return write_strengths(write_sheet(MOST_RECORDS), 65535, 0, NULL, 0);
+}
+
 /* Writes into `file` tag 1 with the cell size alone, and tag 3 with these points. Returns the
    length. */
 static size_t write_points(float cell_size, const point *points, unsigned count) {
@@ -176,8 +204,16 @@ static size_t write_two(int u, int v) {
    shorter than two rows. Returns the length. */
 static size_t write_refused(unsigned number) {
     const point two_positions[] = {{0, 0, 7, 0, 0}, {1, 0, 7, 100, 0}};
+    const point two_cells[] = {{0, 0, 7, 0, 0}, {1, 0, 7, 0, 0}};
+    const float zeros[] = {0.0f, -0.0f}, large[] = {1, 16384.002f};
     size_t length = write_two(1, 0);
     switch (number) {
+    case HIGLAUPTH_STRENGTHS_LENGTH:
+        return write_strengths(length, 11, 1, NULL, 0);
+    case HIGLAUPTH_BAD_STRENGTH:
+        return write_strengths(length, 12, 1, large, 2);
+    case HIGLAUPTH_TWO_STRENGTHS:
+        return write_strengths(write_points(100, two_cells, 2), 12, 1, zeros, 2);
     case HIGLAUPTH_MISFRAMED:
         return length - 1;
     case HIGLAUPTH_TOO_MANY_POINTS:
@@ -210,7 +246,8 @@ static void check_numbers(const char *version) {
     CHECK(strcmp(HIGLAUPTH_VERSION, version) == 0);
     CHECK(strcmp(numbers, version) == 0);
     CHECK(HIGLAUPTH_MOST_POINTS == 2304 && HIGLAUPTH_ROWS_SIZE == 64512);
-    CHECK(HIGLAUPTH_READ_SIZE == 65567 + 1);
+    CHECK(HIGLAUPTH_FILE_SIZE == 24 + 20 + 3 + 20 * 2304 + 3 + 4 + 4 * 2304);
+    CHECK(HIGLAUPTH_READ_SIZE == 131105 + 1);
     CHECK((uint64_t)HIGLAUPTH_MOST_SHEETS * HIGLAUPTH_MOST_POINTS < HIGLAUPTH_SUM_LIMIT);
     CHECK(HIGLAUPTH_MAP_SIZE == LINE_SIZE * HIGLAUPTH_MAP_LINES && LINE_SIZE == 80 + 1);
     CHECK(HIGLAUPTH_NO_ROOM > HIGLAUPTH_MAP_SIZE && HIGLAUPTH_NO_ROOM + 1 == 0);
@@ -244,7 +281,8 @@ static void check_filters(void) {
         seen |= mark;
     }
     CHECK(seen == (HIGLAUPTH_MARK_VALIDATE | HIGLAUPTH_MARK_ORIENTATION | HIGLAUPTH_MARK_WRONG_LABEL |
-                   HIGLAUPTH_MARK_COMPONENT));
+                   HIGLAUPTH_MARK_LEAF | HIGLAUPTH_MARK_COMPONENT));
+    CHECK(HIGLAUPTH_MARK_LEAF == 1 << 4 && higlaupth_filter_at(3).mark == HIGLAUPTH_MARK_LEAF);
     CHECK(higlaupth_filter_at(HIGLAUPTH_FILTERS).mark == 0);
     CHECK(higlaupth_filter_at(0xFFFFFFFF).mark == 0);
 }
@@ -270,6 +308,7 @@ static void check_five_points(const char *path) {
         CHECK(returned == ((uint64_t)1 << 32) + (5 << 16) + 2);
         CHECK(!higlaupth_refused(returned));
         CHECK(higlaupth_points(returned) == 5 && higlaupth_components(returned) == 2);
+        CHECK(higlaupth_rounds(returned) == 0);
         CHECK(memcmp(after, expected, rows) == 0 && painted(rows, room[k]));
     }
     CHECK(keep(length, rows - 1) == HIGLAUPTH_SHORT_BUFFER && painted(0, rows - 1));
@@ -282,8 +321,9 @@ static void check_five_points(const char *path) {
 static void check_lengths(void) {
     CHECK(higlaupth_keep(NULL, 0, NULL, 0) == HIGLAUPTH_MISFRAMED);
     CHECK(higlaupth_refused(HIGLAUPTH_TWO_POSITIONS));
+    CHECK(higlaupth_refused(HIGLAUPTH_TWO_STRENGTHS));
 
-    CHECK(write_sheet(HIGLAUPTH_MOST_POINTS) == HIGLAUPTH_FILE_SIZE);
+    CHECK(write_weighed(HIGLAUPTH_MOST_POINTS) == HIGLAUPTH_FILE_SIZE);
     uint64_t returned = keep(HIGLAUPTH_FILE_SIZE, HIGLAUPTH_ROWS_SIZE);
     CHECK(!higlaupth_refused(returned) && higlaupth_points(returned) == HIGLAUPTH_MOST_POINTS);
     CHECK(keep(HIGLAUPTH_FILE_SIZE + 1, HIGLAUPTH_ROWS_SIZE) == HIGLAUPTH_MISFRAMED);
@@ -292,9 +332,13 @@ static void check_lengths(void) {
 
     const size_t more = write_sheet(HIGLAUPTH_MOST_POINTS + 1), one_row = HIGLAUPTH_ROW_SIZE;
     CHECK(keep(more, HIGLAUPTH_ROWS_SIZE + one_row) == HIGLAUPTH_TOO_MANY_POINTS);
+    const size_t weighed = write_weighed(HIGLAUPTH_MOST_POINTS + 1);
+    CHECK(keep(weighed, HIGLAUPTH_ROWS_SIZE) == HIGLAUPTH_TOO_MANY_POINTS);
+    CHECK(keep(write_sheet(MOST_RECORDS), HIGLAUPTH_ROWS_SIZE) == HIGLAUPTH_TOO_MANY_POINTS);
+    CHECK(keep(write_weighed(MOST_RECORDS), HIGLAUPTH_ROWS_SIZE) == HIGLAUPTH_TOO_MANY_POINTS);
     CHECK(keep(write_sheet(MOST_RECORDS + 1), HIGLAUPTH_ROWS_SIZE) == HIGLAUPTH_MISFRAMED);
-    CHECK(write_sheet(MOST_RECORDS) == HIGLAUPTH_READ_SIZE - 1);
-    CHECK(keep(HIGLAUPTH_READ_SIZE - 1, HIGLAUPTH_ROWS_SIZE) == HIGLAUPTH_TOO_MANY_POINTS);
+    CHECK(write_longest() == HIGLAUPTH_READ_SIZE - 1);
+    CHECK(keep(HIGLAUPTH_READ_SIZE - 1, HIGLAUPTH_ROWS_SIZE) == HIGLAUPTH_STRENGTHS_LENGTH);
     CHECK(keep(HIGLAUPTH_READ_SIZE, HIGLAUPTH_ROWS_SIZE) == HIGLAUPTH_MISFRAMED);
     CHECK(keep(sizeof file, HIGLAUPTH_ROWS_SIZE) == HIGLAUPTH_MISFRAMED);
     CHECK(painted(0, HIGLAUPTH_ROWS_SIZE));
@@ -341,7 +385,7 @@ static int finds(const char *text, unsigned number) {
 /* higlaupth_map_refusal on each refusal, with a byte less or more, and on other texts. */
 static void check_refusal_texts(void) {
     char text[20];
-    for (unsigned number = 1; number <= HIGLAUPTH_MAP_TOO_WIDE; number++) {
+    for (unsigned number = 1; number <= LAST_REFUSAL; number++) {
         size_t size = (size_t)sprintf(text, "refused %u\n.", number) - 1;
         CHECK(higlaupth_map_refusal((uint8_t *)text, size) == number);
         CHECK(higlaupth_map_refusal((uint8_t *)text, HIGLAUPTH_NO_ROOM) == 0);
@@ -403,45 +447,129 @@ static void check_page(void) {
     CHECK(higlaupth_map(NULL, 0, NULL, 0) == HIGLAUPTH_NO_ROOM);
     CHECK(higlaupth_map(NULL, 0, after, 10) == 10 && memcmp(after, "refused 1\n", 10) == 0);
 
-    CHECK(write_sheet(HIGLAUPTH_MOST_POINTS) == HIGLAUPTH_FILE_SIZE);
+    CHECK(write_weighed(HIGLAUPTH_MOST_POINTS) == HIGLAUPTH_FILE_SIZE);
     CHECK(map(HIGLAUPTH_FILE_SIZE, HIGLAUPTH_MAP_SIZE) == HEIGHT * LINE_SIZE);
     check_both_refused(HIGLAUPTH_FILE_SIZE + 1);
     check_both_refused(write_sheet(HIGLAUPTH_MOST_POINTS + 1));
     check_both_refused(write_sheet(MOST_RECORDS + 1));
-    CHECK(write_sheet(MOST_RECORDS) == HIGLAUPTH_READ_SIZE - 1);
+    CHECK(write_longest() == HIGLAUPTH_READ_SIZE - 1);
     check_both_refused(HIGLAUPTH_READ_SIZE - 1);
     check_both_refused(HIGLAUPTH_READ_SIZE);
     check_both_refused(sizeof file);
+    check_both_refused(write_refused(HIGLAUPTH_STRENGTHS_LENGTH));
+    check_both_refused(write_refused(HIGLAUPTH_BAD_STRENGTH));
+    check_both_refused(write_refused(HIGLAUPTH_TWO_STRENGTHS));
 }
 
-/* The record is eleven u32s in their order; the sums stand in the order of the tally. */
+/* Tag 4 after a sheet of two points: any length but 12 is refused with 12, a cut or doubled one with
+   1, a number beyond its limit with 13. */
+static void check_strengths(void) {
+    const float values[] = {16384, -16384, 16384.002f, -16384.002f};
+    float strengths[] = {1, 1};
+    const size_t length = write_two(1, 0), room = HIGLAUPTH_ROWS_SIZE;
+    for (unsigned size = 0; size <= 60; size++) {
+        const size_t all = write_strengths(length, size, 1, NULL, 0);
+        CHECK(all == length + 3 + size);
+        if (size == 12)
+            CHECK(!higlaupth_refused(keep(all, room)));
+        else
+            CHECK(keep(all, room) == HIGLAUPTH_STRENGTHS_LENGTH);
+        for (size_t cut = length + 1; cut < all; cut++)
+            CHECK(keep(cut, room) == HIGLAUPTH_MISFRAMED);
+    }
+    for (int k = 0; k < 4; k++) {
+        /* The second strength, and then the fraction. */
+        strengths[1] = values[k];
+        const uint64_t one = keep(write_strengths(length, 12, 1, strengths, 2), room);
+        strengths[1] = 1;
+        const uint64_t other = keep(write_strengths(length, 12, values[k], strengths, 2), room);
+        if (k < 2)
+            CHECK(!higlaupth_refused(one) && !higlaupth_refused(other));
+        else
+            CHECK(one == HIGLAUPTH_BAD_STRENGTH && other == HIGLAUPTH_BAD_STRENGTH);
+    }
+    const size_t once = write_strengths(length, 12, 1, strengths, 2);
+    CHECK(keep(write_strengths(once, 12, 1, strengths, 2), room) == HIGLAUPTH_MISFRAMED);
+}
+
+/* A chain of five that loses one point a round but for the last: the number, the rows, the map, and
+   the same of the most points. */
+static void check_weak_ends(void) {
+    static float strengths[HIGLAUPTH_MOST_POINTS];
+    static point points[HIGLAUPTH_MOST_POINTS];
+    const unsigned counts[] = {1, 5, HIGLAUPTH_MOST_POINTS};
+    for (int n = 0; n < 3; n++) {
+        const unsigned count = counts[n];
+        for (unsigned k = 0; k < count; k++) {
+            point p = {(int)k, 0, k, 7.0f * (float)k, 0};
+            points[k] = p;
+            strengths[k] = k + 1 < count ? 1 : 2;
+        }
+        size_t length = write_points(7, points, count);
+        length = write_strengths(length, 4 + 4 * count, 2, strengths, count);
+        /* The one point alone is weak too: its strength is the median. */
+        const unsigned rounds = count == 1 ? 1 : count - 1, left = count == 1 ? 0 : 1;
+        uint64_t returned = keep(length, HIGLAUPTH_ROWS_SIZE);
+        CHECK(returned == ((uint64_t)rounds << 48) + ((uint64_t)1 << 32) + (count << 16) + left);
+        CHECK(!higlaupth_refused(returned) && higlaupth_rounds(returned) == rounds);
+        CHECK(higlaupth_points(returned) == count && higlaupth_components(returned) == left);
+        for (unsigned k = 0; k < count; k++) {
+            const unsigned marks = after[k * HIGLAUPTH_ROW_SIZE + HIGLAUPTH_MARKS];
+            CHECK(marks == (k < rounds ? HIGLAUPTH_MARK_LEAF : 0));
+        }
+        if (count == 5) {
+            char text[LINE_SIZE + 1] = "     0 LLLL#";
+            memset(text + 12, '.', LINE_SIZE - 14);
+            memcpy(text + LINE_SIZE - 2, " \n", 3);
+            check_drawn(length, text, LINE_SIZE);
+        } else if (count > HIGLAUPTH_MAP_COLUMNS) {
+            check_refused(length, HIGLAUPTH_MAP_TOO_WIDE);
+        }
+        uint32_t numbers[NUMBERS] = {0}, expected[NUMBERS] = {0};
+        expected[SHEETS] = 1;
+        expected[NEW_SUMS] = left;
+        expected[NEW_SUMS + 4] = rounds;
+        CHECK(keep_in_run(length, HIGLAUPTH_ROWS_SIZE, numbers) == returned);
+        CHECK(memcmp(numbers, expected, sizeof expected) == 0);
+    }
+}
+
+/* The record is twelve u32s in their order; the sums stand in the order of the tally, the old ones
+   without `leaf`. */
 static void check_record(void) {
     typedef struct {
         char before;
         higlaupth_run run;
     } later;
-#define FIELD(name) {#name, offsetof(higlaupth_old_sums, name), offsetof(higlaupth_new_sums, name)}
+#define OLD(name) offsetof(higlaupth_old_sums, name)
+#define NEW(name) {#name, offsetof(higlaupth_new_sums, name)}
+    const size_t old_sums[] = {OLD(kept), OLD(validate), OLD(orientation), OLD(wrong),
+                               OLD(component)};
     const struct {
         const char *name;
-        size_t in_old, in_new;
-    } fields[] = {FIELD(kept), FIELD(validate), FIELD(orientation), FIELD(wrong), FIELD(component)};
-    CHECK(sizeof fields / sizeof *fields == SUMS && HIGLAUPTH_FILTERS + 1 == SUMS);
+        size_t at;
+    } new_sums[] = {NEW(kept),  NEW(validate), NEW(orientation),
+                    NEW(wrong), NEW(leaf),     NEW(component)};
+    CHECK(sizeof old_sums / sizeof *old_sums == OLD_SUMS);
+    CHECK(sizeof new_sums / sizeof *new_sums == SUMS && HIGLAUPTH_FILTERS + 1 == SUMS);
+    for (unsigned k = 0; k < OLD_SUMS; k++) CHECK(old_sums[k] == 4 * k);
     for (unsigned k = 0; k < SUMS; k++) {
-        CHECK(fields[k].in_old == 4 * k && fields[k].in_new == 4 * k);
-        CHECK(k == 0 || strcmp(fields[k].name, higlaupth_filter_at(k - 1).word) == 0);
+        CHECK(new_sums[k].at == 4 * k);
+        CHECK(k == 0 || strcmp(new_sums[k].name, higlaupth_filter_at(k - 1).word) == 0);
     }
-#undef FIELD
-    CHECK(sizeof(higlaupth_old_sums) == 4 * SUMS && sizeof(higlaupth_new_sums) == 4 * SUMS);
+#undef OLD
+#undef NEW
+    CHECK(sizeof(higlaupth_old_sums) == 4 * OLD_SUMS && sizeof(higlaupth_new_sums) == 4 * SUMS);
     CHECK(offsetof(higlaupth_run, old_sums) == 0);
     CHECK(offsetof(higlaupth_run, sheets) == 4 * SHEETS);
     CHECK(offsetof(higlaupth_run, new_sums) == 4 * NEW_SUMS);
-    CHECK(sizeof(higlaupth_run) == 4 * NUMBERS && 4 * NUMBERS == 44);
+    CHECK(sizeof(higlaupth_run) == 4 * NUMBERS && 4 * NUMBERS == 48);
     CHECK(offsetof(later, run) == sizeof(uint32_t));
 }
 
 /* Both functions that start a record write all of it, whatever was there. */
 static void check_started(void) {
-    const uint32_t handed_in[][SUMS] = {
+    const uint32_t handed_in[][OLD_SUMS] = {
         {0, 0, 0, 0, 0},
         {812, 40, 3, 25, 120},
         {0x7FFFFFFF, 0x80000000, 65535, 65536, 1},
@@ -495,17 +623,25 @@ static void check_not_added(size_t file_len, size_t rows_len, const uint32_t *nu
     CHECK(memcmp(then, numbers, sizeof then) == 0);
 }
 
-/* A sheet without repeated indices with a different number under each word of the tally. */
-static const point fifteen[] = {
+/* A sheet without repeated indices with a different number under each word of the tally. The last
+   six points are weak and have no neighbours. */
+static const point twenty_one[] = {
     {0, 1, 1, 0, 100},        {0, 2, 2, 0, 200},        {1, 0, 3, 100, 0},
     {1, 1, 4, 0, 0},          {1, 2, 5, 100, 200},      {2, 0, 6, 230, -30},
     {2, 2, 7, 200, 200},      {3, 0, 8, 300, 0},        {3, 1, 9, 300, 100},
     {3, 2, 10, 330, 170},     {4, 0, 11, 400, 0},       {4, 2, 12, 400, 200},
     {10, 10, 13, 1000, 1000}, {12, 13, 14, 1250, 1000}, {14, 16, 15, 1500, 1000},
+    {20, 20, 16, 2000, 2000}, {22, 23, 17, 2200, 2300}, {24, 26, 18, 2400, 2600},
+    {26, 29, 19, 2600, 2900}, {28, 32, 20, 2800, 3200}, {30, 35, 21, 3000, 3500},
 };
-static const uint32_t tally_of_fifteen[SUMS] = {2, 5, 3, 1, 4};
+static const float strengths_of_21[] = {4, 4, 4, 4, 4, 4, 4, 4, 4, 4, 4, 4, 4, 4, 4,
+                                        1, 1, 1, 1, 1, 1};
+static const uint32_t tally_of_21[SUMS] = {2, 5, 3, 1, 6, 4};
 
-static size_t write_fifteen(void) { return write_points(100, fifteen, 15); }
+static size_t write_21(void) {
+    const size_t length = write_points(100, twenty_one, 21);
+    return write_strengths(length, 4 + 4 * 21, 0.5f, strengths_of_21, 21);
+}
 
 /* The tally of an accepted sheet without repeated indices, from the rows in `after`. */
 static void count_rows(unsigned points, uint32_t *tally) {
@@ -523,30 +659,36 @@ static void check_accepted(void) {
     const point wrong[] = {{0, 0, 7, 0, 0}, {1, 0, 7, 0, 0}, {0, 1, 8, 0, 100}};
     const point kept[] = {{0, 0, 7, 0, 0}, {1, 0, 7, 0, 0}};
     const point component[] = {{0, 0, 7, 0, 0}, {5, 5, 7, 0, 0}};
-    const uint32_t none[SUMS] = {0}, one_kept[SUMS] = {1}, one_wrong[SUMS] = {1, 0, 0, 1, 0};
-    const uint32_t one_component[SUMS] = {0, 0, 0, 0, 1};
+    const point leaf[] = {{0, 0, 7, 0, 0}, {5, 5, 7, 0, 0}, {1, 0, 8, 0, 0}, {0, 1, 9, 0, 0}};
+    const float of_leaf[] = {1, 1, 4, 4};
+    const uint32_t none[SUMS] = {0}, one_kept[SUMS] = {1}, one_wrong[SUMS] = {1, 0, 0, 1, 0, 0};
+    const uint32_t one_component[SUMS] = {0, 0, 0, 0, 0, 1}, one_leaf[SUMS] = {1, 0, 0, 0, 1, 1};
     uint32_t numbers[NUMBERS] = {1, 0xFFFFFFFF, 0x80000000, 65535, 0}, tally[SUMS];
     check_added(write_sheet(0), 0, numbers, none);
-    check_added(write_fifteen(), 15 * HIGLAUPTH_ROW_SIZE, numbers, tally_of_fifteen);
-    check_added(write_fifteen(), sizeof after, numbers, tally_of_fifteen);
-    count_rows(15, tally);
-    CHECK(memcmp(tally, tally_of_fifteen, sizeof tally) == 0);
+    check_added(write_21(), 21 * HIGLAUPTH_ROW_SIZE, numbers, tally_of_21);
+    check_added(write_21(), sizeof after, numbers, tally_of_21);
+    count_rows(21, tally);
+    CHECK(memcmp(tally, tally_of_21, sizeof tally) == 0);
 
     check_added(write_points(100, wrong, 3), HIGLAUPTH_ROWS_SIZE, numbers, one_wrong);
     check_added(write_points(0, kept, 2), HIGLAUPTH_ROWS_SIZE, numbers, one_kept);
     check_added(write_points(0, component, 2), HIGLAUPTH_ROWS_SIZE, numbers, one_component);
+    /* Index 7 joins two others at one cell and is a weak end at the other: it goes at both, and of
+       the two that are left, apart, the first is kept. */
+    const size_t length = write_strengths(write_points(0, leaf, 4), 20, 0.5f, of_leaf, 4);
+    check_added(length, HIGLAUPTH_ROWS_SIZE, numbers, one_leaf);
 
-    keep(write_sheet(HIGLAUPTH_MOST_POINTS), HIGLAUPTH_ROWS_SIZE);
+    keep(write_weighed(HIGLAUPTH_MOST_POINTS), HIGLAUPTH_ROWS_SIZE);
     count_rows(HIGLAUPTH_MOST_POINTS, tally);
     check_added(HIGLAUPTH_FILE_SIZE, HIGLAUPTH_ROWS_SIZE, numbers, tally);
-    CHECK(numbers[SHEETS] == 7);
+    CHECK(numbers[SHEETS] == 8);
 }
 
-/* The sheet of fifteen points is added to a run with this record, or refused with 11. */
-static void check_fifteen(uint32_t *numbers, int added) {
-    const size_t length = write_fifteen();
+/* The sheet of 21 points is added to a run with this record, or refused with 11. */
+static void check_21(uint32_t *numbers, int added) {
+    const size_t length = write_21();
     if (added)
-        check_added(length, HIGLAUPTH_ROWS_SIZE, numbers, tally_of_fifteen);
+        check_added(length, HIGLAUPTH_ROWS_SIZE, numbers, tally_of_21);
     else
         check_not_added(length, HIGLAUPTH_ROWS_SIZE, numbers, HIGLAUPTH_RUN_FULL);
 }
@@ -562,25 +704,26 @@ static void check_limits(void) {
         for (size_t k = 0; k < sizeof values / sizeof *values; k++) {
             memset(numbers, 0, sizeof numbers);
             numbers[place] = values[k];
-            check_fifteen(numbers, place < SHEETS || values[k] < limit);
+            check_21(numbers, place < SHEETS || values[k] < limit);
         }
     }
     for (int place = 0; place < NUMBERS; place++)
         numbers[place] = place < SHEETS ? 0xFFFFFFFF : place == SHEETS ? 65534 : 0x7FFFFFFF;
-    check_fifteen(numbers, 1);
-    check_fifteen(numbers, 0);
+    check_21(numbers, 1);
+    check_21(numbers, 0);
 
     memset(numbers, 0, sizeof numbers);
     numbers[SHEETS] = 65530;
-    for (int k = 0; k < 5; k++) check_fifteen(numbers, 1);
-    check_fifteen(numbers, 0);
+    for (int k = 0; k < 5; k++) check_21(numbers, 1);
+    check_21(numbers, 0);
 }
 
 /* Each refusal of higlaupth_keep, and 11 before it if the record takes no more. */
 static void check_refusals_in_run(void) {
-    uint32_t numbers[NUMBERS] = {1, 2, 3, 4, 5, 6, 7, 8, 9, 10, 11}, full[NUMBERS] = {0};
+    uint32_t numbers[NUMBERS] = {1, 2, 3, 4, 5, 6, 7, 8, 9, 10, 11, 12}, full[NUMBERS] = {0};
     full[SHEETS] = HIGLAUPTH_MOST_SHEETS;
-    for (unsigned number = 1; number <= HIGLAUPTH_TWO_POSITIONS; number++) {
+    for (unsigned k = 0; k < REFUSALS; k++) {
+        const unsigned number = refusals[k];
         size_t length = write_refused(number);
         size_t room = HIGLAUPTH_ROWS_SIZE;
         if (number == HIGLAUPTH_SHORT_BUFFER) room = 2 * HIGLAUPTH_ROW_SIZE - 1;
@@ -619,7 +762,7 @@ static void check_untouched(void) {
 int main(int argc, char **argv) {
     if (argc != 4) return 2;
     check_numbers(argv[1]);
-    check_texts(higlaupth_refusal_text, 1, 11);
+    check_texts(higlaupth_refusal_text, 1, LAST_REFUSAL);
     CHECK(strcmp(higlaupth_refusal_text(0), "no such refusal") == 0);
     check_texts(higlaupth_reason_text, 0, 3);
     check_filters();
@@ -628,6 +771,8 @@ int main(int argc, char **argv) {
     check_refusal_texts();
     check_map_of_five_points(argv[2], argv[3]);
     check_page();
+    check_strengths();
+    check_weak_ends();
     check_record();
     check_started();
     check_accepted();

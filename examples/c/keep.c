@@ -45,9 +45,12 @@ static int by_cell(const void *a, const void *b) {
     return (p->v > q->v) - (p->v < q->v);
 }
 
-/* The points of an accepted file, whose last field is tag 3, in the order of the rows. */
-static void read_points(const uint8_t *file, size_t length, point *points, unsigned count) {
-    const uint8_t *at = file + length - 20 * (size_t)count;
+/* The points of an accepted file, in the order of the rows: those of tag 3, which stands after
+   tag 1 and perhaps tag 2. */
+static void read_points(const uint8_t *file, point *points, unsigned count) {
+    const uint8_t *at = file;
+    while (at[0] != 3) at += 3 + (at[1] | at[2] << 8);
+    at += 3;
     for (unsigned k = 0; k < count; k++, at += 20) {
         points[k].u = (int32_t)read_u32(at);
         points[k].v = (int32_t)read_u32(at + 4);
@@ -90,8 +93,9 @@ int main(int argc, char **argv) {
         return ended(1);
     }
     unsigned count = higlaupth_points(returned);
-    read_points(file, length, points, count);
-    printf("points %u components %u\n", count, higlaupth_components(returned));
+    read_points(file, points, count);
+    printf("points %u components %u rounds %u\n", count, higlaupth_components(returned),
+           higlaupth_rounds(returned));
     for (unsigned k = 0; k < count; k++) print_row(&points[k], rows + k * HIGLAUPTH_ROW_SIZE);
     return ended(0);
 }

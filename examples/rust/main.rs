@@ -7,7 +7,7 @@
 //!     ./keep --run [FILE..]
 //!
 //! Without FILE it judges a sheet of five points; a run is then one that started under the old
-//! count and goes on with three sheets, of which the last is refused. With FILEs a run starts now.
+//! count and goes on with four sheets, of which the last is refused. With FILEs a run starts now.
 //! Exit status: 0 if the sheet is accepted, 1 if it is refused, 2 if a file cannot be read or the
 //! answer cannot be written; 0 if the record of a run is printed, whether or not sheets were
 //! refused, since they add nothing to it and their lines say so. The numbers, the texts, the forms
@@ -22,11 +22,11 @@ const MOST_POINTS: usize = 2304;
 const ROW_SIZE: usize = 28;
 const ROWS_SIZE: usize = ROW_SIZE * MOST_POINTS;
 const MAP_SIZE: usize = 4_860;
-const READ_SIZE: u64 = 3 + 21 + 3 + 17 + 3 + 20 * (65_535 / 20) + 1;
+const READ_SIZE: u64 = 3 + 21 + 3 + 17 + 3 + 20 * (65_535 / 20) + 3 + 65_535 + 1;
 
-/// The texts of the header's refusals; the tenth is of `higlaupth_map` alone, the eleventh of
-/// `higlaupth_keep_in_run`.
-const REFUSALS: [&str; 11] = [
+/// The texts of the header's refusals by their numbers, from 1 on; the tenth is of `higlaupth_map`
+/// alone, the eleventh of `higlaupth_keep_in_run`.
+const REFUSALS: [&str; 14] = [
     "the fields, their order, their lengths or the end of the file are wrong",
     "there are more than 2,304 points",
     "the result buffer is shorter than 28 bytes per point",
@@ -38,12 +38,16 @@ const REFUSALS: [&str; 11] = [
     "one index stands at positions with different bits",
     "the points span more than 72 values of u or 60 of v",
     "the run counts 65,535 or more accepted sheets or has a new sum of 2^31 or more",
+    "tag 4 is not 4 bytes plus 4 per point",
+    "a number of tag 4 is not finite or exceeds 16,384 in magnitude",
+    "one index has strengths with different bits",
 ];
 /// Mark and word of each filter, in the header's order.
-const FILTERS: [(u8, &str); 4] = [
+const FILTERS: [(u8, &str); 5] = [
     (1, "validate"),
     (2, "orientation"),
     (4, "wrong"),
+    (16, "leaf"),
     (8, "component"),
 ];
 const REASONS: [&str; 3] = [
@@ -76,6 +80,7 @@ struct NewSums {
     validate: u32,
     orientation: u32,
     wrong: u32,
+    leaf: u32,
     component: u32,
 }
 
@@ -101,18 +106,41 @@ extern "C" {
     ) -> u64;
 }
 
-/// What `higlaupth_keep` or `higlaupth_keep_in_run` returned: the counts of points and components
-/// of an accepted sheet, or the number of a refusal.
-fn answer(returned: u64) -> Result<(usize, usize), usize> {
+/// The counts of an accepted sheet.
+struct Counts {
+    points: usize,
+    components: usize,
+    rounds: usize,
+}
+
+impl Counts {
+    /// Their line.
+    fn text(&self) -> String {
+        let Counts {
+            points,
+            components,
+            rounds,
+        } = self;
+        format!("points {points} components {components} rounds {rounds}\n")
+    }
+}
+
+/// What `higlaupth_keep` or `higlaupth_keep_in_run` returned: the counts of an accepted sheet, or
+/// the number of a refusal.
+fn answer(returned: u64) -> Result<Counts, usize> {
     let number = |shift: u32| (returned >> shift & 0xFFFF) as usize;
     match returned >> 32 {
         0 => Err(number(0)),
-        _ => Ok((number(16), number(0))),
+        _ => Ok(Counts {
+            points: number(16),
+            components: number(0),
+            rounds: number(48),
+        }),
     }
 }
 
 /// Judges a sheet, and writes its rows if it is accepted.
-fn keep(file: &[u8], rows: &mut [u8]) -> Result<(usize, usize), usize> {
+fn keep(file: &[u8], rows: &mut [u8]) -> Result<Counts, usize> {
     // SAFETY: both slices are valid for their lengths and do not overlap, and Rust's
     // floating-point mode is the default one.
     answer(unsafe { higlaupth_keep(file.as_ptr(), file.len(), rows.as_mut_ptr(), rows.len()) })
@@ -140,7 +168,7 @@ impl Run {
     }
 
     /// Judges a sheet, and writes its rows and adds it to the record if it is accepted.
-    fn keep(&mut self, file: &[u8], rows: &mut [u8]) -> Result<(usize, usize), usize> {
+    fn keep(&mut self, file: &[u8], rows: &mut [u8]) -> Result<Counts, usize> {
         let (file, file_len) = (file.as_ptr(), file.len());
         let (rows, rows_len) = (rows.as_mut_ptr(), rows.len());
         // SAFETY: as in the function `keep`, and the record overlaps neither slice.
@@ -153,7 +181,7 @@ impl Run {
         format!(
             "old sums: kept {} validate {} orientation {} wrong {} component {}\n\
              sheets {}\n\
-             new sums: kept {} validate {} orientation {} wrong {} component {}\n",
+             new sums: kept {} validate {} orientation {} wrong {} leaf {} component {}\n",
             old.kept,
             old.validate,
             old.orientation,
@@ -164,6 +192,7 @@ impl Run {
             new.validate,
             new.orientation,
             new.wrong,
+            new.leaf,
             new.component,
         )
     }
@@ -200,6 +229,13 @@ const TWO_CELLS: &[Point] = &[
     (1, 0, 7, 0.0, 0.0),
     (0, 1, 8, 0.0, 100.0),
 ];
+/// A row of three points, and their strengths: below half the median, 4, is the first, a weak end.
+const ROW: &[Point] = &[
+    (0, 0, 1, 0.0, 0.0),
+    (1, 0, 2, 100.0, 0.0),
+    (2, 0, 3, 200.0, 0.0),
+];
+const STRENGTHS: &[f32] = &[1.0, 4.0, 4.0];
 /// One index at two positions, which is refused.
 const TWO_POSITIONS: &[Point] = &[(0, 0, 7, 0.0, 0.0), (1, 0, 7, 100.0, 0.0)];
 
@@ -216,16 +252,30 @@ fn sheet(points: &[Point]) -> Vec<u8> {
     file
 }
 
+/// The file of a sheet of these points with a fraction and a strength for each of them.
+fn weighed_sheet(points: &[Point], fraction: f32, strengths: &[f32]) -> Vec<u8> {
+    let mut file = sheet(points);
+    file.push(4); // tag 4, the fraction and 4 bytes a point
+    file.extend((4 + 4 * strengths.len() as u16).to_le_bytes());
+    file.extend(fraction.to_le_bytes());
+    file.extend(strengths.iter().flat_map(|strength| strength.to_le_bytes()));
+    file
+}
+
 /// Four bytes at a place.
 fn four(bytes: &[u8], at: usize) -> [u8; 4] {
     bytes[at..at + 4].try_into().unwrap()
 }
 
-/// u, v and index of the points of an accepted file, whose last field is tag 3, in the order of
-/// the rows.
+/// u, v and index of the points of an accepted file, in the order of the rows: those of tag 3, which
+/// stands after tag 1 and perhaps tag 2.
 fn points(file: &[u8], count: usize) -> Vec<(i32, i32, u32)> {
+    let mut field = file;
+    while field[0] != 3 {
+        field = &field[3 + usize::from(u16::from_le_bytes([field[1], field[2]]))..];
+    }
     let mut points = Vec::new();
-    for point in file[file.len() - 20 * count..].chunks(20) {
+    for point in field[3..3 + 20 * count].chunks(20) {
         points.push((
             i32::from_le_bytes(four(point, 0)),
             i32::from_le_bytes(four(point, 4)),
@@ -264,9 +314,10 @@ fn line((u, v, index): (i32, i32, u32), row: &[u8]) -> String {
 /// A line for each point after one with the counts, or the number of a refusal.
 fn lines(file: &[u8]) -> Result<String, usize> {
     let mut rows = vec![0; ROWS_SIZE];
-    let (count, components) = keep(file, &mut rows)?;
-    let mut text = format!("points {count} components {components}\n");
-    for (point, row) in points(file, count).into_iter().zip(rows.chunks(ROW_SIZE)) {
+    let counts = keep(file, &mut rows)?;
+    let mut text = counts.text();
+    let points = points(file, counts.points);
+    for (point, row) in points.into_iter().zip(rows.chunks(ROW_SIZE)) {
         text += &line(point, row);
     }
     Ok(text)
@@ -296,13 +347,13 @@ fn print(text: &str) -> Result<(), String> {
 /// Adds a sheet to a run, and prints a line for it.
 fn add(run: &mut Run, name: &str, file: &[u8]) -> Result<(), String> {
     let line = match run.keep(file, &mut vec![0; ROWS_SIZE]) {
-        Ok((points, components)) => format!("points {points} components {components}\n"),
+        Ok(counts) => counts.text(),
         Err(number) => refused(number),
     };
     print(&format!("{name}: {line}"))
 }
 
-/// Keeps a run of the files, or of three sheets if there are none, and prints its record.
+/// Keeps a run of the files, or of four sheets if there are none, and prints its record.
 fn keep_run(paths: impl Iterator<Item = String>) -> Result<u8, String> {
     let mut paths = paths.peekable();
     let mut run;
@@ -316,6 +367,7 @@ fn keep_run(paths: impl Iterator<Item = String>) -> Result<u8, String> {
         });
         add(&mut run, "five points", &sheet(FIVE_POINTS))?;
         add(&mut run, "an index at two cells", &sheet(TWO_CELLS))?;
+        add(&mut run, "a weak end", &weighed_sheet(ROW, 0.5, STRENGTHS))?;
         add(&mut run, "an index at two positions", &sheet(TWO_POSITIONS))?;
     } else {
         run = Run::new();
