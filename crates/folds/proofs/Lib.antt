@@ -5,3 +5,5 @@ pub mod Column
 pub mod Marked
 pub mod Scattered
 pub mod Among
+pub mod Counting
+pub mod Same

@@ -6,3 +6,4 @@ pub mod Column
 pub mod Marked
 pub mod Scattered
 pub mod Among
+pub mod Same

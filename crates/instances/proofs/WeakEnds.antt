@@ -44,7 +44,8 @@ use Rattle.promises.proofs.RowMarks.{row-marks}
 use Rattle.promises.proofs.Theorems.{kept-patch, another-order, moved-file, moved-file-rows, switched-rows}
 use Rattle.stars.specs.Stars.{rules-compute, settings}
 use Rattle.stars.specs.Listed.{file, file-computes, rowFile, row-answered, row-printed, row-rows-left}
-use Rattle.instances.specs.Files.{longFile, five, one, two, withStrength, weights, weighedFile, answeredRounds, marksOf}
+use Rattle.written_file.specs.File.{weights}
+use Rattle.instances.specs.Files.{longFile, five, one, two, withStrength, shortWeighed, answeredRounds, marksOf}
 use Rattle.instances.proofs.AnotherOrder.{near}
 use Rattle.instances.proofs.Computed.{distinct-by, in-range-by, marks-are, alive-is, kept-is}
 use Rattle.instances.proofs.KeptPatch.{file-bytes, file-accepted}
@@ -67,7 +68,7 @@ seven = 0x40E0_0000
 abbrev pub row : List Point
 row = onRow 0 0 0 one ∷ onRow 1 1 seven one ∷ onRow 2 2 0x4160_0000 two ∷ []
 
-pub row-is : rowFile ≡ weighedFile seven two row
+pub row-is : rowFile ≡ shortWeighed seven two row
 row-is = refl
 
 abbrev pub rowSettings : Settings
@@ -95,7 +96,7 @@ row-rounds = refl
 -- ---- another order: its last two points the other way round, with their strengths
 
 abbrev pub turnedRow : List ℕ
-turnedRow = weighedFile seven two (onRow 0 0 0 one ∷ onRow 2 2 0x4160_0000 two ∷ onRow 1 1 seven one ∷ [])
+turnedRow = shortWeighed seven two (onRow 0 0 0 one ∷ onRow 2 2 0x4160_0000 two ∷ onRow 1 1 seven one ∷ [])
 
 row-framed : framingOf rowFile ≡ Framed (layoutOf rowFile)
 unfolding file-computes
@@ -122,7 +123,7 @@ turned-row-rows = row-same .rows (replicate 84 255) ∙ row-rows-left
 -- ---- without taking the strengths along: they stand as they stood, so that the second point has 2 and the third 1
 
 abbrev leftBehind : List ℕ
-leftBehind = weighedFile seven two (onRow 0 0 0 one ∷ onRow 2 2 0x4160_0000 one ∷ onRow 1 1 seven two ∷ [])
+leftBehind = shortWeighed seven two (onRow 0 0 0 one ∷ onRow 2 2 0x4160_0000 one ∷ onRow 1 1 seven two ∷ [])
 
 -- both ends go in one round, and the middle stays
 pub left-behind-marks : marksOf rowSettings (onRow 0 0 0 one ∷ onRow 1 1 seven two ∷ onRow 2 2 0x4160_0000 one ∷ []) ≡ 16 ∷ 0 ∷ 16 ∷ []
@@ -215,7 +216,7 @@ row-moved-answered =
 -- ---- without "if the earlier marks hold": the sheet whose validate marks do not stay, each point with strength 1, and fraction 2
 
 abbrev weakBent : List ℕ
-weakBent = weighedFile 0x42C8_0000 two (withStrength one given)
+weakBent = shortWeighed 0x42C8_0000 two (withStrength one given)
 
 abbrev bentSettings : Settings
 bentSettings = weighed 0x42C8_0000 two
@@ -383,7 +384,7 @@ square =
     ∷ []
 
 abbrev squareFile : List ℕ
-squareFile = weighedFile 0x42C8_0000 two square
+squareFile = shortWeighed 0x42C8_0000 two square
 
 square-accepted : rulingOf squareFile 112 ≡ accepted bentSettings square
 unfolding file-computes rules-compute

@@ -5,6 +5,7 @@ use Prim.Native.Nat.{ℕ}
 use lib.ListN.{length, take}
 use Rattle.folds.specs.Arith.{f32}
 use Rattle.cells.specs.Points.{Point}
+use Rattle.sheet_file.specs.Bytes.{littleEndian}
 use Rattle.sheet_file.specs.Grammar.{field}
 use Rattle.sheet_file.specs.Refusals.{defaultsFor}
 use Rattle.sheet_file.specs.declared.EdgeGate.the-variants.{Off}
@@ -13,37 +14,29 @@ use Rattle.sheet_file.specs.declared.Settings.{Settings}
 use Rattle.judging.specs.Judging.{judgedFor}
 use Rattle.kept.specs.declared.Answer.{Answer}
 use Rattle.kept.specs.declared.Answer.the-variants.{Refused, Accepted}
-use Rattle.rows.specs.Rows.{littleEndian}
 use Rattle.stars.specs.Listed.{file}
+use Rattle.written_file.specs.File.{recordsOf, unweighedFile, weighedFile}
 
 -- a point without tag 4: the patterns of its cell, its index, and the patterns of its position
 abbrev pub point : ℕ → ℕ → ℕ → ℕ → ℕ → Point
 point u v i x y = record { u = u; v = v; index = i; x = x; y = y; strength = 0 }
 
--- "each point is u i32, v i32, index u32, x f32, y f32"
-abbrev pub recordOf : Point → List ℕ
-recordOf p = littleEndian (p .u) ++ littleEndian (p .v) ++ littleEndian (p .index) ++ littleEndian (p .x) ++ littleEndian (p .y)
-
-abbrev pub recordsOf : List Point → List ℕ
-recordsOf [] = []
-recordsOf (p ∷ ps) = recordOf p ++ recordsOf ps
-
 -- "Length 4 gives the cell size only": the file with the cell size of this pattern and these points, in this order
 abbrev pub shortFile : ℕ → List Point → List ℕ
-shortFile size ps = field 1 (littleEndian size) ++ field 3 (recordsOf ps)
+shortFile size ps = unweighedFile (littleEndian size) ps
 
 -- "Tag 1, length 21": with the default tolerances 0.15, 3 and 0.20, the step flag off, and these two switches
 abbrev pub longSettings : ℕ → ℕ → ℕ → List ℕ
 longSettings size wrong largest =
-    field 1 (littleEndian size ++ (littleEndian 0x3E19_999A ++ (3 ∷ 0 ∷ (littleEndian 0x3E4C_CCCD ++ (0 ∷ (littleEndian 0 ++ (wrong ∷ largest ∷ [])))))))
+    littleEndian size ++ (littleEndian 0x3E19_999A ++ (3 ∷ 0 ∷ (littleEndian 0x3E4C_CCCD ++ (0 ∷ (littleEndian 0 ++ (wrong ∷ largest ∷ []))))))
 
 abbrev pub longFile : ℕ → ℕ → ℕ → List Point → List ℕ
-longFile size wrong largest ps = longSettings size wrong largest ++ field 3 (recordsOf ps)
+longFile size wrong largest ps = unweighedFile (longSettings size wrong largest) ps
 
 -- "Tag 2, optional, length 17": with this minimum degree, both least cosines 0 and both largest ratios 4
 abbrev pub gatedFile : ℕ → ℕ → ℕ → ℕ → List Point → List ℕ
 gatedFile size wrong largest degree ps =
-    longSettings size wrong largest
+    field 1 (longSettings size wrong largest)
     ++ (field 2 (degree ∷ (littleEndian 0 ++ littleEndian 0x4080_0000 ++ littleEndian 0 ++ littleEndian 0x4080_0000))
     ++ field 3 (recordsOf ps))
 
@@ -61,17 +54,9 @@ abbrev pub withStrength : ℕ → List Point → List Point
 withStrength s [] = []
 withStrength s (p ∷ ps) = record { u = p .u; v = p .v; index = p .index; x = p .x; y = p .y; strength = s } ∷ withStrength s ps
 
-abbrev pub strengthBytes : List Point → List ℕ
-strengthBytes [] = []
-strengthBytes (p ∷ ps) = littleEndian (p .strength) ++ strengthBytes ps
-
--- "Tag 4, optional, after tag 3, carries a fraction f32 and one strength f32 per point, in the points' order"
-abbrev pub weights : ℕ → List Point → List ℕ
-weights fraction ps = field 4 (littleEndian fraction ++ strengthBytes ps)
-
 -- the file with the cell size and the fraction of these patterns, and these points with their strengths
-abbrev pub weighedFile : ℕ → ℕ → List Point → List ℕ
-weighedFile size fraction ps = shortFile size ps ++ weights fraction ps
+abbrev pub shortWeighed : ℕ → ℕ → List Point → List ℕ
+shortWeighed size fraction ps = weighedFile (littleEndian size) fraction ps
 
 -- ---- the sheet of five points: its points by their indices, and in cell order
 

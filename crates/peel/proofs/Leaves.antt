@@ -15,7 +15,7 @@ use Rattle.folds.proofs.Column.{column-at, column-over}
 use Rattle.view.specs.View.{maxPoints}
 use Rattle.peel.specs.Peel.{live, liveSides, leaf}
 use Rattle.peel.specs.Work.{stateOf, statesOf, isPoint, livesAt, nearAt, indexAt, liveBeside, leafAt, Fits}
-use Rattle.peel.proofs.Counting.{not-yes, tally-lost}
+use Rattle.folds.proofs.Counting.{not-yes, tally-lost}
 use Rattle.peel.proofs.Rounds.{Ends}
 
 module _ (alive : ℕ → Bool) (byIdx : ℕ → ℕ) (gone : ℕ → Bool) (k : ℕ) where

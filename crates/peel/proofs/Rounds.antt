@@ -19,7 +19,7 @@ use Rattle.folds.proofs.Column.{replicate-at}
 use Rattle.folds.proofs.Marked.{bit-is}
 use Rattle.marks.specs.Marks.{isSet}
 use Rattle.peel.specs.Peel.{goes, goneAfter, ended, roundsIn}
-use Rattle.peel.proofs.Counting.{tally-grows, tally-full}
+use Rattle.folds.proofs.Counting.{tally-grows, tally-full}
 
 -- what is asked of the test: an end is a rank whose index has not gone, and the places of indices are ranks
 pub record Ends (n : ℕ) (byIdx : ℕ → ℕ) (ends : (ℕ → Bool) → ℕ → Bool) : Type 0 where

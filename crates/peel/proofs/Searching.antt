@@ -17,7 +17,7 @@ use Rattle.folds.proofs.Below.{tally-le, and-left, and-right, and-both}
 use Rattle.view.specs.View.{maxPoints}
 use Rattle.marks.specs.Marks.{isSet}
 use Rattle.peel.specs.Work.{isPoint, indexAt, leafAt, Fits, pointHas, Work, Searched, Removed}
-use Rattle.peel.proofs.Counting.{either, tally-grows, tally-below}
+use Rattle.folds.proofs.Counting.{either, tally-grows, tally-below}
 
 module _ {ranks state marks queue : List ℕ} {tail : ℕ} (w : Work ranks state marks queue tail) where
   pub work-tail : tail ≤ maxPoints

@@ -24,7 +24,7 @@ use Rattle.patches.proofs.Surviving.{survives-lt}
 use Rattle.peel.specs.Peel.{live, liveSides, goneAfter, roundsIn, peeled, peeledIn, leafOf, goneOf, peeledOf}
 use Rattle.peel.specs.Theorems.{Placed, left, leftSides, goneCount}
 use Rattle.peel.specs.declared.Peeled.{Peeled}
-use Rattle.peel.proofs.Counting.{tally-has}
+use Rattle.folds.proofs.Counting.{tally-has}
 use Rattle.peel.proofs.Rounds.{Ends, goes-end, gone-first, gone-next, over-none, rounds-gone, rounds-few, rounds-end}
 use Rattle.peel.proofs.Leaves.{live-alive, leaf-live, leaf-weak, leaf-many, leaf-ends}
 

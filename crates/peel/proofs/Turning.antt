@@ -24,7 +24,7 @@ use Rattle.patches.proofs.Surviving.{survives-lt, link-side, link-by}
 use Rattle.patches.proofs.Agreeing.{link-back}
 use Rattle.peel.specs.Peel.{live, leaf, goes, goneAfter, ended, roundsIn, peeled, peeledIn, peeledOf}
 use Rattle.peel.specs.Work.{stateOf, statesOf, isPoint, nearAt, indexAt, leafAt, Fits, Work, Searched, Beside, BesideQueued, Removed}
-use Rattle.peel.proofs.Counting.{either}
+use Rattle.folds.proofs.Counting.{either}
 use Rattle.peel.proofs.Rounds.{Ends, goes-end, gone-first, gone-next, gone-more, end-gone, not-over, is-over, rounds-are}
 use Rattle.peel.proofs.Leaves.{live-alive, live-stays, live-is, leaf-live, leaf-ends, leaf-new, states-at, states-over, point-is, leaf-is}
 

@@ -1,11 +1,12 @@
 -- What stands in a buffer before the call, and when what came is what is recorded. Assumes nothing.
 use mathlib.Core.Path.{_≡_}
 use mathlib.Core.Bool.{Bool, true, false, cond, _&&_}
-use mathlib.Core.List.{List, [], _∷_}
+use mathlib.Core.List.{List}
 use Prim.Native.Nat.{ℕ, _%_, _≤_}
 use lib.Dec.{eqb, leb}
 use lib.ListN.{length, take}
 use Rattle.folds.specs.Lists.{listOf}
+use Rattle.folds.specs.Same.{sameList}
 use Rattle.text.specs.declared.Written.{Written}
 use Rattle.text.specs.declared.Written.the-variants.{Whole, NoRoom}
 use Rattle.runs.specs.declared.Run.{Run}
@@ -26,13 +27,6 @@ filler size = listOf size (λ (i : ℕ). i % 251)
 abbrev pub isRecorded : Answer → RecordedAnswer → Bool
 isRecorded (Refused k) r = eqb k (r .number)
 isRecorded (Accepted c) r = eqb (r .number) 0 && (eqb (c .points) (r .points) && (eqb (c .components) (r .components) && eqb (c .rounds) (r .rounds)))
-
--- two lists are the same
-unfoldable pub sameList : List ℕ → List ℕ → Bool
-sameList [] [] = true
-sameList [] (y ∷ b) = false
-sameList (x ∷ a) [] = false
-sameList (x ∷ a) (y ∷ b) = eqb x y && sameList a b
 
 -- two records of a run are the same
 abbrev pub sameRun : Run → Run → Bool

@@ -11,7 +11,8 @@ use text::Written;
 use view::MAX_POINTS;
 ghost use mathlib.Core.Path.{_≡_};
 ghost use lib.ListN.{length};
-ghost use Rattle.recorded.specs.Recorded.{Fits, filler, isRecorded, sameList, sameRun, isText, differing};
+ghost use Rattle.folds.specs.Same.{sameList};
+ghost use Rattle.recorded.specs.Recorded.{Fits, filler, isRecorded, sameRun, isText, differing};
 
 // Longer than every recorded file.
 pub const LONGEST: usize = 131200;

@@ -15,7 +15,8 @@ use lib.Ieee.{Float}
 use Rattle.edge_shape.specs.declared.Measure.{Measure}
 use Rattle.edge_shape.specs.declared.Measure.the-variants.{Absent, Held}
 use Rattle.edge_shape.specs.Figures.{reasonNumber}
-use Rattle.rows.specs.Rows.{littleEndian, bitsOf, isPresent, cosineOf, ratioOf, floatsOf, presence, rowOf, rowSize, rowByte}
+use Rattle.sheet_file.specs.Bytes.{littleEndian}
+use Rattle.rows.specs.Rows.{bitsOf, isPresent, cosineOf, ratioOf, floatsOf, presence, rowOf, rowSize, rowByte}
 use Rattle.judged.specs.Shown.{Shown}
 
 -- a measure has both floats or none

@@ -14,7 +14,8 @@ use Rattle.edge_shape.specs.Figures.{noFigures}
 use Rattle.folds.specs.Lists.{listOf}
 use Rattle.folds.proofs.Lists.{length-list, list-at, is-list}
 use Rattle.folds.specs.Marked.{bit}
-use Rattle.rows.specs.Rows.{littleEndian, bitsOf, isPresent, rowOf, rowSize, rowByte, rowsOver}
+use Rattle.sheet_file.specs.Bytes.{littleEndian}
+use Rattle.rows.specs.Rows.{bitsOf, isPresent, rowOf, rowSize, rowByte, rowsOver}
 use Rattle.judged.specs.Shown.{Shown}
 use Rattle.rows.proofs.Laws.{row-length, row-byte}
 

@@ -11,12 +11,9 @@ use Rattle.edge_shape.specs.Figures.{reasonNumber}
 use Rattle.edge_shape.specs.declared.Measure.{Measure}
 use Rattle.edge_shape.specs.declared.Measure.the-variants.{Absent, Held}
 use Rattle.judged.specs.Shown.{Shown}
+use Rattle.sheet_file.specs.Bytes.{littleEndian}
 
 -- ---- the floats
-
--- "files are little-endian": the four bytes of b
-abbrev pub littleEndian : ℕ → List ℕ
-littleEndian b = b % 256 ∷ b / 256 % 256 ∷ b / 65536 % 256 ∷ b / 16777216 % 256 ∷ []
 
 -- "Absent is zero; NaN is 0x7FC00000", the pattern that toBits has for it
 abbrev pub bitsOf : Option Float → ℕ

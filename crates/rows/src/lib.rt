@@ -12,7 +12,8 @@ ghost use Rattle.view.specs.View.{maxPoints};
 ghost use Rattle.folds.specs.Marked.{bit};
 ghost use Rattle.judged.specs.Judged.{judgedFrom};
 ghost use Rattle.judged.specs.Shown.{residualOf, shownAt};
-ghost use Rattle.rows.specs.Rows.{littleEndian, bitsOf, isPresent, cosineOf, ratioOf, floatsOf, presence, rowOf, rowSize, rowsOver};
+ghost use Rattle.sheet_file.specs.Bytes.{littleEndian};
+ghost use Rattle.rows.specs.Rows.{bitsOf, isPresent, cosineOf, ratioOf, floatsOf, presence, rowOf, rowSize, rowsOver};
 
 // The bytes of a row.
 pub const ROW_SIZE: usize = 28;

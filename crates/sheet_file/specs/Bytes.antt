@@ -1,6 +1,6 @@
--- Numbers in a list of bytes: "files are little-endian". Assumes nothing.
-use Prim.Native.Nat.{ℕ, _+_, _*_, _<_}
-use mathlib.Core.List.{List}
+-- Numbers in a list of bytes, and the bytes of a number: "files are little-endian". Assumes nothing.
+use Prim.Native.Nat.{ℕ, _+_, _*_, _/_, _%_, _<_}
+use mathlib.Core.List.{List, [], _∷_}
 use lib.ListN.{getD}
 
 -- every element is a byte
@@ -17,3 +17,7 @@ le16 file at = byteAt file at + 256 * byteAt file (at + 1)
 
 unfoldable pub le32 : List ℕ → ℕ → ℕ
 le32 file at = byteAt file at + 256 * byteAt file (at + 1) + 65536 * byteAt file (at + 2) + 16777216 * byteAt file (at + 3)
+
+-- the four bytes of the u32 b
+abbrev pub littleEndian : ℕ → List ℕ
+littleEndian b = b % 256 ∷ b / 256 % 256 ∷ b / 65536 % 256 ∷ b / 16777216 % 256 ∷ []

@@ -10,7 +10,7 @@ use lib.ListN.{getD}
 use Rattle.folds.proofs.Below.{and-left, and-right, not-false}
 use Rattle.view.specs.View.{maxPoints}
 use Rattle.peel.specs.Work.{isPoint, indexAt, leafAt, pointHas}
-use Rattle.peel.proofs.Counting.{not-yes}
+use Rattle.folds.proofs.Counting.{not-yes}
 use Rattle.peel.proofs.Leaves.{leaf-point}
 use Rattle.peel.proofs.Chaining.{Walk, walk-start, walk-first, walk-less, walk-next, walk-more}
 use Rattle.peel.proofs.Searching.{searched-not, searched-old, Putting, put-start, put-room, put-more, put-end}

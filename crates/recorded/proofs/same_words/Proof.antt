@@ -3,8 +3,8 @@ use mathlib.Core.Path.{_≡_, refl, sym, _∙_}
 use Prim.Native.Nat.{_-_}
 use native.Mathlib.Omega.{arith}
 use lib.ListN.{length, drop}
-use Rattle.recorded.specs.Recorded.{sameList}
-use Rattle.recorded.proofs.Laws.{same-next, same-end, other-length}
+use Rattle.folds.specs.Same.{sameList}
+use Rattle.folds.proofs.Same.{same-next, same-end, other-length}
 use borrow.Author.Tests.{eq-eqb, ne-eqb}
 use borrow.Author.Needs.{needs}
 use Rattle.recorded.proofs.same_words.Statement.{statement}

@@ -1,4 +1,4 @@
--- How many pass a test: with one more, with fewer, with all. Assumes nothing.
+-- How many pass a test: with one more, with fewer, with all, with two and with three. Assumes nothing.
 use mathlib.Core.Path.{_≡_, refl, sym, ap, _∙_}
 use mathlib.Core.Bool.{Bool, true, false, cond, not, _&&_, false≢true}
 use mathlib.Core.Logic.{_⊎_, inl, inr}
@@ -7,8 +7,10 @@ use Prim.Native.Nat.{ℕ, zero, suc, _+_, _≤_, _<_}
 use native.Mathlib.Nat.{lt-suc-self, le-step}
 use native.Mathlib.Decide.{ℕ-discrete}
 use native.Mathlib.Omega.{arith}
+use borrow.Author.Tests.{eq-eqb, ne-eqb}
+use lib.Dec.{eqb}
 use Rattle.folds.specs.Below.{some, tally}
-use Rattle.folds.proofs.Below.{some-at, some-fails, tally-le, tally-mono, and-left, and-right, not-false}
+use Rattle.folds.proofs.Below.{some-yes, some-at, some-fails, tally-le, tally-mono, tally-some, and-left, and-right, and-both, and-false, not-false}
 
 pub not-yes : (b : Bool) → not b ≡ true → b ≡ false
 not-yes true e = sym e
@@ -67,3 +69,31 @@ tally-has p (suc n) h = go (p n) refl h (tally-has p n)
     go : (b : Bool) → p n ≡ b → 0 < cond b (tally p n + 1) (tally p n) → (0 < tally p n → (i : ℕ) × (i < n) × (p i ≡ true)) → (i : ℕ) × (i < suc n) × (p i ≡ true)
     go true e l r = (n, lt-suc-self n, e)
     go false e l r = let w = r l in (w .0, le-step (w .1), w .2)
+
+-- where two pass, two different ones do
+pub tally-two-at : (p : ℕ → Bool) (n : ℕ) → 2 ≤ tally p n → (i : ℕ) × (j : ℕ) × (i < j) × (j < n) × (p i ≡ true) × (p j ≡ true)
+unfolding tally
+tally-two-at p zero h = absurd (omega arith)
+tally-two-at p (suc n) h = go (p n) refl h (tally-two-at p n)
+  where
+    go : (b : Bool) → p n ≡ b → 2 ≤ cond b (tally p n + 1) (tally p n) → (2 ≤ tally p n → (i : ℕ) × (j : ℕ) × (i < j) × (j < n) × (p i ≡ true) × (p j ≡ true))
+        → (i : ℕ) × (j : ℕ) × (i < j) × (j < suc n) × (p i ≡ true) × (p j ≡ true)
+    go true e l r = let w = tally-has p n (omega arith) in (w .0, n, w .1, lt-suc-self n, w .2, e)
+    go false e l r = let w = r l in (w .0, w .1, w .2, le-step (w .3), w .4, w .5)
+
+-- all that pass but j
+abbrev but : (ℕ → Bool) → ℕ → ℕ → Bool
+but p j m = p m && not (eqb m j)
+
+but-less : (p : ℕ → Bool) (n j : ℕ) → j < n → p j ≡ true → tally (but p j) n < tally p n
+but-less p n j h e = tally-grows (but p j) p n j h (rw (eq-eqb j j refl) (and-false (p j))) e (λ m l. and-left (p m) (not (eqb m j)))
+
+but-other : (p : ℕ → Bool) (i j : ℕ) → (i ≡ j → ⊥) → p i ≡ true → but p j i ≡ true
+but-other p i j d e = and-both (p i) (not (eqb i j)) e (ap not (ne-eqb i j d))
+
+-- where two different ones pass, two do; and so with three
+pub tally-has-two : (p : ℕ → Bool) (n i j : ℕ) → i < n → j < n → (i ≡ j → ⊥) → p i ≡ true → p j ≡ true → 2 ≤ tally p n
+tally-has-two p n i j h g d a b = omega (arith, but-less p n j g b, tally-some (but p j) n (some-yes (but p j) n i h (but-other p i j d a)))
+
+pub tally-has-three : (p : ℕ → Bool) (n i j k : ℕ) → i < n → j < n → k < n → (i ≡ j → ⊥) → (i ≡ k → ⊥) → (j ≡ k → ⊥) → p i ≡ true → p j ≡ true → p k ≡ true → 3 ≤ tally p n
+tally-has-three p n i j k h g f ij ik jk a b c = omega (arith, but-less p n k f c, tally-has-two (but p k) n i j h g ij (but-other p i k ik a) (but-other p j k jk b))
