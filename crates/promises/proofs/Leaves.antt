@@ -108,7 +108,7 @@ module _ (s : Settings) (ps : List Point) where
   unfolding judgedFor viewOf
   marked-is k h = leaf-bit s view (cellsOf ps) (strengthsOf ps) k h
 
-  rounds-are : roundsOf s ps ≡ found .rounds
+  pub rounds-are : roundsOf s ps ≡ found .rounds
   unfolding judgedFor judgedOf measuredOf patchedOf
   rounds-are = refl
 
@@ -121,7 +121,7 @@ module _ (s : Settings) (ps : List Point) where
       ∙ regrouped (ltb k (length ps)) (isSet (found .marks) k) (eqb (getD drops k 0) 0)
 
   module _ (o : CellOrder ps) where
-    placed : Placed view
+    pub placed : Placed view
     unfolding viewOf
     placed k h = place-below ps o k h
 

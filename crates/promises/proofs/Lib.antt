@@ -13,3 +13,4 @@ pub mod Limit
 pub mod Theorems
 pub mod Cosines
 pub mod Leaves
+pub mod Longest

@@ -51,7 +51,7 @@ module _ (s : Settings) (ps : List Point) (k : ℕ) (h : k < length ps) where
   unfolding judgedFor viewOf
   orientation-in = orientation-bit s (viewOf ps) (cellsOf ps) (strengthsOf ps) k h
 
-  wrong-in : hasMark wrong (marksIn s ps k) ≡ wrongMark s (viewOf ps) k
+  pub wrong-in : hasMark wrong (marksIn s ps k) ≡ wrongMark s (viewOf ps) k
   unfolding judgedFor viewOf
   wrong-in = wrong-bit s (viewOf ps) (cellsOf ps) (strengthsOf ps) k h
 

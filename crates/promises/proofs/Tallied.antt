@@ -77,7 +77,7 @@ different-ext p q f g n e h =
     (λ k l. rw (e k l, some-ext (λ (j : ℕ). p j && eqb (f j) (f k)) (λ (j : ℕ). q j && eqb (g j) (g k)) k (λ j m. rw (e j (omega arith), h j (omega arith), h k l))))
 
 -- numbers of which no two are alike
-different-all : (q : ℕ → Bool) (f : ℕ → ℕ) (n : ℕ) → ((j k : ℕ) → j < n → k < n → f j ≡ f k → j ≡ k) → different q f n ≡ tally q n
+pub different-all : (q : ℕ → Bool) (f : ℕ → ℕ) (n : ℕ) → ((j k : ℕ) → j < n → k < n → f j ≡ f k → j ≡ k) → different q f n ≡ tally q n
 unfolding different
 different-all q f n one =
     tally-ext _ q n

@@ -5,3 +5,4 @@ pub mod Tally
 pub mod Runs
 pub mod Limit
 pub mod Leaves
+pub mod Longest
