@@ -31,7 +31,8 @@ abbrev earlier : ℕ → Bool
 earlier m = hasMark validate m || (hasMark orientation m || hasMark wrong m)
 
 -- where the marks of a sheet have none, nothing was dropped beforehand
-none-before : (s : Settings) (ps : List Point) (m : List ℕ) → marksOf s ps ≡ m → some (λ (k : ℕ). earlier (getD m k 0)) (length ps) ≡ false → (k : ℕ) → k < length ps → beforehand s ps k ≡ false
+none-before : (s : Settings) (ps : List Point) (m : List ℕ) → marksOf s ps ≡ m → some (λ (k : ℕ). earlier (getD m k 0)) (length ps) ≡ false
+    → (k : ℕ) → k < length ps → beforehand s ps k ≡ false
 none-before s ps m e none k h = ap earlier (marks-are s ps m e k h) ∙ some-fails (λ (k : ℕ). earlier (getD m k 0)) (length ps) none k h
 
 -- ---- the row of three points with strengths 1, 1 and 2
@@ -98,10 +99,11 @@ unfolding some
 ends-undropped = none-before (weakSettings 0) twoEnds (16 ∷ 16 ∷ 16 ∷ []) ends-marks refl
 
 -- so the bound by indices needs "without repeated indices"
-pub distinct-needed : ((file : List ℕ) (room : ℕ) (s : Settings) (ps : List Point) → Bytes file → rulingOf file room ≡ accepted s ps → ((k : ℕ) → k < length ps → beforehand s ps k ≡ false)
-    → 2 ≤ different anyPoint (indexIn ps) (length ps) → roundsOf s ps + 1 ≤ different anyPoint (indexIn ps) (length ps)) → ⊥
+pub distinct-needed : ((file : List ℕ) (room : ℕ) (s : Settings) (ps : List Point) → Bytes file → rulingOf file room ≡ accepted s ps
+    → ((k : ℕ) → k < length ps → beforehand s ps k ≡ false) → 2 ≤ different anyPoint (indexIn ps) (length ps) → roundsOf s ps + 1 ≤ different anyPoint (indexIn ps) (length ps)) → ⊥
 distinct-needed f =
-    let r : roundsOf (weakSettings 0) twoEnds + 1 ≤ different anyPoint (indexIn twoEnds) 3 = f (weakFile 0 twoEnds) 84 (weakSettings 0) twoEnds (bytes-by (weakFile 0 twoEnds) refl) ends-accepted ends-undropped (omega (arith, ends-indices)) in
+    let r : roundsOf (weakSettings 0) twoEnds + 1 ≤ different anyPoint (indexIn twoEnds) 3 =
+    f (weakFile 0 twoEnds) 84 (weakSettings 0) twoEnds (bytes-by (weakFile 0 twoEnds) refl) ends-accepted ends-undropped (omega (arith, ends-indices)) in
     omega (arith, r, ends-rounds, ends-indices)
 
 -- and the bound by points does not
@@ -131,7 +133,8 @@ unfolding every
 close-distinct = distinct-by twoClose refl
 
 -- so the bound by what was left needs two points that were left
-pub two-left-needed : ((file : List ℕ) (room : ℕ) (s : Settings) (ps : List Point) → Bytes file → rulingOf file room ≡ accepted s ps → DistinctIndices ps → 2 ≤ length ps → roundsOf s ps + 1 ≤ leftBefore s ps) → ⊥
+pub two-left-needed : ((file : List ℕ) (room : ℕ) (s : Settings) (ps : List Point) → Bytes file → rulingOf file room ≡ accepted s ps → DistinctIndices ps → 2 ≤ length ps
+    → roundsOf s ps + 1 ≤ leftBefore s ps) → ⊥
 two-left-needed f =
     let r = f (weakFile hundred twoClose) 84 (weakSettings hundred) twoClose (bytes-by (weakFile hundred twoClose) refl) close-accepted close-distinct (omega arith) in
     omega (arith, r, close-rounds, close-left)

@@ -78,7 +78,9 @@ module _ (w : View) (sides dropped weak : List ℕ) (placed : Placed w) where
       is-x : (i : ℕ) → i < length sides → alive (beside y i) ≡ true → beside y i ≡ x
       is-x i h e = elim (ℕ-discrete (beside y i) x) [
         | yes f ↦ f
-        | no f ↦ absurd (omega (arith, two, tally-has-three alive (w .count) x y (beside y i) x-lt y-lt (lives-lt w sides dropped weak r (beside y i) e) (y-waits x ex) (λ q. f (sym q)) (λ q. nb .apart y i y-lt h (sym q)) x-alive y-alive e))
+        | no f ↦
+            let z = lives-lt w sides dropped weak r (beside y i) e in
+            absurd (omega (arith, two, tally-has-three alive (w .count) x y (beside y i) x-lt y-lt z (y-waits x ex) (λ q. f (sym q)) (λ q. nb .apart y i y-lt h (sym q)) x-alive y-alive e))
       ]
 
       -- and y is one of x, at the opposite offset
@@ -91,12 +93,15 @@ module _ (w : View) (sides dropped weak : List ℕ) (placed : Placed w) where
       never : ⊥
       unfolding liveSides
       never =
-          let t = tally-two-at (λ (i : ℕ). alive (beside y i)) (length sides) (many-sides w sides dropped weak r y (not-true _ (λ e. y-waits y e refl)) y-alive (end-weak w sides dropped weak (r + 1) y ey)) in
+          let many = many-sides w sides dropped weak r y (not-true _ (λ e. y-waits y e refl)) y-alive (end-weak w sides dropped weak (r + 1) y ey) in
+          let t = tally-two-at (λ (i : ℕ). alive (beside y i)) (length sides) many in
           let h : t .0 < length sides = omega arith in
           let a = opposite sides (nb .opposites) (t .0) h in
           let b = opposite sides (nb .opposites) (t .1) (t .3) in
-          let ne : a .0 ≡ b .0 → ⊥ = λ q. different sides (nb .once) (t .0) (t .1) (t .2) (t .3) (omega (arith, near (t .0) h, near (t .1) (t .3), a .2, b .2, ap (λ (j : ℕ). getD sides j 0) q)) in
-          omega (arith, tally-has-two (λ (i : ℕ). alive (beside x i)) (length sides) (a .0) (b .0) (a .1) (b .1) ne (back (t .0) h (t .4)) (back (t .1) (t .3) (t .5)), end-few w sides dropped weak r x ex)
+          let one : a .0 ≡ b .0 → getD sides (t .0) 0 ≡ getD sides (t .1) 0 = λ q. omega (arith, near (t .0) h, near (t .1) (t .3), a .2, b .2, ap (λ (j : ℕ). getD sides j 0) q) in
+          let ne : a .0 ≡ b .0 → ⊥ = λ q. different sides (nb .once) (t .0) (t .1) (t .2) (t .3) (one q) in
+          let both = tally-has-two (λ (i : ℕ). alive (beside x i)) (length sides) (a .0) (b .0) (a .1) (b .1) ne (back (t .0) h (t .4)) (back (t .1) (t .3) (t .5)) in
+          omega (arith, both, end-few w sides dropped weak r x ex)
 
     -- THEOREM: with two points or more there is one round fewer: the last two go together
     pub rounds-bound : 2 ≤ leftCount w dropped → answer .rounds + 1 ≤ leftCount w dropped

@@ -19,13 +19,13 @@ use Rattle.view.specs.View.{View, rankAt}
 use Rattle.patches.specs.Patches.{survives}
 use Rattle.peel.specs.Peel.{liveSides, goes, leafOf, peeledOf}
 use Rattle.peel.specs.Theorems.{Placed}
-use Rattle.peel.proofs.Rounds.{end-goes, goes-end, gone-first, gone-next, not-over, is-over, rounds-are}
+use Rattle.peel.proofs.Rounds.{Ends, end-goes, goes-end, gone-first, gone-next, not-over, is-over, rounds-are}
 use Rattle.peel.proofs.Leaves.{live-stays, live-is}
 use Rattle.peel.proofs.Theorems.{known}
 use Rattle.peel_rounds.specs.Rounds.{InRow}
 use Rattle.peel_rounds.proofs.Ends as live
 
-module _ (w : View) (dropped weak : List ℕ) (row : InRow w dropped weak) where
+module _ (w : View) (dropped weak : List ℕ) (m : ℕ) (long : w .count ≡ m + 1) (row : InRow w dropped weak) where
   abbrev four : List ℕ
   four = places squareSides
 
@@ -38,8 +38,14 @@ module _ (w : View) (dropped weak : List ℕ) (row : InRow w dropped weak) where
   abbrev isEnd : ℕ → ℕ → Bool
   isEnd = live.isEnd w four dropped weak
 
+  abbrev ends : (ℕ → Bool) → ℕ → Bool
+  ends = leafOf w four dropped weak
+
   placed : Placed w
   placed k h = omega (arith, row .own k h)
+
+  known-ends : Ends (w .count) (w .byIdx) ends
+  known-ends = known w four dropped weak placed
 
   -- after r rounds the first r have gone
   abbrev FirstGone : ℕ → Type 0
@@ -102,15 +108,16 @@ module _ (w : View) (dropped weak : List ℕ) (row : InRow w dropped weak) where
             (ap (lives r) back ∙ still (k - 1) (omega (arith, d, v .1)) (omega (arith, v .0))) (ap (lives r) (row .next k inner) ∙ still (k + 1) (omega (arith, v .1)) inner)
 
     gone-more : r + 1 < w .count → FirstGone (r + 1)
-    gone-more h b = gone-next (w .count) (w .byIdx) (leafOf w four dropped weak) (known w four dropped weak placed) r b ∙ elim (ℕ-discrete b r) [
+    gone-more h b = gone-next (w .count) (w .byIdx) ends known-ends r b ∙ elim (ℕ-discrete b r) [
       | yes d ↦
-          or-right (out r b) (goes (w .count) (w .byIdx) (leafOf w four dropped weak) (out r) b)
-          (ap (goes (w .count) (w .byIdx) (leafOf w four dropped weak) (out r)) (d ∙ sym (row .own r (omega arith))) ∙ end-goes (w .count) (w .byIdx) (leafOf w four dropped weak) (out r) r (omega arith) (first-end h))
+          or-right (out r b) (goes (w .count) (w .byIdx) ends (out r) b)
+          (ap (goes (w .count) (w .byIdx) ends (out r)) (d ∙ sym (row .own r (omega arith)))
+          ∙ end-goes (w .count) (w .byIdx) ends (out r) r (omega arith) (first-end h))
           ∙ sym (lt-ltb b (r + 1) (omega arith))
       | no d ↦
           ap (λ (t : Bool). out r b || t)
-          (not-true (goes (w .count) (w .byIdx) (leafOf w four dropped weak) (out r) b)
-          (λ e. let v = goes-end (w .count) (w .byIdx) (leafOf w four dropped weak) (out r) b e in d (sym (v .3) ∙ row .own (v .0) (v .1) ∙ only (v .0) (v .2) .0)))
+          (not-true (goes (w .count) (w .byIdx) ends (out r) b)
+          (λ e. let v = goes-end (w .count) (w .byIdx) ends (out r) b e in d (sym (v .3) ∙ row .own (v .0) (v .1) ∙ only (v .0) (v .2) .0)))
           ∙ or-false (out r b) ∙ gone b ∙ other d
     ]
       where
@@ -118,15 +125,15 @@ module _ (w : View) (dropped weak : List ℕ) (row : InRow w dropped weak) where
         other d = elim (decLt b r) [ yes l ↦ lt-ltb b r l ∙ sym (lt-ltb b (r + 1) (omega arith)) | no l ↦ le-ltb b r (omega (arith, l)) ∙ sym (le-ltb b (r + 1) (omega (arith, l, d))) ]
 
   after : (r : ℕ) → r < w .count → FirstGone r
-  after zero h = λ b. gone-first (w .count) (w .byIdx) (leafOf w four dropped weak) (known w four dropped weak placed) b ∙ sym (le-ltb b 0 zero-le)
+  after zero h = λ b. gone-first (w .count) (w .byIdx) ends known-ends b ∙ sym (le-ltb b 0 zero-le)
   after (suc r) h =
       let z : r + 1 ≡ suc r = add-one r in
       rw z at (gone-more r (after r (omega arith)) (omega arith))
 
--- THEOREM: the row of m + 1 points takes m rounds
-pub row-rounds : (w : View) (dropped weak : List ℕ) (m : ℕ) → w .count ≡ m + 1 → InRow w dropped weak → peeledOf w (places squareSides) dropped weak .rounds ≡ m
-row-rounds w dropped weak m long row =
-    live.rounds-is w (places squareSides) dropped weak
-    ∙ rounds-are (w .count) (w .byIdx) (leafOf w (places squareSides) dropped weak) (known w (places squareSides) dropped weak (placed w dropped weak row)) m
-    (λ r h. not-over (w .count) (w .byIdx) (leafOf w (places squareSides) dropped weak) (known w (places squareSides) dropped weak (placed w dropped weak row)) r r (first-end w dropped weak row r (after w dropped weak row r (omega arith)) (omega arith)))
-    (is-over (w .count) (w .byIdx) (leafOf w (places squareSides) dropped weak) (known w (places squareSides) dropped weak (placed w dropped weak row)) m (λ k e. let v = only w dropped weak row m (after w dropped weak row m (omega arith)) k e in omega (arith, v .0, v .1)))
+  -- THEOREM: the row of m + 1 points takes m rounds
+  pub row-rounds : peeledOf w (places squareSides) dropped weak .rounds ≡ m
+  row-rounds =
+      live.rounds-is w four dropped weak
+      ∙ rounds-are (w .count) (w .byIdx) ends known-ends m
+      (λ r h. not-over (w .count) (w .byIdx) ends known-ends r r (first-end r (after r (omega arith)) (omega arith)))
+      (is-over (w .count) (w .byIdx) ends known-ends m (λ k e. let v = only m (after m (omega arith)) k e in omega (arith, v .0, v .1)))
