@@ -1,7 +1,7 @@
 -- In a row no two points are close. Assumes nothing.
 use mathlib.Core.Path.{_≡_, refl, sym, _∙_}
 use mathlib.Core.Bool.{Bool, true, false, not, _&&_, true≢false}
-use Prim.Native.Nat.{ℕ, _+_, _*_, _≤_, _<_}
+use Prim.Native.Nat.{ℕ, _+_, _≤_, _<_}
 use Prim.{Dec, yes, no}
 use native.Mathlib.Omega.{arith}
 use native.Mathlib.Decide.{decLt}
@@ -15,11 +15,11 @@ use Rattle.float.proofs.Order.{lt-after}
 use Rattle.whole_floats.specs.Whole.{asFloat}
 use Rattle.whole_floats.proofs.Whole.{whole-mono}
 use Rattle.view.specs.View.{View}
-use Rattle.close_pairs.specs.Close.{limitOf, squareOf, close, closeMark}
+use Rattle.close_pairs.specs.Close.{limitOf, close, closeMark}
 use Rattle.close_pairs.proofs.Places.{place, place-order}
-use Rattle.close_pairs.proofs.Squares.{square-turned, far}
+use Rattle.close_pairs.proofs.Squares.{far}
 use Rattle.straight_row.specs.Row.{Row, seven}
-use Rattle.straight_row.proofs.Row.{x-plain, x-number, y-finite, next-x}
+use Rattle.straight_row.proofs.Row.{x-plain, x-number, y-finite, next-x, squareTo, square-back}
 
 -- 49 is not under the square of 0.2 cell sizes
 limit-under : lt (asFloat 7 ⊗ asFloat 7) (limitOf seven) ≡ false
@@ -41,13 +41,13 @@ module _ (w : View) (r : Row w) where
       let i : j < w .count = omega arith in
       let a = x-number w r j i in
       let b = x-number w r k h in
-      let at-most : T (le (w .x j) (w .x k)) = rw (r .x j i, r .x k h) (whole-mono (7 * j) (7 * k) (omega arith)) in
+      let at-most : T (le (w .x j) (w .x k)) = rw (r .x j i, r .x k h) (whole-mono _ _ (omega arith)) in
       let itself : lt (w .x j) (w .x j) ≡ false = place-order (w .x j) (w .x j) a a ∙ le-ltb (place (w .x j)) (place (w .x j)) (omega arith) in
       ltb-false (place (w .x k)) (place (w .x j))
       (sym (place-order (w .x k) (w .x j) b a)
       ∙ not-true (lt (w .x k) (w .x j)) (λ e. true≢false (sym (lt-after (w .x j) (w .x k) (w .x j) (x-plain w r j i) (x-plain w r k h) at-most e) ∙ itself)))
 
-  later-far : (j k : ℕ) → j < k → k < w .count → lt ((w .x k ⊖ w .x j) ⊗ (w .x k ⊖ w .x j) ⊕ (w .y k ⊖ w .y j) ⊗ (w .y k ⊖ w .y j)) (limitOf seven) ≡ false
+  later-far : (j k : ℕ) → j < k → k < w .count → lt (squareTo w j k) (limitOf seven) ≡ false
   later-far j k l h =
       let i : j < w .count = omega arith in
       let n : j + 1 < w .count = omega arith in
@@ -57,10 +57,8 @@ module _ (w : View) (r : Row w) where
   not-close : (j k : ℕ) → j < w .count → k < w .count → (j ≡ k → ⊥) → close (w .x) (w .y) (limitOf seven) j k ≡ false
   not-close j k a b n = close-is (w .x) (w .y) (limitOf seven) j k ∙ go (decLt j k)
     where
-      go : Dec (j < k) → lt ((w .x j ⊖ w .x k) ⊗ (w .x j ⊖ w .x k) ⊕ (w .y j ⊖ w .y k) ⊗ (w .y j ⊖ w .y k)) (limitOf seven) ≡ false
-      go (yes l) =
-          rw (square-turned (w .x j) (w .x k) (x-number w r j a .is-finite) (x-number w r k b .is-finite), square-turned (w .y j) (w .y k) (y-finite w r j a) (y-finite w r k b))
-          (later-far j k l b)
+      go : Dec (j < k) → lt (squareTo w k j) (limitOf seven) ≡ false
+      go (yes l) = rw (square-back w r j k a b) (later-far j k l b)
       go (no f) = later-far k j (omega (arith, f, n)) a
 
   pub no-close : (k : ℕ) → k < w .count → closeMark w seven k ≡ false

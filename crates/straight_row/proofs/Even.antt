@@ -33,8 +33,9 @@ use Rattle.wrong_label_filters.specs.Judged.{positiveEdge, inWindow, windowLens
 use Rattle.wrong_label_filters.specs.Frontier.{distance, kink, kinkAt, lastInLine, endMark, frontierMark}
 use Rattle.orientation.specs.Orientation.{voteAt, votesFor, orientationMark}
 use Rattle.straight_row.specs.Row.{Row, seven}
-use Rattle.straight_row.proofs.Row.{next-apart, turned}
+use Rattle.straight_row.proofs.Row.{next-apart, norm-back}
 
+-- none passes
 pub tally-no : (p : ℕ → Bool) (n : ℕ) → ((k : ℕ) → k < n → p k ≡ false) → tally p n ≡ 0
 tally-no p n h = go (decLt 0 (tally p n))
   where
@@ -157,7 +158,7 @@ module _ (w : View) (r : Row w) where
       let j = rankAt w k prevU in
       let b = r .behind k h e in
       let back : normOf (w .x (j + 1) ⊖ w .x j) (w .y (j + 1) ⊖ w .y j) ≡ seven = next-apart w r j (omega (arith, b)) in
-      turned w r j k (ltb-true j (w .count) e) h ∙ (rw b at back)
+      norm-back w r j k (ltb-true j (w .count) e) h ∙ (rw b at back)
 
   even-next-v : Even nextV
   even-next-v k h e = absurd (true≢false (sym e ∙ no-next-v k h))

@@ -1,19 +1,20 @@
 -- The points of a row lie on their line: whatever the rounding of their x, the fitted line is the x axis, no distance from it is over a
 -- tolerance, and no line flags any of them. Assumes nothing.
-use mathlib.Core.Path.{_≡_, refl, sym, ap, _∙_, subst}
-use mathlib.Core.Bool.{Bool, true, false, _&&_}
+use mathlib.Core.Path.{_≡_, refl, ap, _∙_}
+use mathlib.Core.Bool.{true, false, _&&_}
 use mathlib.Core.List.{List, [], _∷_}
 use Prim.Native.Nat.{ℕ, _≤_, _<_}
 use native.Mathlib.Omega.{arith}
 use lib.Dec.{T, leb}
 use lib.IntN.{pos}
 use lib.ListN.{length}
-use borrow.Author.Tests.{leb-true}
+use borrow.Author.Tests.{eq-eqb}
 use lib.Ieee.{Float, binary32, add, sub, mul, neg, lt, isNan, ofInt, ofBits}
 use lib.Ieee.Positive.{positive}
 use Rattle.folds.specs.Arith.{_⊕_, _⊖_, _⊗_, zeroF}
+use Rattle.folds.specs.Below.{tally}
 use Rattle.folds.specs.Lists.{All, over, gather}
-use Rattle.folds.proofs.Below.{tally-le}
+use Rattle.folds.proofs.Below.{some-yes, tally-le, tally-some, and-false}
 use Rattle.folds.proofs.Lists.{all-listed, listed-length}
 use Rattle.float.specs.Constants.{one, epsilon}
 use Rattle.float.specs.Scalar.{absOf}
@@ -154,15 +155,13 @@ module _ (w : View) (r : Row w) where
     near-line limit k h z = rw (fit-axis, r .y k h) (from-axis cx limit (w .x k) z)
 
   -- no line of any kind flags a point
-  module _ (scale : ℕ → Float) (tolerance : Float) (minimum : ℕ) (least : 0 < minimum) (line : ℕ → ℕ) where
-    pub no-flag : (k : ℕ) → k < w .count → lt (tolerance ⊗ scale k) zeroF ≡ false → isFlagged (record { x = w .x; y = w .y; scale = scale; tolerance = tolerance }) minimum line (w .count) k ≡ false
-    no-flag k h z = flagged-is (record { x = w .x; y = w .y; scale = scale; tolerance = tolerance }) minimum line (w .count) k ∙ go (leb minimum (length l)) refl
-      where
-        l : List ℕ
-        l = gather (isOn line (line k)) (w .count)
-
-        go : (b : Bool) → leb minimum (length l) ≡ b → b && lt (tolerance ⊗ scale k) (distanceOf (fitOf (w .x) (w .y) l) (w .x k) (w .y k)) ≡ false
-        go false e = refl
-        go true e =
-            near-line l (all-listed (λ (j : ℕ). j < w .count) (isOn line (line k)) (λ (j : ℕ). j) (w .count) (λ j g e. g)) (omega (arith, leb-true minimum (length l) e))
-            (omega (arith, listed-length (isOn line (line k)) (λ (j : ℕ). j) (w .count), tally-le (isOn line (line k)) (w .count))) (tolerance ⊗ scale k) k h z
+  pub no-flag : (scale : ℕ → Float) (tolerance : Float) (minimum : ℕ) (line : ℕ → ℕ) (k : ℕ) → k < w .count → lt (tolerance ⊗ scale k) zeroF ≡ false
+      → isFlagged (record { x = w .x; y = w .y; scale = scale; tolerance = tolerance }) minimum line (w .count) k ≡ false
+  no-flag scale tolerance minimum line k h z =
+      let on = isOn line (line k) in
+      let l = gather on (w .count) in
+      let long = listed-length on (λ (j : ℕ). j) (w .count) in
+      let some : 0 < tally on (w .count) = tally-some on (w .count) (some-yes on (w .count) k h (eq-eqb (line k) (line k) refl)) in
+      flagged-is (record { x = w .x; y = w .y; scale = scale; tolerance = tolerance }) minimum line (w .count) k
+      ∙ rw (near-line l (all-listed (λ (j : ℕ). j < w .count) on (λ (j : ℕ). j) (w .count) (λ j g e. g)) (omega (arith, long, some)) (omega (arith, long, tally-le on (w .count))) (tolerance ⊗ scale k) k h z)
+      (and-false (leb minimum (length l)))

@@ -1,6 +1,6 @@
 -- The points of a row: their positions are finite f32 numbers, and neighbours are 7 apart, in either direction. Assumes nothing.
 use mathlib.Core.Path.{_≡_, refl, sym, ap, _∙_}
-use Prim.Native.Nat.{ℕ, _+_, _-_, _*_, _<_}
+use Prim.Native.Nat.{ℕ, _+_, _<_}
 use native.Mathlib.Omega.{arith}
 use lib.Dec.{T}
 use lib.Ieee.{Float, ofBits, sub, round}
@@ -32,28 +32,31 @@ norm-is : (x y : Float) → normOf x y ≡ rootOf (x ⊗ x ⊕ y ⊗ y)
 unfolding normOf
 norm-is x y = refl
 
+-- the square of the distance from rank j to rank k, as f32 squares
+abbrev pub squareTo : View → ℕ → ℕ → Float
+squareTo w j k = (w .x k ⊖ w .x j) ⊗ (w .x k ⊖ w .x j) ⊕ (w .y k ⊖ w .y j) ⊗ (w .y k ⊖ w .y j)
+
 module _ (w : View) (r : Row w) where
   module _ (k : ℕ) (h : k < w .count) where
     pub x-plain : T (plain (w .x k))
-    x-plain = rw (r .x k h) (whole-plain (7 * k))
+    x-plain = rw (r .x k h) (whole-plain _)
 
     pub x-number : Number (w .x k)
-    x-number = rw (r .x k h) (record { is-finite = whole-finite (7 * k) (omega (arith, r .few)); is-f32 = whole-fits (7 * k) })
+    x-number = rw (r .x k h) (record { is-finite = whole-finite _ (omega (arith, r .few)); is-f32 = whole-fits _ })
 
     pub y-finite : T (finite (w .y k))
     y-finite = rw (r .y k h) zero-finite
 
   pub next-x : (k : ℕ) → k + 1 < w .count → w .x (k + 1) ⊖ w .x k ≡ asFloat 7
-  next-x k h =
-      let e : 7 * (k + 1) - 7 * k ≡ 7 = omega arith in
-      rw (r .x (k + 1) h, r .x k (omega arith)) (minus-whole (7 * (k + 1)) (7 * k) (omega arith) (omega (arith, r .few)) ∙ ap asFloat e)
+  next-x k h = rw (r .x (k + 1) h, r .x k (omega arith)) (minus-whole _ _ (omega arith) (omega (arith, r .few)) ∙ ap asFloat (omega arith))
 
   pub next-apart : (k : ℕ) → k + 1 < w .count → normOf (w .x (k + 1) ⊖ w .x k) (w .y (k + 1) ⊖ w .y k) ≡ seven
   next-apart k h = rw (next-x k h, r .y (k + 1) h, r .y k (omega arith), zero-less) norm-seven
 
-  -- a distance is the same in both directions
-  pub turned : (j k : ℕ) → j < w .count → k < w .count → normOf (w .x j ⊖ w .x k) (w .y j ⊖ w .y k) ≡ normOf (w .x k ⊖ w .x j) (w .y k ⊖ w .y j)
-  turned j k a b =
-      norm-is (w .x j ⊖ w .x k) (w .y j ⊖ w .y k)
-      ∙ rw (square-turned (w .x j) (w .x k) (x-number j a .is-finite) (x-number k b .is-finite), square-turned (w .y j) (w .y k) (y-finite j a) (y-finite k b))
-      (sym (norm-is (w .x k ⊖ w .x j) (w .y k ⊖ w .y j)))
+  -- it is the same in both directions, and so is the distance
+  pub square-back : (j k : ℕ) → j < w .count → k < w .count → squareTo w k j ≡ squareTo w j k
+  square-back j k a b =
+      rw (square-turned (w .x j) (w .x k) (x-number j a .is-finite) (x-number k b .is-finite), square-turned (w .y j) (w .y k) (y-finite j a) (y-finite k b))
+
+  pub norm-back : (j k : ℕ) → j < w .count → k < w .count → normOf (w .x j ⊖ w .x k) (w .y j ⊖ w .y k) ≡ normOf (w .x k ⊖ w .x j) (w .y k ⊖ w .y j)
+  norm-back j k a b = norm-is (w .x j ⊖ w .x k) (w .y j ⊖ w .y k) ∙ ap rootOf (square-back j k a b) ∙ sym (norm-is (w .x k ⊖ w .x j) (w .y k ⊖ w .y j))

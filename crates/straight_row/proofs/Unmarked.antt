@@ -2,34 +2,36 @@
 use mathlib.Core.Path.{_≡_, refl, ap, _∙_}
 use mathlib.Core.Bool.{Bool, true, false, cond, _&&_, _||_}
 use mathlib.Core.List.{List, []}
-use Prim.Native.Nat.{ℕ, _≤_, _<_}
+use Prim.Native.Nat.{ℕ, _<_}
 use Prim.{Dec, yes, no}
 use native.Mathlib.Omega.{arith}
 use native.Mathlib.Decide.{decLt}
-use lib.Dec.{eqb}
+use lib.Dec.{T, eqb}
 use lib.ListN.{getD}
 use lib.Ieee.{Float, nan, lt, ofBits}
 use Rattle.folds.specs.Arith.{zeroF}
-use Rattle.folds.specs.Below.{some, tally}
+use Rattle.folds.specs.Below.{tally}
 use Rattle.folds.specs.Column.{column}
 use Rattle.folds.specs.Marked.{bit}
 use Rattle.folds.specs.Scattered.{counts}
 use Rattle.folds.proofs.Below.{some-no, and-false}
 use Rattle.folds.proofs.Column.{column-at, column-over}
 use Rattle.folds.proofs.Lists.{past-end}
+use Rattle.float.proofs.Order.{plain, above-plain, above-zero}
+use Rattle.whole_floats.proofs.Signs.{times-plain}
 use Rattle.offsets.specs.Offsets.{nextU, nextV}
 use Rattle.view.specs.View.{View, maxPoints, alike, indexHas}
 use Rattle.cells.specs.Cell.{Cell}
 use Rattle.sheet_file.specs.declared.Settings.{Settings}
 use Rattle.marks.specs.Filters.{validate, orientation, wrong}
-use Rattle.marks.specs.Byte.{withMark, markedBy, markedByAll}
-use Rattle.step.specs.Step.{stepAt, scaleAt}
+use Rattle.marks.specs.Byte.{withMark, markedBy}
+use Rattle.step.specs.Step.{scaleAt}
 use Rattle.lines.specs.Flags.{LineRule, isFlagged, flagCount, flagsAt, lineNumber}
 use Rattle.residuals.specs.ByIndex.{overAt, indexColumns}
 use Rattle.blame.specs.Marks.{Evidence, rule1, rule2, rule3, rule4, isVisited, blamed, isMarked}
 use Rattle.edge_shape.specs.Figures.{noFigures}
 use Rattle.edge_shape.specs.declared.Figures.{Figures}
-use Rattle.validate.specs.Validate.{stepsOf, indexStep, scalesOf, indexScale, flagsOf, residualsOf, evidenceOf, figuresOf, gateFigures, isReason, hasReason, validateMark}
+use Rattle.validate.specs.Validate.{indexStep, scalesOf, indexScale, flagsOf, residualsOf, evidenceOf, figuresOf, isReason, hasReason, validateMark}
 use Rattle.orientation.specs.Orientation.{orientationMark}
 use Rattle.wrong_label_filters.specs.Judged.{edgeMark}
 use Rattle.close_pairs.specs.Close.{closeMark}
@@ -51,7 +53,7 @@ module _ {A : Type 0} where
       go (yes l) = rw (column-at maxPoints d n f m l) (h m l)
       go (no g) = rw (column-over maxPoints d n f m (omega (arith, g))) p
 
--- a column of its filler alone
+-- a column of zeros
 zeros : (n : ℕ) (f : ℕ → ℕ) → ((k : ℕ) → k < n → f k ≡ 0) → (m : ℕ) → getD (column maxPoints 0 n f) m 0 ≡ 0
 zeros n f = column-has (λ (x : ℕ). x ≡ 0) 0 n f refl
 
@@ -84,13 +86,9 @@ no-rule w e f o m =
     marked-is w e m
     ∙ rw (f m, and-false (e .high m), and-false (e .deviates m), some-no (counts (blamed w (e .flags)) (isVisited w e) m) (w .count) (λ k h. rw (o k, and-false (eqb (w .byIdx k) k)) (and-false (eqb (blamed w (e .flags) k) m))))
 
-not-positive : (lt zeroF zeroF ≡ false) × (lt zeroF nan ≡ false)
-unfolding lt ofBits
-not-positive = (refl, refl)
-
-unaware : (w : View) (m : ℕ) → stepAt w false m ≡ zeroF
-unfolding stepAt
-unaware w m = refl
+seven-plain : T (plain seven)
+unfolding ofBits
+seven-plain = tt
 
 scale-by : (w : View) (steps : ℕ → Float) (size : Float) (k : ℕ) → scaleAt w steps size k ≡ cond (lt zeroF (steps (w .byIdx k))) (steps (w .byIdx k)) size
 unfolding scaleAt
@@ -100,17 +98,17 @@ count-is : (byIdx : ℕ → ℕ) (rule : LineRule) (minimum : ℕ) (line : ℕ �
 unfolding flagCount
 count-is byIdx rule minimum line n m = refl
 
-module _ (s : Settings) (w : View) (p : Plain s) (r : Row w) where
-  no-step : (m : ℕ) → lt zeroF (indexStep s w m) ≡ false
-  unfolding stepsOf
-  no-step = column-has (λ (x : Float). lt zeroF x ≡ false) nan (w .count) (stepAt w (s .«use_step_aware»)) (not-positive .1) (λ k h. rw (p .still, unaware w k) (not-positive .0))
-
-  scale-is : (k : ℕ) → k < w .count → indexScale s w k ≡ seven
+module _ (s : Settings) (w : View) (cell : ℕ → Cell) (p : Plain s) (r : Row w) where
+  -- the local step, where it is positive, or 7
+  scale-plain : (k : ℕ) → k < w .count → T (plain (indexScale s w k))
   unfolding scalesOf
-  scale-is k h =
-      column-at maxPoints nan (w .count) (scaleAt w (indexStep s w) (s .«cell_size»)) k h
-      ∙ scale-by w (indexStep s w) (s .«cell_size») k
-      ∙ rw (no-step (w .byIdx k)) (p .cell)
+  scale-plain k h =
+      rw (column-at maxPoints nan (w .count) (scaleAt w (indexStep s w) (s .«cell_size»)) k h, scale-by w (indexStep s w) (s .«cell_size») k)
+      (go (lt zeroF (indexStep s w (w .byIdx k))) refl)
+    where
+      go : (b : Bool) → lt zeroF (indexStep s w (w .byIdx k)) ≡ b → T (plain (cond b (indexStep s w (w .byIdx k)) (s .«cell_size»)))
+      go true e = above-plain (indexStep s w (w .byIdx k)) (above-zero (indexStep s w (w .byIdx k)) e)
+      go false e = rw (p .cell) seven-plain
 
   no-flags : (m : ℕ) → getD (flagsOf s w) m 0 ≡ 0
   unfolding flagsOf
@@ -123,25 +121,21 @@ module _ (s : Settings) (w : View) (p : Plain s) (r : Row w) where
       none line m =
           count-is (w .byIdx) rule (s .«line_min_members») line (w .count) m
           ∙ tally-no (counts (w .byIdx) (isFlagged rule (s .«line_min_members») line (w .count)) m) (w .count)
-          (λ k h. rw (no-flag w r (indexScale s w) (s .«line_tol_rel») (s .«line_min_members») (p .least) line k h (rw (scale-is k h) (p .tolerant))) (and-false (eqb (w .byIdx k) m)))
+          (λ k h. rw (no-flag w r (indexScale s w) (s .«line_tol_rel») (s .«line_min_members») line k h (times-plain (s .«line_tol_rel») (indexScale s w k) (p .tolerant) (scale-plain k h))) (and-false (eqb (w .byIdx k) m)))
 
   no-reason : (k : ℕ) → hasReason (figuresOf s w) k ≡ false
   unfolding figuresOf
   no-reason = rw (p .ungated) (column-has (λ (f : Figures). isReason (f .reason) ≡ false) noFigures (w .count) (λ (k : ℕ). noFigures) refl (λ k h. refl))
 
-  module _ (cell : ℕ → Cell) where
-    none-over : (m : ℕ) → getD (residualsOf s w cell .over) m 0 ≡ 0
-    unfolding residualsOf indexColumns
-    none-over =
-        zeros (w .count) (λ (k : ℕ). bit (indexHas w (overAt w cell (indexScale s w) (s .«local_h_tol_rel»)) k))
-        (λ k h. ap bit (some-no (λ (j : ℕ). overAt w cell (indexScale s w) (s .«local_h_tol_rel») j && alike w j k) (w .count) (λ j l. rw (no-residual w r j l cell))))
+  none-over : (m : ℕ) → getD (residualsOf s w cell .over) m 0 ≡ 0
+  unfolding residualsOf indexColumns
+  none-over =
+      zeros (w .count) (λ (k : ℕ). bit (indexHas w (overAt w cell (indexScale s w) (s .«local_h_tol_rel»)) k))
+      (λ k h. ap bit (some-no (λ (j : ℕ). overAt w cell (indexScale s w) (s .«local_h_tol_rel») j && alike w j k) (w .count) (λ j l. rw (no-residual w r j l cell))))
 
-    validate-none : (k : ℕ) → validateMark s w cell k ≡ false
-    unfolding validateMark
-    validate-none k = rw (no-rule w (evidenceOf s w cell) no-flags (λ m. ap (λ (x : ℕ). eqb x 1) (none-over m)) (w .byIdx k), no-reason k)
-
-pub no-validate : (s : Settings) (w : View) (cell : ℕ → Cell) → Plain s → Row w → (k : ℕ) → validateMark s w cell k ≡ false
-no-validate s w cell p r = validate-none s w p r cell
+  pub no-validate : (k : ℕ) → validateMark s w cell k ≡ false
+  unfolding validateMark
+  no-validate k = rw (no-rule w (evidenceOf s w cell) no-flags (λ m. ap (λ (x : ℕ). eqb x 1) (none-over m)) (w .byIdx k), no-reason k)
 
 -- ---- the byte of marks
 

@@ -1,12 +1,12 @@
 -- Floats of which only the sign is known: quotients and squares that are not negative, and sums that are zero or a NaN. Assumes nothing.
 use mathlib.Core.Path.{_≡_, refl, sym, ap, _∙_, subst}
-use mathlib.Core.Bool.{Bool, true, false, not, cond, _&&_, _||_, Bool·beq}
+use mathlib.Core.Bool.{Bool, true, false, not, cond, _&&_, _||_, Bool·beq, true≢false}
 use Prim.Native.Nat.{ℕ, zero, suc, _+_, _-_, _*_, _<_}
 use native.Mathlib.Nat.{mul-one, zero-mul, mul-zero, mul-pos}
 use native.Mathlib.Omega.{arith}
 use lib.Dec.{T, eqb, ltb}
 use lib.IntN.{ℤ, pos}
-use borrow.Author.Tests.{lt-ltb, ne-eqb}
+use borrow.Author.Tests.{lt-ltb, le-ltb, ltb-false, ne-eqb}
 use lib.Ieee.{Float, nan, inf, fin, binary32, up, down, unlike, round, sum, neg, add, sub, mul, div, lt, le, isNan, ofBits}
 use lib.Ieee.Fits.{up-pos, down-pos}
 use lib.Ieee.Positive.{positive}
@@ -108,3 +108,37 @@ unfolding div ofBits
 zero-div y q =
     positive-cases (λ (b : Float). zeroF ⊘ b ≡ zeroF)
     (λ n d h. rw (ne-eqb n 0 (λ z. omega (arith, z))) (round-zero false (0 * down d) (n * up d * 1) (zero-mul (down d)) (rw (mul-one (n * up d)) (mul-pos h (up-pos d))))) y q
+
+-- ---- what is not below zero, a NaN included
+
+plain-over-zero : (x : Float) → T (plain x) → lt x zeroF ≡ false
+unfolding lt ofBits
+plain-over-zero x p = plain-cases (λ (a : Float). lt a zeroF ≡ false) refl (λ m e. rw (zero-mul (down e)) (le-ltb (m * up e * 1) 0 (omega arith))) x p
+
+-- times what is not negative it is not below zero
+pub times-plain : (t x : Float) → lt t zeroF ≡ false → T (plain x) → lt (t ⊗ x) zeroF ≡ false
+unfolding mul lt ofBits
+times-plain t x h p = plain-cases (λ (a : Float). lt (t ⊗ a) zeroF ≡ false) (to-infinity t h) (finite-times t h) x p
+  where
+    either : (b : Bool) → lt (cond b nan (inf false)) zeroF ≡ false
+    either true = refl
+    either false = refl
+
+    below : (m : ℕ) (e : ℤ) → lt (fin true (suc m) e) zeroF ≡ false → ⊥
+    below m e h = let positive : 0 < suc m * up e = mul-pos (omega arith) (up-pos e) in omega (arith, ltb-false 0 (suc m * up e * 1 + 0 * down e) h, positive)
+
+    to-infinity : (t : Float) → lt t zeroF ≡ false → lt (t ⊗ inf false) zeroF ≡ false
+    to-infinity nan h = refl
+    to-infinity (inf true) h = absurd (true≢false h)
+    to-infinity (inf false) h = refl
+    to-infinity (fin false m e) h = either (eqb m 0)
+    to-infinity (fin true zero e) h = refl
+    to-infinity (fin true (suc m) e) h = absurd (below m e h)
+
+    finite-times : (t : Float) → lt t zeroF ≡ false → (n : ℕ) (d : ℤ) → lt (t ⊗ fin false n d) zeroF ≡ false
+    finite-times nan h n d = refl
+    finite-times (inf true) h n d = absurd (true≢false h)
+    finite-times (inf false) h n d = either (eqb n 0)
+    finite-times (fin false m e) h n d = plain-over-zero (round binary32 false (m * up e * (n * up d)) (down e * down d)) (plain-round binary32 (m * up e * (n * up d)) (down e * down d))
+    finite-times (fin true zero e) h n d = rw (round-zero true (0 * up e * (n * up d)) (down e * down d) (rw (zero-mul (up e)) (zero-mul (n * up d))) (mul-pos (down-pos e) (down-pos d)))
+    finite-times (fin true (suc m) e) h n d = absurd (below m e h)
