@@ -3,9 +3,7 @@ use mathlib.Core.Path.{_≡_, refl, sym, ap, _∙_}
 use mathlib.Core.Bool.{Bool, true, false, not, cond, _&&_, _||_, true≢false, false≢true}
 use mathlib.Core.List.{List}
 use Prim.Native.Nat.{ℕ, _+_, _/_, _≤_, _<_}
-use Prim.{Dec, yes, no}
 use native.Mathlib.Omega.{arith}
-use native.Mathlib.Decide.{decLt}
 use lib.Dec.{eqb, leb}
 use lib.ListN.{length}
 use borrow.Author.Tests.{ltb-true, lt-leb, leb-true}
@@ -14,7 +12,7 @@ use Rattle.folds.specs.Arith.{_⊖_, _⊗_, zeroF}
 use Rattle.folds.specs.Below.{some, tally}
 use Rattle.folds.specs.Lists.{All, listed}
 use Rattle.folds.proofs.Below.{some-no, tally-mono, not-true, and-false, and-left, and-right, and-both}
-use Rattle.folds.proofs.Counting.{tally-has}
+use Rattle.folds.proofs.Counting.{tally-no}
 use Rattle.folds.proofs.Lists.{all-listed, listed-length}
 use Rattle.float.specs.Constants.{overlongRatio, globalOverlongRatio}
 use Rattle.float.specs.Scalar.{normOf}
@@ -34,14 +32,6 @@ use Rattle.wrong_label_filters.specs.Frontier.{distance, kink, kinkAt, lastInLi
 use Rattle.orientation.specs.Orientation.{voteAt, votesFor, orientationMark}
 use Rattle.straight_row.specs.Row.{Row, seven}
 use Rattle.straight_row.proofs.Row.{next-apart, norm-back}
-
--- none passes
-pub tally-no : (p : ℕ → Bool) (n : ℕ) → ((k : ℕ) → k < n → p k ≡ false) → tally p n ≡ 0
-tally-no p n h = go (decLt 0 (tally p n))
-  where
-    go : Dec (0 < tally p n) → tally p n ≡ 0
-    go (yes l) = let t = tally-has p n l in absurd (true≢false (sym (t .2) ∙ h (t .0) (t .1)))
-    go (no f) = omega (arith, f)
 
 -- ---- what the definitions say, by their parts
 

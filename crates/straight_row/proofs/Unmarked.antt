@@ -16,6 +16,7 @@ use Rattle.folds.specs.Marked.{bit}
 use Rattle.folds.specs.Scattered.{counts}
 use Rattle.folds.proofs.Below.{some-no, and-false}
 use Rattle.folds.proofs.Column.{column-at, column-over}
+use Rattle.folds.proofs.Counting.{tally-no}
 use Rattle.folds.proofs.Lists.{past-end}
 use Rattle.float.proofs.Order.{plain, above-plain, above-zero}
 use Rattle.whole_floats.proofs.Signs.{times-plain}
@@ -40,7 +41,7 @@ use Rattle.wrong_label_filters.specs.WrongLabel.{wrongPoint, wrongLabelMark}
 use Rattle.drop_set.specs.Filters.{wrongMark, pointMarks}
 use Rattle.straight_row.specs.Row.{Row, Plain, seven}
 use Rattle.straight_row.proofs.Apart.{no-close}
-use Rattle.straight_row.proofs.Even.{tally-no, no-orientation, no-frontier, no-edge-u, no-edge-v}
+use Rattle.straight_row.proofs.Even.{no-orientation, no-frontier, no-edge-u, no-edge-v}
 use Rattle.straight_row.proofs.Level.{no-flag}
 use Rattle.straight_row.proofs.NoFit.{no-residual}
 

@@ -1,5 +1,5 @@
 -- Floats of which only the sign is known: quotients and squares that are not negative, and sums that are zero or a NaN. Assumes nothing.
-use mathlib.Core.Path.{_≡_, refl, sym, ap, _∙_, subst}
+use mathlib.Core.Path.{_≡_, refl, sym, _∙_, subst}
 use mathlib.Core.Bool.{Bool, true, false, not, cond, _&&_, _||_, Bool·beq, true≢false}
 use Prim.Native.Nat.{ℕ, zero, suc, _+_, _-_, _*_, _<_}
 use native.Mathlib.Nat.{mul-one, zero-mul, mul-zero, mul-pos}
@@ -13,8 +13,8 @@ use lib.Ieee.Positive.{positive}
 use lib.Ieee.Scale.{round-same, finite}
 use Rattle.folds.specs.Arith.{_⊕_, _⊖_, _⊗_, _⊘_, zeroF}
 use Rattle.float.specs.Scalar.{absOf}
-use Rattle.float.proofs.Order.{plain, plain-cases, positive-cases, plain-round, plain-number}
-use Rattle.float.proofs.Sign.{abs-round}
+use Rattle.float.proofs.Order.{plain, plain-cases, positive-cases, plain-round}
+use Rattle.float.proofs.Within.{round-number}
 
 -- ---- not negative and no NaN
 
@@ -34,15 +34,6 @@ zero-le x p = plain-cases (λ (a : Float). le zeroF a ≡ true) refl (λ m e. rw
     go (suc n) = rw (lt-ltb 0 (suc n) (omega arith))
 
 -- ---- no NaN
-
-number-abs : (x : Float) → isNan (absOf x) ≡ isNan x
-unfolding isNan absOf
-number-abs nan = refl
-number-abs (inf s) = refl
-number-abs (fin s m e) = refl
-
-round-number : (s : Bool) (a c : ℕ) → isNan (round binary32 s a c) ≡ false
-round-number s a c = sym (number-abs (round binary32 s a c)) ∙ ap isNan (abs-round binary32 s a c) ∙ plain-number (round binary32 false a c) (plain-round binary32 a c)
 
 sum-number : (s : Bool) (a : ℕ) (t : Bool) (b c : ℕ) → isNan (sum binary32 s a t b c) ≡ false
 unfolding sum
