@@ -1,5 +1,5 @@
 -- What is read of the parts of a file: of lists of bytes one after the other, of records and of strengths. Assumes nothing.
-use mathlib.Core.Path.{_≡_, refl, sym, ap, _∙_}
+use mathlib.Core.Path.{_≡_, refl, _∙_}
 use mathlib.Core.List.{List, [], _∷_, _++_}
 use Prim.Native.Nat.{ℕ, zero, suc, _+_, _*_, _/_, _%_, _^_, _≤_, _<_}
 use native.Mathlib.Omega.{arith}
@@ -31,7 +31,7 @@ module _ (a l : List ℕ) where
   pub point-after : (at k w : ℕ) → at ≡ length a + k → pointIn (a ++ l) at w ≡ pointIn l k w
   point-after at k w e = rw e (point-same l k (a ++ l) (length a + k) w (second-part 20 k))
 
-no-bytes : Bytes []
+pub no-bytes : Bytes []
 no-bytes k = omega (arith, past-end {A = ℕ} 0 k)
 
 pub bytes-join : (a l : List ℕ) → Bytes a → Bytes l → Bytes (a ++ l)

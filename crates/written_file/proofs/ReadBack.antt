@@ -1,23 +1,22 @@
 -- What is read of a written file: the points and the settings that were written, and no refusal of its header. Assumes nothing.
 use mathlib.Core.Path.{_≡_, refl, sym, ap, _∙_}
-use mathlib.Core.Bool.{Bool, true, false, cond, _||_}
-use mathlib.Core.Logic.{_⊎_, inl, inr}
+use mathlib.Core.Bool.{false, cond}
+use mathlib.Core.Logic.{inl, inr}
 use mathlib.Core.List.{List, [], _∷_, _++_}
 use Prim.Native.Nat.{ℕ, zero, suc, _+_, _*_, _/_, _%_, _^_, _≤_, _<_}
 use native.Mathlib.Omega.{arith}
 use lib.Dec.{eqb}
 use lib.ListN.{length, getD, List·getD-append}
 use lib.Ieee.{Float}
-use borrow.Author.Tests.{le-ltb, eq-eqb}
+use borrow.Author.Tests.{lt-ltb, le-ltb, eq-eqb}
 use Rattle.folds.specs.Arith.{f32}
 use Rattle.folds.specs.Among.{anyIn}
 use Rattle.folds.specs.Lists.{All}
 use Rattle.folds.proofs.Lists.{is-list}
 use Rattle.view.specs.View.{maxPoints}
-use Rattle.refusals.proofs.Laws.{holds, none-passes}
+use Rattle.refusals.proofs.Laws.{holds, first-given, none-passes}
 use Rattle.cells.specs.Points.{Point, nowhere}
 use Rattle.sheet_file.specs.Bytes.{Bytes, byteAt, le16, le32, littleEndian}
-use Rattle.sheet_file.specs.Frame.{framingOf}
 use Rattle.sheet_file.specs.Grammar.{field}
 use Rattle.sheet_file.specs.Limit.{outside}
 use Rattle.sheet_file.specs.Refusals.{floatAt, defaultsFor, settingsIn, edgeShapeOf, fractionIn, fractionOf, settingsOf, badFlag, badFloat, headerRefusals}
@@ -30,15 +29,17 @@ use Rattle.sheet_file.proofs.Words.{le16-same, le32-same}
 use Rattle.points.specs.Records.{pointIn, ithPoint, pointsIn}
 use Rattle.ruling.specs.Ruling.{refused, rulingFor, pointsOf, rulingOf}
 use Rattle.ruling.proofs.Given.{by-points}
+use Rattle.ruling.proofs.Limit.{more-refused}
 use Rattle.ruling.proofs.Standing.{Words}
 use Rattle.written_file.specs.File.{recordsOf, strengthBytes, weights, weighedFile}
 use Rattle.written_file.proofs.Parts.{first-part, word-after, point-after, bytes-join, word-there, words-bytes, weighing, records-length, records-there, records-bytes, strengths-length, strengths-there, strengths-bytes}
-use Rattle.written_file.proofs.Framed.{SettingsSize, layoutFor, framed}
+use Rattle.written_file.proofs.Framed.{SettingsSize, layoutFor, written-well, framed}
 
--- tag 4 after its tag and length, and tag 3 after its own
+-- the data of tag 4
 abbrev weightData : ℕ → List Point → List ℕ
 weightData fraction ps = littleEndian fraction ++ strengthBytes ps
 
+-- what stands before the data of a field: its tag and length
 abbrev headOf : ℕ → List ℕ → List ℕ
 headOf tag body = tag ∷ length body % 256 ∷ length body / 256 ∷ []
 
@@ -102,25 +103,25 @@ module _ (settings : List ℕ) (fraction : ℕ) (ps : List Point) where
   header-byte : (k : ℕ) → k < 3 + length settings → byteAt file k ≡ byteAt header k
   header-byte k h = List·getD-append header rest 0 k (omega arith)
 
+  -- of all 21 bytes
+  full-settings : (x : Fraction) → length settings ≡ 21 → settingsIn file Off x ≡ settingsIn header Off x
+  unfolding settingsIn
+  full-settings x e =
+      rw (
+        header-word 3 (omega arith),
+        header-word 7 (omega arith),
+        header-half 11 (omega arith),
+        header-word 13 (omega arith),
+        header-byte 17 (omega arith),
+        header-word 18 (omega arith),
+        header-byte 22 (omega arith),
+        header-byte 23 (omega arith),
+      )
+
   module _ (small : fraction < 2 ^ 32) where
     fraction-read : fractionOf file f ≡ fractionIn (f32 fraction)
     unfolding fractionOf
     fraction-read = rw (weight-word (f .strengths) 0 (omega arith) ∙ word-there fraction (strengthBytes ps) small)
-
-    -- of all 21 bytes
-    full-settings : (x : Fraction) → length settings ≡ 21 → settingsIn file Off x ≡ settingsIn header Off x
-    unfolding settingsIn
-    full-settings x e =
-        rw (
-          header-word 3 (omega arith),
-          header-word 7 (omega arith),
-          header-half 11 (omega arith),
-          header-word 13 (omega arith),
-          header-byte 17 (omega arith),
-          header-word 18 (omega arith),
-          header-byte 22 (omega arith),
-          header-byte 23 (omega arith),
-        )
 
     pub settings-read : SettingsSize settings → settingsOf file f ≡ settingsFor settings fraction
     unfolding settingsOf edgeShapeOf
@@ -182,6 +183,23 @@ module _ (settings : List ℕ) (fraction : ℕ) (ps : List Point) (size : length
   unfolding badFlag badFloat
   ruled room few words small enough inside =
       ruled-by-points settings fraction ps room few enough (inr size) (rw size) (rw (first-word, inside, size)) words small ∙ rw short-settings
+
+-- ---- the limits of a list and of a result buffer
+
+-- more points than the limit are refused with 2
+pub many-refused : (settings : List ℕ) (fraction : ℕ) (ps : List Point) (room : ℕ) → SettingsSize settings → maxPoints < length ps → rulingOf (weighedFile settings fraction ps) room ≡ refused 2
+many-refused settings fraction ps room size h =
+    more-refused (weighedFile settings fraction ps) room (written-well settings fraction ps size) (inr (omega (arith, records-length ps, strengths-length ps))) (omega (arith, records-length ps))
+
+-- and fewer in a buffer without room for their rows with 3
+pub room-refused : (settings : List ℕ) (fraction : ℕ) (ps : List Point) (room : ℕ) → SettingsSize settings → length ps ≤ maxPoints → room < 28 * length ps → rulingOf (weighedFile settings fraction ps) room ≡ refused 3
+unfolding headerRefusals
+room-refused settings fraction ps room size few h =
+    let file = weighedFile settings fraction ps in
+    let f = layoutFor settings ps in
+    by-points file room
+    ∙ rw (framed settings fraction ps size)
+    (first-given refused (rulingFor (settingsOf file f) (pointsIn file f)) (headerRefusals file room (Framed f)) 3 (lt-ltb room (28 * length ps) h) (rw (eq-eqb (4 + 4 * length ps) (4 + 4 * length ps) refl, le-ltb maxPoints (length ps) few)))
 
 -- ---- bytes
 
