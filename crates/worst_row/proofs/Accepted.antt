@@ -6,7 +6,7 @@ use mathlib.Core.List.{[], _∷_}
 use Prim.Native.Nat.{ℕ, _+_, _*_, _≤_, _<_}
 use native.Mathlib.Omega.{arith}
 use lib.Dec.{eqb}
-use lib.Ieee.{lt, mul, ofBits}
+use lib.Ieee.{lt, ofBits}
 use lib.ListN.{length, getD}
 use borrow.Author.Tests.{le-ltb, ne-eqb}
 use Rattle.folds.specs.Arith.{f32}
@@ -34,13 +34,13 @@ use Rattle.straight_row.specs.Row.{Plain}
 use Rattle.worst_sheet.specs.Worst.{floatBits, pointAt, worstPoints, worstSettings, worstFile}
 use Rattle.worst_row.specs.Sheet.{settings}
 use Rattle.worst_row.proofs.Patterns.{bits-small, bits-inside, two-is, seven-is}
-use Rattle.worst_row.proofs.Ordered.{sort-listed}
+use Rattle.sort.proofs.Listed.{sort-listed}
 
 -- ---- the settings
 
 pub settings-plain : Plain settings
-unfolding defaultsFor lt mul ofBits
-settings-plain = record { cell = refl; still = refl; ungated = refl; least = omega arith; tolerant = refl }
+unfolding defaultsFor lt ofBits
+settings-plain = record { cell = refl; ungated = refl; tolerant = refl }
 
 settings-are : defaultsFor (f32 (le32 worstSettings 0)) Off (fractionIn (f32 (floatBits 2))) ≡ settings
 settings-are = rw (word-there (floatBits 7) [] (bits-small 7), seven-is, bits-inside 2 (omega arith), two-is)

@@ -1,6 +1,5 @@
 -- The sheet that takes longest: it is accepted as it stands, and is a row of weak points but for the last.
 pub mod Patterns
-pub mod Ordered
 pub mod Accepted
 pub mod Row
 pub mod Weak

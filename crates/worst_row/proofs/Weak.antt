@@ -26,7 +26,7 @@ use Rattle.drop_set.specs.Filters.{weakBy}
 use Rattle.worst_sheet.specs.Worst.{floatBits, worstPoints}
 use Rattle.worst_row.specs.Sheet.{settings}
 use Rattle.worst_row.proofs.Patterns.{one-is, two-is}
-use Rattle.worst_row.proofs.Ordered.{sort-listed}
+use Rattle.sort.proofs.Listed.{sort-listed}
 use Rattle.worst_row.proofs.Accepted.{point-is, point-count}
 
 -- the weak marks, from the settings and the points

@@ -9,7 +9,7 @@ use Rattle.folds.specs.Lists.{All}
 use Rattle.folds.proofs.Lists.{past-end}
 use Rattle.cells.specs.Points.{Point, nowhere}
 use Rattle.sheet_file.specs.Bytes.{Bytes, le32, littleEndian}
-use Rattle.sheet_file.proofs.Words.{SameBytes, le32-same}
+use Rattle.sheet_file.proofs.Words.{SameBytes, bytes-join, le32-same}
 use Rattle.points.specs.Records.{pointIn}
 use Rattle.points.proofs.Located.{point-same}
 use Rattle.ruling.proofs.Standing.{Words}
@@ -33,11 +33,6 @@ module _ (a l : List ℕ) where
 
 pub no-bytes : Bytes []
 no-bytes k = omega (arith, past-end {A = ℕ} 0 k)
-
-pub bytes-join : (a l : List ℕ) → Bytes a → Bytes l → Bytes (a ++ l)
-bytes-join [] l h b k = b k
-bytes-join (x ∷ a) l h b zero = h zero
-bytes-join (x ∷ a) l h b (suc k) = bytes-join a l (λ k. h (suc k)) b k
 
 -- ---- a number and its four bytes
 

@@ -25,14 +25,14 @@ use Rattle.sheet_file.specs.declared.Fraction.{Fraction}
 use Rattle.sheet_file.specs.declared.Framing.the-variants.{Framed}
 use Rattle.sheet_file.specs.declared.Layout.{Layout}
 use Rattle.sheet_file.specs.declared.Settings.{Settings}
-use Rattle.sheet_file.proofs.Words.{le16-same, le32-same}
+use Rattle.sheet_file.proofs.Words.{bytes-join, le16-same, le32-same}
 use Rattle.points.specs.Records.{pointIn, ithPoint, pointsIn}
 use Rattle.ruling.specs.Ruling.{refused, rulingFor, pointsOf, rulingOf}
 use Rattle.ruling.proofs.Given.{by-points}
 use Rattle.ruling.proofs.Limit.{more-refused}
 use Rattle.ruling.proofs.Standing.{Words}
 use Rattle.written_file.specs.File.{recordsOf, strengthBytes, weights, weighedFile}
-use Rattle.written_file.proofs.Parts.{first-part, word-after, point-after, bytes-join, word-there, words-bytes, weighing, records-length, records-there, records-bytes, strengths-length, strengths-there, strengths-bytes}
+use Rattle.written_file.proofs.Parts.{first-part, word-after, point-after, word-there, words-bytes, weighing, records-length, records-there, records-bytes, strengths-length, strengths-there, strengths-bytes}
 use Rattle.written_file.proofs.Framed.{SettingsSize, layoutFor, written-well, framed}
 
 -- the data of tag 4
