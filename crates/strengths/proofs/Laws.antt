@@ -1,6 +1,5 @@
 -- Weak marks are 0 or 1, go by the strengths of the first n points alone, and are the same for points of one strength. Assumes nothing.
 use mathlib.Core.Path.{_≡_, refl, sym, ap, _∙_}
-use mathlib.Core.Bool.{Bool, true, false}
 use mathlib.Core.List.{List, [], _∷_}
 use Prim.Native.Nat.{ℕ, zero, suc, _≤_, _<_}
 use Prim.{yes, no}
