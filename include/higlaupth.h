@@ -43,9 +43,9 @@ extern "C" {
 /* The version of this header and of the library that is installed with it. A change that breaks a
    caller raises the first number, an addition the second, anything else the third. */
 #define HIGLAUPTH_VERSION_MAJOR 3
-#define HIGLAUPTH_VERSION_MINOR 0
+#define HIGLAUPTH_VERSION_MINOR 1
 #define HIGLAUPTH_VERSION_PATCH 0
-#define HIGLAUPTH_VERSION "3.0.0"
+#define HIGLAUPTH_VERSION "3.1.0"
 
 /* Sizes, in bytes but for the first three. */
 #define HIGLAUPTH_MOST_POINTS 2304  /* a sheet with more is refused */

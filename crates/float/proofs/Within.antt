@@ -83,7 +83,7 @@ number-abs nan = refl
 number-abs (inf s) = refl
 number-abs (fin s m e) = refl
 
-round-number : (s : Bool) (a c : ℕ) → isNan (round binary32 s a c) ≡ false
+pub round-number : (s : Bool) (a c : ℕ) → isNan (round binary32 s a c) ≡ false
 round-number s a c = sym (number-abs (round binary32 s a c)) ∙ ap isNan (abs-round binary32 s a c) ∙ plain-number (round binary32 false a c) (plain-round binary32 a c)
 
 -- ---- sums, differences, products

@@ -60,6 +60,17 @@ tally-lost p q n h = go (some (λ (i : ℕ). p i && not (q i)) n) refl
     go true e = let w = some-at (λ (i : ℕ). p i && not (q i)) n e in (w .0, w .1, and-left (p (w .0)) (not (q (w .0))) (w .2), not-yes (q (w .0)) (and-right (p (w .0)) (not (q (w .0))) (w .2)))
     go false e = absurd (omega (arith, tally-mono p q n (λ k l f. passes (p k) (q k) (some-fails (λ (i : ℕ). p i && not (q i)) n e k l) f)))
 
+-- where none passes, and where all do
+pub tally-no : (p : ℕ → Bool) (n : ℕ) → ((k : ℕ) → k < n → p k ≡ false) → tally p n ≡ 0
+unfolding tally
+tally-no p zero h = refl
+tally-no p (suc n) h = rw (h n (lt-suc-self n)) (tally-no p n (λ k l. h k (le-step l)))
+
+pub tally-all : (n : ℕ) → tally (λ (k : ℕ). true) n ≡ n
+unfolding tally
+tally-all zero = refl
+tally-all (suc n) = omega (arith, tally-all n)
+
 -- where some pass, one does
 pub tally-has : (p : ℕ → Bool) (n : ℕ) → 0 < tally p n → (i : ℕ) × (i < n) × (p i ≡ true)
 unfolding tally

@@ -20,6 +20,10 @@ pub bit-is : (b : Bool) → eqb (bit b) 1 ≡ b
 bit-is true = refl
 bit-is false = refl
 
+pub bit-le : (b : Bool) → bit b ≤ 1
+bit-le true = omega arith
+bit-le false = omega arith
+
 -- counting is adding up bits
 pub tally-bit : (p : ℕ → Bool) (i : ℕ) → tally p (i + 1) ≡ tally p i + bit (p i)
 tally-bit p i = tally-more p i ∙ go (p i)

@@ -9,6 +9,7 @@ use lib.Dec.{eqb}
 use borrow.Author.Tests.{eqb-true, eq-eqb, ne-eqb}
 use Rattle.folds.specs.Below.{some, tally, last}
 use Rattle.folds.proofs.Below.{and-left, and-right, and-both, and-false, and-true, not-true, some-at, some-yes, some-fails, tally-ext, last-holds}
+use Rattle.folds.proofs.Counting.{tally-no}
 use Rattle.promises.specs.Tally.{different}
 
 and-first : (a b c : Bool) → a && (b && c) ≡ (a && b) && c
@@ -33,11 +34,6 @@ tally-split p t (suc n) = go (p n) (t n) (tally-split p t n)
     go true true e = omega arith
     go true false e = omega arith
     go false y e = e
-
-tally-no : (p : ℕ → Bool) (n : ℕ) → ((k : ℕ) → k < n → p k ≡ false) → tally p n ≡ 0
-unfolding tally
-tally-no p zero h = refl
-tally-no p (suc n) h = rw (h n (lt-suc-self n)) (tally-no p n (λ k l. h k (le-step l)))
 
 -- one alone passes
 tally-single : (p : ℕ → Bool) (n m : ℕ) → m < n → p m ≡ true → ((k : ℕ) → k < n → p k ≡ true → k ≡ m) → tally p n ≡ 1

@@ -8,7 +8,7 @@ use lib.Dec.{eqb, leb}
 use borrow.Author.Tests.{leb-true, eq-eqb}
 use Rattle.folds.specs.Among.{anyIn}
 use Rattle.refusals.specs.First.{ruled, appliesIn}
-use Rattle.refusals.proofs.Laws.{holds, numbersOf, earlierThan, DistinctNumbers, FirstHolding, none-applies-in, none-holds, each-listed, first-given, only-first, none-passes, only-none, ruled-in-two}
+use Rattle.refusals.proofs.Laws.{holds, numbersOf, earlierThan, DistinctNumbers, none-applies-in, none-holds, each-listed, first-given, only-first, none-passes, only-none, ruled-in-two}
 use Rattle.cells.specs.Points.{Point}
 use Rattle.sheet_file.specs.Frame.{framingOf, layoutOf}
 use Rattle.sheet_file.specs.Refusals.{floatAt, defaultsFor, settingsIn, edgeShapeOf, fractionOf, settingsOf, headerRefusals}

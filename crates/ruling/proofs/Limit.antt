@@ -23,7 +23,6 @@ use Rattle.sheet_file.specs.declared.Layout.{Layout}
 use Rattle.sheet_file.proofs.Fields.{is-framed, field-in, StrengthsAt, strengths-there, strengths-absent, GateAt, gate-there, gate-absent, Fields, full-settings, short-settings, fields-of, PointsAt, points-in}
 use Rattle.sheet_file.proofs.Words.{le16-small}
 use Rattle.sheet_file.proofs.Grammar.{well-framed, points-counted, weights-counted, accepted-well}
-use Rattle.sheet_file.proofs.Longest.{most-points}
 use Rattle.ruling.specs.Ruling.{refused, rulingOf, applies}
 use Rattle.ruling.specs.Limit.{pointCount, WeightsFit, Passes, LimitPromise, shortSheet, zeroSheet}
 use Rattle.ruling.proofs.Given.{given, is-given}

@@ -4,7 +4,7 @@ use mathlib.Core.Bool.{Bool, true, false, cond, not, _&&_}
 use mathlib.Core.List.{List, [], _++_, map, List·Permᴰ, List·Permᴰ·nil, List·Permᴰ·cons, List·Permᴰ·swap, List·Permᴰ·trans}
 use Prim.Native.Nat.{ℕ, _+_, _*_, _<_}
 use native.Mathlib.Omega.{arith}
-use lib.ListN.{length, take, drop, length-drop, length-map, List·getD-map, List·getD-append}
+use lib.ListN.{length, drop, length-drop, length-map, List·getD-map, List·getD-append}
 use lib.Seq.{getD-take, getD-drop, getD-append-add, length-take-le}
 use Rattle.folds.proofs.Among.{any-order, pair-order}
 use Rattle.folds.specs.Lists.{All, listOf}
@@ -26,7 +26,7 @@ use Rattle.points.specs.Records.{pointIn, ithStrength, ithPoint, pointsIn}
 use Rattle.points.specs.Refusals.{pointRefusals, offRange, offLimit, offStrength, sameCell, twoPositions, twoStrengths, cellOrder}
 use Rattle.points.proofs.Neighbours.{eqb-swap}
 use Rattle.points.proofs.Located.{point-same}
-use Rattle.ruling.specs.Ruling.{Ruling, refused, accepted, rulingFor, rulingOf}
+use Rattle.ruling.specs.Ruling.{refused, accepted, rulingFor, rulingOf}
 use Rattle.ruling.specs.Order.{bytesAt, recordOf, recordsIn, Relisted}
 use Rattle.ruling.proofs.Header.{same-headed, frame-same, carried}
 use Rattle.ruling.proofs.Standing.{Words, cell-either-way, none-apart, one-order, words-in}

@@ -4,7 +4,7 @@ use mathlib.Core.Path.{_≡_, refl, sym, ap, _∙_}
 use mathlib.Core.Bool.{Bool, true, false}
 use mathlib.Core.List.{List, [], _∷_, _++_, map, List·Permᴰ, List·Permᴰ·swap}
 use mathlib.Core.Logic.{inl, inr}
-use Prim.Native.Nat.{ℕ, zero, suc, _+_, _-_, _*_, _/_, _%_, _≤_, _<_}
+use Prim.Native.Nat.{ℕ, zero, suc, _+_, _-_, _*_, _/_, _%_, _≤_}
 use native.Mathlib.Omega.{arith}
 use lib.Dec.{eqb, ltb}
 use lib.Ieee.{ofBits}
@@ -26,6 +26,7 @@ use Rattle.sheet_file.specs.declared.Fraction.the-variants.{Given}
 use Rattle.sheet_file.specs.declared.Framing.the-variants.{Framed}
 use Rattle.sheet_file.specs.declared.Layout.{Layout}
 use Rattle.sheet_file.specs.declared.Settings.{Settings}
+use Rattle.sheet_file.proofs.Words.{bytes-join}
 use Rattle.points.specs.Records.{pointsIn}
 use Rattle.ruling.specs.Ruling.{Ruling, refused, accepted, refusalsOf, rulingOf}
 use Rattle.ruling.specs.Sheet.{pointsBy}
@@ -194,11 +195,6 @@ bytes-by [] e (suc k) = omega arith
 bytes-by (b ∷ file) e zero = omega (arith, ltb-false 255 b (or-none (ltb 255 b) (anyIn (ltb 255) file) e .0))
 bytes-by (b ∷ file) e (suc k) = bytes-by file (or-none (ltb 255 b) (anyIn (ltb 255) file) e .1) k
 
-bytes-and : (l r : List ℕ) → Bytes l → Bytes r → Bytes (l ++ r)
-bytes-and [] r b c k = c k
-bytes-and (a ∷ l) r b c zero = b zero
-bytes-and (a ∷ l) r b c (suc k) = bytes-and l r (λ k. b (suc k)) c k
-
 module _ (n : ℕ) (body : List ℕ) where
   abbrev zeros : List ℕ
   zeros = replicate (20 * n) 0
@@ -231,7 +227,7 @@ module _ (n : ℕ) (body : List ℕ) where
 pub unfit-above-limit : (n : ℕ) → n ≡ 2305 → rulingOf (zerosWith n []) 0 ≡ refused 12
 unfit-above-limit n e =
     let w = zeros-framed n [] (omega arith) in
-    limit (zerosWith n []) 0 (bytes-and (zeroSheet n) (field 4 []) (zero-bytes n) (bytes-by (field 4 []) refl)) .twelve (w .0) (unfit (w .0) (w .2))
+    limit (zerosWith n []) 0 (bytes-join (zeroSheet n) (field 4 []) (zero-bytes n) (bytes-by (field 4 []) refl)) .twelve (w .0) (unfit (w .0) (w .2))
   where
     unfit : (w : WellFramed (zerosWith n [])) → length (w .weights) ≡ 3 → WeightsFit w → ⊥
     unfit w s (inl z) = omega arith

@@ -1,10 +1,16 @@
 -- Numbers in a list of bytes are below 2 ^ 16 and 2 ^ 32, and depend on their own bytes alone. Assumes nothing.
 use mathlib.Core.Path.{_≡_}
-use mathlib.Core.List.{List}
-use Prim.Native.Nat.{ℕ, _+_, _^_, _≤_, _<_}
+use mathlib.Core.List.{List, [], _∷_, _++_}
+use Prim.Native.Nat.{ℕ, zero, suc, _+_, _^_, _≤_, _<_}
 use native.Mathlib.Omega.{arith}
 use lib.ListN.{getD}
 use Rattle.sheet_file.specs.Bytes.{Bytes, le16, le32}
+
+-- two lists of bytes, one after the other
+pub bytes-join : (a l : List ℕ) → Bytes a → Bytes l → Bytes (a ++ l)
+bytes-join [] l h b k = b k
+bytes-join (x ∷ a) l h b zero = h zero
+bytes-join (x ∷ a) l h b (suc k) = bytes-join a l (λ k. h (suc k)) b k
 
 pub le16-small : (file : List ℕ) → Bytes file → (at : ℕ) → le16 file at < 2 ^ 16
 unfolding le16

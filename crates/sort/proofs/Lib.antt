@@ -5,3 +5,4 @@ pub mod Sorted
 pub mod Slices
 pub mod Merging
 pub mod Halves
+pub mod Listed

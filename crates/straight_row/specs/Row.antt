@@ -3,7 +3,7 @@ use mathlib.Core.Path.{_≡_}
 use mathlib.Core.Bool.{true, false}
 use Prim.Native.Nat.{ℕ, _+_, _*_, _≤_, _<_}
 use lib.Ieee.{Float, lt}
-use Rattle.folds.specs.Arith.{_⊗_, f32, zeroF}
+use Rattle.folds.specs.Arith.{f32, zeroF}
 use Rattle.whole_floats.specs.Whole.{asFloat}
 use Rattle.offsets.specs.declared.Offset.{Offset}
 use Rattle.offsets.specs.Offsets.{isNear, nextU, prevU, ±0}
@@ -24,10 +24,8 @@ pub record Row (w : View) : Type 0 where
 abbrev pub seven : Float
 seven = f32 0x40E0_0000
 
--- cell size 7, the step flag off, no edge-shape gate, a line minimum above 0, and a line tolerance that is not negative
+-- cell size 7, no edge-shape gate, and a line tolerance that is not negative
 pub record Plain (s : Settings) : Type 0 where
   pub cell : s .«cell_size» ≡ seven
-  pub still : s .«use_step_aware» ≡ false
   pub ungated : s .«edge_shape» ≡ Off
-  pub least : 0 < s .«line_min_members»
-  pub tolerant : lt (s .«line_tol_rel» ⊗ seven) zeroF ≡ false
+  pub tolerant : lt (s .«line_tol_rel») zeroF ≡ false

@@ -1,6 +1,5 @@
 -- Weak marks are 0 or 1, go by the strengths of the first n points alone, and are the same for points of one strength. Assumes nothing.
 use mathlib.Core.Path.{_≡_, refl, sym, ap, _∙_}
-use mathlib.Core.Bool.{Bool, true, false}
 use mathlib.Core.List.{List, [], _∷_}
 use Prim.Native.Nat.{ℕ, zero, suc, _≤_, _<_}
 use Prim.{yes, no}
@@ -11,6 +10,7 @@ use lib.Ieee.{Float, nan, lt, ofBits}
 use Rattle.folds.specs.Arith.{_⊗_}
 use Rattle.folds.specs.Column.{column}
 use Rattle.folds.specs.Marked.{bit}
+use Rattle.folds.proofs.Marked.{bit-le}
 use Rattle.folds.proofs.Lists.{list-at, list-ext}
 use Rattle.folds.proofs.Column.{length-column, column-at, column-over, column-ext}
 use Rattle.float.specs.Constants.{one, two, minusOne}
@@ -51,11 +51,7 @@ module _ (n : ℕ) (strength : List Float) (fraction : Float) where
   weak-over k h = rw weak-is (column-over maxPoints 0 n markAt k h)
 
   pub weak-most : (k : ℕ) → getD (weakOf n strength fraction) k 0 ≤ 1
-  weak-most k = elim (decLt k n) [ yes h ↦ rw (weak-at k h) (go (isWeak fraction (firstOf n strength) k)) | no h ↦ rw (weak-over k (omega (arith, h))) (omega arith) ]
-    where
-      go : (b : Bool) → bit b ≤ 1
-      go true = omega arith
-      go false = omega arith
+  weak-most k = elim (decLt k n) [ yes h ↦ rw (weak-at k h) (bit-le (isWeak fraction (firstOf n strength) k)) | no h ↦ rw (weak-over k (omega (arith, h))) (omega arith) ]
 
   -- points of one strength are weak together
   pub weak-alike : (j k : ℕ) → j < n → k < n → getD strength j nan ≡ getD strength k nan → getD (weakOf n strength fraction) j 0 ≡ getD (weakOf n strength fraction) k 0
