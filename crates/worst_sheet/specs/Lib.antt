@@ -1,1 +1,2 @@
 pub mod Worst
+pub mod Value

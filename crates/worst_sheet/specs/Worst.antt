@@ -6,6 +6,7 @@ use Prim.Native.Nat.{ℕ, _+_, _*_}
 use lib.Dec.{eqb, ltb}
 use lib.IntN.{pos}
 use lib.Ieee.{binary32, ofInt, toBits}
+use lib.ListN.{length}
 use Rattle.folds.specs.Below.{first}
 use Rattle.folds.specs.Lists.{listOf}
 use Rattle.folds.specs.Same.{sameList}
@@ -50,3 +51,7 @@ asked argument = first (λ (n : ℕ). sameList (decimal n) argument) 2 (maxPoint
 unfoldable pub worstOf : List ℕ → List ℕ
 unfolding asked worstFile
 worstOf argument = let n = asked argument in cond (ltb n (maxPoints + 1)) (worstFile n) []
+
+-- no sheet that is written is longer: three fields, each with a tag and two bytes of length (proved in proofs/Size.antt)
+abbrev pub worstSize : ℕ
+worstSize = (3 + length worstSettings) + (3 + 20 * maxPoints) + (3 + 4 + 4 * maxPoints)

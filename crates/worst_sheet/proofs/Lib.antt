@@ -1,0 +1,4 @@
+pub mod Asked
+pub mod Pieces
+pub mod Size
+pub mod Examples
