@@ -1,5 +1,5 @@
--- The points and the strengths of a sheet, piece by piece, and how long they are. Assumes nothing.
-use mathlib.Core.Path.{_≡_, refl, sym, ap, _∙_}
+-- The fields of the sheet, piece by piece, and how long they are. Assumes nothing.
+use mathlib.Core.Path.{_≡_, refl, ap, _∙_}
 use mathlib.Core.Bool.{Bool, true, false, cond}
 use mathlib.Core.List.{List, [], _∷_, _++_, append-assoc, append-nil}
 use Prim.Native.Nat.{ℕ, zero, suc, _+_, _*_, _/_, _%_, _≤_}
@@ -14,7 +14,6 @@ use Rattle.folds.specs.Lists.{upFrom, listOf}
 use Rattle.text.specs.Text.{each}
 use Rattle.text.specs.Stored.{Stored}
 use Rattle.text.specs.Answer.{writtenOf, Shows}
-use Rattle.text.specs.declared.Written.{Written}
 use Rattle.text.specs.declared.Written.the-variants.{Whole, NoRoom}
 use Rattle.text.proofs.Stores.{shows, stored-length, stored-then, each-none, each-more, each-long}
 use Rattle.cells.specs.Points.{Point}

@@ -1,6 +1,6 @@
 -- Document 02, A.6: "we need the worst sheet of n points, n from 2 to 2,304". The sheet, and what the program `worst` writes for an argument.
 -- Assumes nothing.
-use mathlib.Core.Bool.{Bool, cond}
+use mathlib.Core.Bool.{cond}
 use mathlib.Core.List.{List, []}
 use Prim.Native.Nat.{ℕ, _+_, _*_}
 use lib.Dec.{eqb, ltb}

@@ -1,4 +1,4 @@
--- `worst_sheet::value_of` meets its contract. Assumes nothing.
+-- `worst_sheet::value_of` meets its contract. The loop's invariant: the number that the first i characters spell. Assumes nothing.
 use mathlib.Core.Path.{_≡_, sym}
 use Prim.Native.Nat.{_-_, _≤_, _<_}
 use native.Mathlib.Omega.{arith}
