@@ -13,7 +13,7 @@ use lib.ListN.{getD}
 use Rattle.folds.proofs.Below.{and-both, or-false, or-right, not-true}
 use Rattle.folds.proofs.Counting.{tally-has-two}
 use Rattle.folds.specs.Marked.{bit}
-use Rattle.folds.proofs.Marked.{tally-four}
+use Rattle.folds.proofs.Marked.{bit-le, tally-four}
 use Rattle.offsets.specs.Offsets.{nextU, prevU, nextV, prevV, squareSides, places}
 use Rattle.view.specs.View.{View, rankAt}
 use Rattle.patches.specs.Patches.{survives}
@@ -66,12 +66,8 @@ module _ (w : View) (dropped weak : List ℕ) (m : ℕ) (long : w .count ≡ m +
     -- the next is its only live neighbour
     few : r + 1 < w .count → live.sidesLive w four dropped weak r r < 2
     unfolding liveSides
-    few h = omega (arith, tally-four (λ (i : ℕ). lives r (w .near (25 * r + getD four i 0))), ap bit before, ap bit below, ap bit above, at-most (lives r (rankAt w r nextU)))
+    few h = omega (arith, tally-four (λ (i : ℕ). lives r (w .near (25 * r + getD four i 0))), ap bit before, ap bit below, ap bit above, bit-le (lives r (rankAt w r nextU)))
       where
-        at-most : (b : Bool) → bit b ≤ 1
-        at-most true = omega arith
-        at-most false = omega arith
-
         before : lives r (rankAt w r prevU) ≡ false
         before = not-true _ (λ e. let v = later _ e in elim (ℕ-discrete r 0) [
           | yes d ↦ omega (arith, v .0, row .first, ap (λ (k : ℕ). rankAt w k prevU) d)

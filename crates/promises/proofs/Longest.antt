@@ -3,15 +3,15 @@ use mathlib.Core.Path.{_≡_, refl, sym, ap, _∙_}
 use mathlib.Core.Bool.{Bool, false, not, _&&_, _||_}
 use mathlib.Core.List.{List, []}
 use Prim.{yes, no}
-use Prim.Native.Nat.{ℕ, zero, suc, _+_, _*_, _≤_, _<_}
+use Prim.Native.Nat.{ℕ, _+_, _*_, _≤_, _<_}
 use native.Mathlib.Decide.{decLe}
 use native.Mathlib.Omega.{arith}
 use lib.Dec.{eqb}
 use lib.IntN.{ℤ, pos, _+ℤ_, _-ℤ_, +ℤ-idl, +ℤ-comm, +ℤ-negℤ-cancel}
 use lib.ListN.{length, getD}
 use borrow.Author.Tests.{lt-ltb}
-use Rattle.folds.specs.Below.{tally}
 use Rattle.folds.proofs.Below.{and-true, or-false, tally-ext, tally-le}
+use Rattle.folds.proofs.Counting.{tally-all}
 use Rattle.offsets.specs.declared.Offset.{Offset}
 use Rattle.offsets.specs.Offsets.{own, placeOf, places}
 use Rattle.offsets.proofs.Places.{places-at}
@@ -63,11 +63,6 @@ neighbours s ps o = record {
 
 -- ---- what was dropped beforehand
 
-all-pass : (n : ℕ) → tally anyPoint n ≡ n
-unfolding tally
-all-pass zero = refl
-all-pass (suc n) = omega (arith, all-pass n)
-
 module _ (s : Settings) (ps : List Point) where
   abbrev drops : List ℕ
   drops = pointMarks s (viewOf ps) (cellsOf ps)
@@ -107,7 +102,7 @@ module _ (s : Settings) (ps : List Point) where
         elim (decLe 2 (leftBefore s ps)) [ yes l ↦ omega (arith, left l, all) | no l ↦ omega (arith, few, l, h) ]
 
     indices : DistinctIndices ps → 2 ≤ length ps → roundsOf s ps + 1 ≤ different anyPoint (indexIn ps) (length ps)
-    indices one h = rw (different-all anyPoint (indexIn ps) (length ps) one) (omega (arith, bound h, all-pass (length ps)))
+    indices one h = rw (different-all anyPoint (indexIn ps) (length ps) one) (omega (arith, bound h, tally-all (length ps)))
 
 pub longest : LongestPromise
 longest file room s ps b e =
