@@ -14,3 +14,4 @@ pub mod Theorems
 pub mod Cosines
 pub mod Leaves
 pub mod Longest
+pub mod Worst

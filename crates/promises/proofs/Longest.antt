@@ -75,7 +75,7 @@ module _ (s : Settings) (ps : List Point) where
   unfolding viewOf pointMarks
   none-marks k h = zero-is (length ps) k h (pointFilters s (viewOf ps) (cellsOf ps)) [] refl (omega arith) ∙ and-true _
 
-  zero-before : (k : ℕ) → k < length ps → eqb (getD drops k 0) 0 ≡ not (beforehand s ps k)
+  pub zero-before : (k : ℕ) → k < length ps → eqb (getD drops k 0) 0 ≡ not (beforehand s ps k)
   zero-before k h = none-marks k h ∙ ap not (three (sym (validate-in s ps k h)) (sym (orientation-in s ps k h)) (sym (wrong-in s ps k h)))
     where
       three : {x y z a b c : Bool} → x ≡ a → y ≡ b → z ≡ c → x || (y || (z || false)) ≡ a || (b || c)

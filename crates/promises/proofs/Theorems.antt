@@ -79,7 +79,7 @@ kept-patch file room s ps b e one on =
       has-smallest = λ W p. smallest (length ps) p (λ k h. reached-below s ps (p .inner k h));
     }
 
-answer-is : (file : List ℕ) (room : ℕ) (s : Settings) (ps : List Point) → rulingOf file room ≡ accepted s ps → answerOf file room ≡ Accepted (record { points = length ps; components = judgedFor s ps .components; rounds = roundsOf s ps })
+pub answer-is : (file : List ℕ) (room : ℕ) (s : Settings) (ps : List Point) → rulingOf file room ≡ accepted s ps → answerOf file room ≡ Accepted (record { points = length ps; components = judgedFor s ps .components; rounds = roundsOf s ps })
 unfolding answerOf
 answer-is file room s ps e = ap answerBy e
 

@@ -6,3 +6,4 @@ pub mod Runs
 pub mod Limit
 pub mod Leaves
 pub mod Longest
+pub mod Worst
