@@ -41,7 +41,7 @@ module _ (alive : ℕ → Bool) (near byIdx : ℕ → ℕ) (sides : List ℕ) (w
     pub leaf-weak : leaf alive near byIdx sides weak gone k ≡ true → weak k ≡ true
     leaf-weak e = and-left (weak k) (ltb (liveSides alive near byIdx sides gone k) 2) (leaf-rest e)
 
-    leaf-few : leaf alive near byIdx sides weak gone k ≡ true → liveSides alive near byIdx sides gone k < 2
+    pub leaf-few : leaf alive near byIdx sides weak gone k ≡ true → liveSides alive near byIdx sides gone k < 2
     leaf-few e = ltb-true (liveSides alive near byIdx sides gone k) 2 (and-right (weak k) _ (leaf-rest e))
 
     -- a live weak rank that is no end has two live neighbours or more

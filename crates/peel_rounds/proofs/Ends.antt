@@ -5,18 +5,17 @@ use mathlib.Core.Logic.{⊎-elim}
 use mathlib.Core.List.{List}
 use Prim.Native.Nat.{ℕ, zero, suc, _+_, _≤_, _<_}
 use native.Mathlib.Omega.{arith}
-use borrow.Author.Tests.{ltb-true}
 use Rattle.folds.specs.Below.{tally}
-use Rattle.folds.proofs.Below.{some-at, tally-mono, and-right, not-true, not-false}
+use Rattle.folds.proofs.Below.{some-at, tally-mono, not-true, not-false}
 use Rattle.folds.proofs.Counting.{either, tally-grows}
 use Rattle.view.specs.View.{View}
 use Rattle.marks.specs.Marks.{isSet}
 use Rattle.patches.specs.Patches.{survives}
 use Rattle.patches.proofs.Surviving.{survives-lt}
-use Rattle.peel.specs.Peel.{live, liveSides, leaf, ended, roundsIn, peeledIn, leafOf, goneOf, peeledOf}
+use Rattle.peel.specs.Peel.{live, liveSides, ended, roundsIn, peeledIn, leafOf, goneOf, peeledOf}
 use Rattle.peel.specs.Theorems.{Placed}
 use Rattle.peel.proofs.Rounds.{gone-more, end-gone, busy-before}
-use Rattle.peel.proofs.Leaves.{live-alive, live-stays, live-is, leaf-live, leaf-weak, leaf-many}
+use Rattle.peel.proofs.Leaves.{live-alive, live-stays, live-is, leaf-live, leaf-weak, leaf-few, leaf-many}
 use Rattle.peel.proofs.Theorems.{known}
 use Rattle.peel_rounds.specs.Rounds.{leftCount}
 
@@ -61,8 +60,7 @@ module _ (w : View) (sides dropped weak : List ℕ) where
     end-weak = leaf-weak alive (w .near) (w .byIdx) sides (isSet weak) (out r) k
 
     pub end-few : isEnd r k ≡ true → sidesLive r k < 2
-    unfolding leaf
-    end-few e = ltb-true (sidesLive r k) 2 (and-right (isSet weak k) _ (and-right (lives r k) _ e))
+    end-few = leaf-few alive (w .near) (w .byIdx) sides (isSet weak) (out r) k
 
     pub many-sides : isEnd r k ≡ false → lives r k ≡ true → isSet weak k ≡ true → 2 ≤ sidesLive r k
     many-sides = leaf-many alive (w .near) (w .byIdx) sides (isSet weak) (out r) k

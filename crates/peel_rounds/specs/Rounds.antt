@@ -33,7 +33,6 @@ pub record InRow (w : View) (dropped weak : List ℕ) : Type 0 where
   pub own : (k : ℕ) → k < w .count → w .byIdx k ≡ k
   pub kept : (k : ℕ) → k < w .count → getD dropped k 0 ≡ 0
   pub next : (k : ℕ) → k + 1 < w .count → rankAt w k nextU ≡ k + 1
-  pub last : (k : ℕ) → k + 1 ≡ w .count → w .count ≤ rankAt w k nextU
   pub prev : (k : ℕ) → k + 1 < w .count → rankAt w (k + 1) prevU ≡ k
   pub first : w .count ≤ rankAt w 0 prevU
   pub beside : (k : ℕ) → k < w .count → (w .count ≤ rankAt w k prevV) × (w .count ≤ rankAt w k nextV)

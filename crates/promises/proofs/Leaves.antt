@@ -2,10 +2,9 @@
 use mathlib.Core.Path.{_≡_, refl, sym, ap, _∙_}
 use mathlib.Core.Bool.{Bool, true, false, not, _&&_, true≢false}
 use mathlib.Core.List.{List, [], _∷_}
-use mathlib.Core.Logic.{_⊎_, inl, inr}
 use Prim.{Dec, yes, no}
 use Prim.Native.Nat.{ℕ, _+_, _*_, _≤_, _<_}
-use native.Mathlib.Decide.{ℕ-discrete, decLt}
+use native.Mathlib.Decide.{decLt}
 use native.Mathlib.Omega.{arith}
 use lib.Dec.{eqb, ltb}
 use lib.Ieee.{nan}
@@ -23,7 +22,7 @@ use Rattle.offsets.specs.Offsets.{own, places}
 use Rattle.offsets.proofs.Places.{places-at}
 use Rattle.view.specs.View.{View, maxPoints, rankAt, alike, indexHas}
 use Rattle.cells.specs.Points.{Point, nowhere, strengthsOf}
-use Rattle.cells.specs.Cell.{Cell, cellOf, cellsOf, coincide, offsetBy}
+use Rattle.cells.specs.Cell.{cellOf, cellsOf, coincide, offsetBy}
 use Rattle.cells.proofs.Edges.{coincide-same, coincide-true}
 use Rattle.sort.proofs.Sorted.{sort-perm}
 use Rattle.grid.specs.InOrder.{CellOrder}
@@ -43,7 +42,7 @@ use Rattle.ruling.proofs.Given.{none-applies, own-fraction}
 use Rattle.ruling.proofs.Standing.{accepted-file, accepted-order}
 use Rattle.marks.specs.Filters.{validate, orientation, wrong, leaf, component}
 use Rattle.marks.specs.Marks.{isSet}
-use Rattle.marks.specs.Byte.{hasMark, markedByAll}
+use Rattle.marks.specs.Byte.{hasMark}
 use Rattle.marks.proofs.Byte.{marked-by}
 use Rattle.marks.proofs.Guards.{index-marks, set-is}
 use Rattle.validate.specs.Validate.{validateMark}
@@ -56,7 +55,7 @@ use Rattle.strengths.proofs.Laws.{weak-alike}
 use Rattle.peel.specs.Theorems.{Placed, left, leftSides}
 use Rattle.peel.specs.declared.Peeled.{Peeled}
 use Rattle.peel.proofs.Theorems.{marks-shared, left-sides, removed-own, removed-live, none-rounds, rounds-none}
-use Rattle.drop_set.specs.Filters.{sidesOf, byPoints, wrongMark, componentMarked, viewFilters, pointFilters, weakBy, noLeaves, peelOf, leafMarked, patchedOf, pointMarks, measuredOf, judgedOf}
+use Rattle.drop_set.specs.Filters.{sidesOf, byPoints, wrongMark, componentMarked, viewFilters, weakBy, noLeaves, peelOf, patchedOf, pointMarks, measuredOf, judgedOf}
 use Rattle.drop_set.proofs.Laws.{unpeeled}
 use Rattle.judging.specs.Judging.{judgedFor}
 use Rattle.judging.proofs.Laws.{few-rounds}

@@ -4,11 +4,11 @@ use mathlib.Core.Path.{_≡_, refl, sym, ap, _∙_}
 use mathlib.Core.Bool.{Bool, true, false, not, _&&_, _||_}
 use mathlib.Core.Logic.{⊎-elim}
 use mathlib.Core.List.{List}
-use Prim.Native.Nat.{ℕ, _+_, _-_, _*_, _≤_, _<_, zero-le}
+use Prim.Native.Nat.{ℕ, _-_, _≤_, _<_, zero-le}
 use native.Mathlib.Nat.{eq-or-lt-of-le}
 use native.Mathlib.Omega.{arith}
 use lib.Dec.{eqb}
-use lib.ListN.{length, getD}
+use lib.ListN.{getD}
 use Rattle.folds.specs.Below.{some, tally}
 use Rattle.folds.proofs.Below.{and-false, some-no, some-fails}
 use Rattle.folds.proofs.Counting.{not-yes}
@@ -22,7 +22,7 @@ use Rattle.cells.specs.Cell.{cellOf, cellsOf, coincide, offsetBy}
 use Rattle.grid.specs.Views.{viewOf}
 use Rattle.marks.specs.Filters.{validate, orientation, wrong, leaf}
 use Rattle.marks.specs.Byte.{hasMark}
-use Rattle.drop_set.specs.Filters.{sidesOf, weakBy, pointMarks}
+use Rattle.drop_set.specs.Filters.{weakBy, pointMarks}
 use Rattle.peel.specs.Peel.{peeledOf}
 use Rattle.peel_rounds.proofs.Row.{row-rounds}
 use Rattle.straight_row.proofs.Unmarked.{unmarked}

@@ -6,10 +6,10 @@ use Prim.Native.Nat.{ℕ, _≤_, _<_}
 use native.Mathlib.Omega.{arith}
 use lib.IntN.{natAbs, pos-ne-negsuc}
 use lib.ListN.{getD}
-use borrow.Author.Tests.{ltb-true, ltb-false}
+use borrow.Author.Tests.{ltb-false}
 use Rattle.folds.proofs.Below.{not-true}
 use Rattle.offsets.specs.declared.Offset.{Offset}
-use Rattle.offsets.specs.Offsets.{nextU, prevU, nextV, prevV}
+use Rattle.offsets.specs.Offsets.{prevU, nextV, prevV}
 use Rattle.view.specs.View.{View, maxPoints, rankAt, present}
 use Rattle.grid.specs.Views.{viewOf}
 use Rattle.peel_rounds.specs.Rounds.{InRow}
@@ -33,7 +33,6 @@ module _ (n : ℕ) (few : n ≤ maxPoints) (three : 3 ≤ n) where
         own = λ k h. own-index n few k (omega arith);
         kept = λ k h. none k (omega arith);
         next = λ k h. next-found n few k (omega arith);
-        last = λ k e. absent w k nextU (λ t. omega (arith, r .ahead k (omega arith) t, ltb-true (rankAt w k nextU) (w .count) t));
         prev = λ k h. prev-found n few k (omega arith);
         first = absent w 0 prevU (λ t. omega (arith, r .behind 0 (omega arith) t));
         beside = λ k h. (absent w k prevV (λ t. pos-ne-negsuc 0 0 (sym (r .beside k prevV h refl t))), absent w k nextV (λ t. omega (arith, ap natAbs (r .beside k nextV h refl t))));
