@@ -1,6 +1,7 @@
 //! The original against the second program, sheet by sheet.
 
 use crate::angles;
+use crate::bound::Bound;
 use crate::generate::{self, Case, Expected, Kind};
 use crate::library;
 use crate::limits::{map, peel, Met};
@@ -165,6 +166,8 @@ pub struct Report {
     no_maps: [usize; LAST_NUMBER + 1],
     pub met: Met<map::Seen>,
     pub met_by_peels: Met<peel::Seen>,
+    /// Sheets with strengths, beside the bound on their rounds.
+    pub bound: Bound,
     smallest_acos: Option<(usize, Case)>,
 }
 
@@ -186,13 +189,21 @@ impl Report {
     fn count_sheet(&mut self, sheet: &Sheet, rows: &[u8], rounds: usize) {
         self.count_rows(rows);
         self.repeated += usize::from(sheet.repeats_index());
-        self.weighed += usize::from(sheet.strengths != Strengths::Missing);
         self.rounds += rounds;
         self.most_rounds = self.most_rounds.max(rounds);
         let seen = map::Seen::new(sheet, rows);
         seen.iter().for_each(|seen| self.met.add(seen));
         let seen = peel::Seen::new(sheet, rows, rounds);
         seen.iter().for_each(|seen| self.met_by_peels.add(seen));
+    }
+
+    /// Holds the rounds of a sheet with strengths against their bound.
+    fn count_rounds(&mut self, sheet: &Sheet, answer: &Answer) -> Option<String> {
+        if sheet.strengths == Strengths::Missing {
+            return None;
+        }
+        self.weighed += 1;
+        self.bound.add(sheet, answer)
     }
 
     fn count_map(&mut self, map: &Map) {
@@ -216,7 +227,16 @@ impl Report {
             Answer::Refused(number) => self.refused[usize::from(*number)] += 1,
             Answer::Accepted { .. } => kind[1] += 1,
         }
-        match check(case, &answer, &map) {
+        let mut verdict = check(case, &answer, &map);
+        if let Answer::Accepted { rows, rounds, .. } = &answer {
+            let sheet = Sheet::from_file(&case.file).unwrap();
+            self.count_sheet(&sheet, rows, *rounds);
+            if let Some(text) = self.count_rounds(&sheet, &answer) {
+                verdict = Verdict::Different(text);
+            }
+        }
+        let kind = &mut self.by_kind[case.kind as usize];
+        match verdict {
             Verdict::Same => {}
             Verdict::AcosOnly => {
                 kind[2] += 1;
@@ -238,9 +258,6 @@ impl Report {
                 }
             }
         }
-        if let Answer::Accepted { rows, rounds, .. } = &answer {
-            self.count_sheet(&Sheet::from_file(&case.file).unwrap(), rows, *rounds);
-        }
     }
 
     fn print_sheets(&self) {
@@ -257,6 +274,7 @@ impl Report {
             "accepted sheets with strengths {}, their rounds {}, the most of one {}",
             self.weighed, self.rounds, self.most_rounds
         );
+        self.bound.print();
         println!(
             "residuals: none {} NaN {} infinite {}",
             self.without_fit, self.not_a_number, self.infinite

@@ -2,6 +2,7 @@
 
 mod angles;
 mod bench;
+mod bound;
 mod clock;
 mod compare;
 mod floats;
@@ -30,11 +31,14 @@ mod stars;
 mod tally_reader;
 mod text;
 mod vectors;
+mod worst;
 
 use generate::Kind;
 use second::Fault;
 use sheet::Sheet;
+use std::ffi::OsString;
 use std::io::{Read, Write};
+use std::os::unix::ffi::OsStrExt;
 use std::process::ExitCode;
 
 const USE: &str = "\
@@ -45,15 +49,22 @@ harness compare [--sheets N] [--seed S] [--kind KIND | --maps | --peels]
 harness compare --runs [--runs-of N] [--sheets N] [--seed S]
                                       runs of N sheets each, from records of every kind: library
                                       against second program
-harness mutants [--sheets N] [--seed S] [--maps | --runs | --peels]
+harness compare --worst [--step N] [--cells N] [--sheets N] [--seed S]
+                                      the sheets that take longest, --step: of every N-th number of
+                                      points too; sheets beside these; the bound on the rounds on
+                                      all sheets of blocks of N cells
+harness mutants [--sheets N] [--seed S] [--maps | --runs | --peels | --worst]
                                       how many sheets show each deliberate fault of the answers,
                                       or of the maps, or how many runs each of the run, or how
-                                      many sheets with strengths each of what is made of these
+                                      many sheets with strengths each of what is made of these, or
+                                      how many arguments each of the sheet that takes longest
 harness acos [COSINE ..]              what the Rust's acos makes of 30 degrees and of least cosines
 harness generate KIND SEED            a sheet file to standard output
 harness kinds                         the kinds of generated sheets
 harness second [BUFFER]               listing of the sheet file on standard input
 harness map                           map of the sheet file on standard input
+harness worst N                       the sheet file that takes longest, of N points; nothing for
+                                      anything else
 harness original                      rows of the original for the sheet file on standard input
 harness vectors float|sheet_file|run FOLDER
 harness vectors sheet FOLDER [--sheets N] [--seed S] [--most BYTES] [--full N] [--maps N]
@@ -68,7 +79,9 @@ harness load [--files N] [--peels N] [--seed S] [--heap] [--threads N] [--wrong 
 harness load faults                   whether the load notices deliberate faults
 harness bench [--runs N] [--rounds N] [--into FILE]
                                       microseconds a call, in tables
-harness worst [--tries N] [--seed S]  looks for the dearest call
+harness bench --peels [--runs N]      those of sheets with strengths alone
+harness dearest [--tries N] [--seed S]
+                                      looks for the dearest call
 harness text to-file | from-file      lines of text to a sheet file and back
 ";
 
@@ -134,10 +147,28 @@ fn compare_runs(args: &[String]) -> bool {
     report.failed == 0
 }
 
+/// The sheets that take longest, sheets of the kinds beside them, and those of small blocks.
+fn compare_worst(args: &[String]) -> bool {
+    let step = option(args, "--step", 0) as usize;
+    let longest = worst::run((step > 0).then_some(step));
+    longest.print();
+    let sheets = option(args, "--sheets", 300) as usize;
+    let beside = compare::run(Kind::for_worst(), sheets, option(args, "--seed", 0));
+    beside.print();
+    let blocks = worst::blocks(option(args, "--cells", worst::CELLS as u64) as usize);
+    blocks.print();
+    let wrong = blocks.failure.iter();
+    wrong.for_each(|text| println!("differs: {text}"));
+    longest.failed + beside.failed == 0 && blocks.failure.is_none()
+}
+
 fn compare(args: &[String]) -> bool {
     say_left_out();
     if has(args, "--runs") {
         return compare_runs(args);
+    }
+    if has(args, "--worst") {
+        return compare_worst(args);
     }
     let kind = args
         .iter()
@@ -161,7 +192,7 @@ fn compare(args: &[String]) -> bool {
 fn shown<C, T: PartialEq>(part: &mutants::Part<C, T>, cases: usize, seed: u64) -> bool {
     let shown = mutants::run(part, cases, seed, false);
     mutants::print(part, cases, &shown);
-    mutants::unseen(part.faults, &shown) == 0
+    mutants::unseen(part, &shown) == 0
 }
 
 fn mutants(args: &[String]) -> bool {
@@ -173,6 +204,9 @@ fn mutants(args: &[String]) -> bool {
         shown(&mutants::runs(), sheets / generate::RUN_OF, seed)
     } else if has(args, "--peels") {
         shown(&mutants::peels(), sheets, seed)
+    } else if has(args, "--worst") {
+        let bytes = shown(&mutants::worst(), sheets, seed);
+        shown(&mutants::worst_rounds(), sheets, seed) && bytes
     } else {
         shown(&mutants::answers(), sheets, seed)
     }
@@ -268,8 +302,23 @@ fn vectors(crate_of: &str, folder: &str, args: &[String]) {
     save(&format!("{folder}/stdout"), &made.stdout);
 }
 
+/// What the program `worst` writes for arguments of any bytes.
+fn worst_sheet(arguments: &[OsString]) {
+    let bytes: Vec<Vec<u8>> = arguments.iter().map(|a| a.as_bytes().to_vec()).collect();
+    output(&second::worst(&bytes, Fault::None));
+}
+
 fn main() -> ExitCode {
-    let args: Vec<String> = std::env::args().skip(1).collect();
+    let given: Vec<OsString> = std::env::args_os().skip(1).collect();
+    if let [command, arguments @ ..] = given.as_slice() {
+        if command == "worst" {
+            worst_sheet(arguments);
+            return ExitCode::SUCCESS;
+        }
+    }
+    let text = |word: OsString| word.into_string();
+    let args: Result<Vec<String>, OsString> = given.into_iter().map(text).collect();
+    let args = args.unwrap_or_else(|word| fail(&format!("not text: {word:?}")));
     let words: Vec<&str> = args.iter().map(String::as_str).collect();
     let mut holds = true;
     match words.as_slice() {
@@ -308,6 +357,7 @@ fn main() -> ExitCode {
         }
         ["load", "faults"] => holds = load::faults(),
         ["load", ..] => holds = load(&args),
+        ["bench", "--peels", ..] => bench::peels(option(&args, "--runs", 60) as usize),
         ["bench", rest @ ..] => {
             let into = rest.iter().position(|a| *a == "--into");
             let file = into.map(|k| {
@@ -318,9 +368,9 @@ fn main() -> ExitCode {
             let runs = option(&args, "--runs", 60) as usize;
             bench::run(runs, option(&args, "--rounds", 1) as usize, file);
         }
-        ["worst", ..] => {
+        ["dearest", ..] => {
             let tries = option(&args, "--tries", 1000) as usize;
-            bench::worst(tries, option(&args, "--seed", 0));
+            bench::dearest_call(tries, option(&args, "--seed", 0));
         }
         ["text", "to-file"] => output(&to_file()),
         ["text", "from-file"] => match Sheet::from_file(&input()) {

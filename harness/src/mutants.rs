@@ -1,17 +1,30 @@
 //! Deliberate faults of the second program, and how many sheets or runs show each.
 
 use crate::generate::{self, Case, Kind, Run};
-use crate::second::{self, Answer, Fault, InRun, Map};
+use crate::second::{self, Answer, Fault, InRun, Map, ROOM};
 
-/// The faults that no sheet shows, with why none can.
-pub const NONE_CAN_SHOW: &[(Fault, &str)] = &[(
+/// A list of faults, each with what is wrong or with why none can show it.
+type Faults = &'static [(Fault, &'static str)];
+
+/// The faults that no sheet shows.
+const NO_SHEET: Faults = &[(
     Fault::Rule3ByCell,
     "rule 3 visits only indices without a line flag, and rules 1 to 3 mark only indices with \
      one, so no visit changes what another finds",
 )];
 
-/// A list of faults, each with what is wrong.
-type Faults = &'static [(Fault, &'static str)];
+/// The faults of the sheet that takes longest that leave it as many rounds: only its bytes tell.
+const NO_ROUNDS: Faults = &[
+    (Fault::WorstFirstStrong, "the row goes from its other end"),
+    (Fault::WorstCell8, "no two points are closer than 0.2 cells"),
+    (Fault::WorstIndexFrom1, "indices only tell points apart"),
+    (Fault::WorstCellsFrom1, "a whole move"),
+    (Fault::WorstColumn, "a row along v"),
+    (Fault::WorstAcross, "the positions lie on another line"),
+    (Fault::WorstFalling, "another order"),
+    (Fault::WorstAllSettings, "the same settings"),
+    (Fault::WorstGate, "no point fails it"),
+];
 
 /// A fault's count of cases that show it, and the name of the first that does.
 type Shown = Vec<(usize, Option<String>)>;
@@ -19,12 +32,15 @@ type Shown = Vec<(usize, Option<String>)>;
 /// Faults of one part of the second program, the cases that should show them, and what is looked at.
 pub struct Part<C, T> {
     pub faults: Faults,
-    /// What a case is.
+    /// What a case is, and what several are.
     pub case: &'static str,
+    pub cases: &'static str,
     /// Case i from a seed on.
     nth: fn(u64, usize) -> C,
     name: fn(&C) -> String,
     outcome: fn(&C, Fault) -> T,
+    /// Those that no case can show, with why.
+    hidden: Faults,
 }
 
 fn sheet_name(case: &Case) -> String {
@@ -36,9 +52,11 @@ pub fn answers() -> Part<Case, Answer> {
     Part {
         faults: Fault::ALL,
         case: "sheet",
+        cases: "sheets",
         nth: |seed, i| generate::nth(Kind::first(), seed, i),
         name: sheet_name,
         outcome: |case, fault| second::answer(&case.file, case.buffer, fault),
+        hidden: NO_SHEET,
     }
 }
 
@@ -47,12 +65,14 @@ pub fn peels() -> Part<Case, (Answer, Map)> {
     Part {
         faults: Fault::PEEL,
         case: "sheet",
+        cases: "sheets",
         nth: |seed, i| generate::nth(Kind::for_peels(), seed, i),
         name: sheet_name,
         outcome: |case, fault| {
             let answer = second::answer(&case.file, case.buffer, fault);
             (answer, second::map(&case.file, fault))
         },
+        hidden: &[],
     }
 }
 
@@ -61,9 +81,11 @@ pub fn maps() -> Part<Case, Map> {
     Part {
         faults: Fault::MAP,
         case: "sheet",
+        cases: "sheets",
         nth: |seed, i| generate::nth(Kind::for_map(), seed, i),
         name: sheet_name,
         outcome: |case, fault| second::map(&case.file, fault),
+        hidden: &[],
     }
 }
 
@@ -72,15 +94,65 @@ pub fn runs() -> Part<Run, Vec<InRun>> {
     Part {
         faults: Fault::RUN,
         case: "run",
+        cases: "runs",
         nth: |seed, i| generate::run(seed + i as u64, generate::RUN_OF),
         name: |run| run.seed.to_string(),
         outcome: Run::through,
+        hidden: &[],
     }
 }
 
-/// Whether a case could show a fault.
-pub fn can_show(fault: Fault) -> bool {
-    NONE_CAN_SHOW.iter().all(|(f, _)| *f != fault)
+/// Arguments as a person would type them.
+fn typed(arguments: &Vec<Vec<u8>>) -> String {
+    let word = |bytes: &Vec<u8>| format!("'{}'", bytes.escape_ascii());
+    let words: Vec<String> = arguments.iter().map(word).collect();
+    match words.len() {
+        0 => "no arguments".into(),
+        _ => words.join(" "),
+    }
+}
+
+/// What is written for arguments.
+pub fn worst() -> Part<Vec<Vec<u8>>, Vec<u8>> {
+    Part {
+        faults: Fault::WORST,
+        case: "list of arguments",
+        cases: "lists of arguments",
+        nth: generate::arguments,
+        name: typed,
+        outcome: |arguments, fault| second::worst(arguments, fault),
+        hidden: &[],
+    }
+}
+
+/// The rounds of what is written for arguments, or its number; none where nothing is written.
+pub fn worst_rounds() -> Part<Vec<Vec<u8>>, Option<Result<usize, u8>>> {
+    Part {
+        faults: Fault::WORST,
+        case: "count of rounds",
+        cases: "counts of rounds, each of what is written for a list of arguments",
+        nth: generate::arguments,
+        name: typed,
+        outcome: |arguments, fault| {
+            let file = second::worst(arguments, fault);
+            if file.is_empty() {
+                return None;
+            }
+            Some(match second::answer(&file, ROOM, Fault::None) {
+                Answer::Refused(number) => Err(number),
+                Answer::Accepted { rounds, .. } => Ok(rounds),
+            })
+        },
+        hidden: NO_ROUNDS,
+    }
+}
+
+impl<C, T> Part<C, T> {
+    /// Why no case shows a fault, if none can.
+    pub fn hides(&self, fault: Fault) -> Option<&'static str> {
+        let hidden = self.hidden.iter().find(|(one, _)| *one == fault);
+        hidden.map(|(_, why)| *why)
+    }
 }
 
 /// How many of the cases show each fault, in the order of the part's list. With `once` a fault is
@@ -91,7 +163,7 @@ pub fn run<C, T: PartialEq>(part: &Part<C, T>, cases: usize, seed: u64, once: bo
         let faults = part.faults.iter().enumerate();
         let open = faults.filter(|(k, _)| !once || shown[*k].0 == 0);
         let open: Vec<(usize, Fault)> = open.map(|(k, &(fault, _))| (k, fault)).collect();
-        if once && open.iter().all(|&(_, fault)| !can_show(fault)) {
+        if once && open.iter().all(|&(_, fault)| part.hides(fault).is_some()) {
             break;
         }
         let case = (part.nth)(seed, i);
@@ -106,21 +178,21 @@ pub fn run<C, T: PartialEq>(part: &Part<C, T>, cases: usize, seed: u64, once: bo
     shown
 }
 
-/// How many faults went unseen that a case could show.
-pub fn unseen(faults: Faults, shown: &Shown) -> usize {
-    let faults = faults.iter().zip(shown);
+/// How many faults went unseen that a case could show, or were shown though none can.
+pub fn unseen<C, T>(part: &Part<C, T>, shown: &Shown) -> usize {
+    let faults = part.faults.iter().zip(shown);
     faults
-        .filter(|((fault, _), (count, _))| *count == 0 && can_show(*fault))
+        .filter(|((fault, _), (count, _))| (*count == 0) != part.hides(*fault).is_some())
         .count()
 }
 
 pub fn print<C, T>(part: &Part<C, T>, cases: usize, shown: &Shown) {
-    println!("of {cases} {}s, those that show the fault:", part.case);
+    println!("of {cases} {}, those that show the fault:", part.cases);
     for (&(fault, text), (count, first)) in part.faults.iter().zip(shown) {
-        let argued = NONE_CAN_SHOW.iter().find(|(f, _)| *f == fault);
-        let note = match (first, argued) {
-            (Some(name), _) => format!("first {name}"),
-            (None, Some((_, why))) => format!("none can: {why}"),
+        let note = match (first, part.hides(fault)) {
+            (Some(name), None) => format!("first {name}"),
+            (Some(name), Some(_)) => format!("first {name}, THOUGH NONE CAN"),
+            (None, Some(why)) => format!("none can: {why}"),
             (None, None) => "UNSEEN".into(),
         };
         println!("{count:>6} {:<20} {text} ({note})", format!("{fault:?}"));

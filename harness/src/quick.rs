@@ -10,6 +10,7 @@ use crate::sheet::Sheet;
 use crate::stars;
 use crate::text;
 use crate::vectors::{self, Choice, Vectors};
+use crate::worst;
 
 /// Sheets with a gate, with strengths, and with a tag 4 of another length.
 fn text_and_back() -> bool {
@@ -44,9 +45,37 @@ fn comparisons() -> Vec<(String, bool)> {
         comparison("sheets made for the map", &maps),
         comparison("sheets with strengths", &peels),
     ];
+    checks.push((
+        "sheets that reach the bound on the rounds, of each class".into(),
+        peels.bound.met(),
+    ));
     let met = maps.met.each().chain(peels.met_by_peels.each());
     checks.extend(met.map(|(name, sheets)| (format!("a sheet with {name}"), sheets > 0)));
     checks
+}
+
+/// The sheets that take longest, those of the kinds beside them, and the bound on the rounds on all sheets of small
+/// blocks.
+fn longest() -> Vec<(String, bool)> {
+    let report = worst::run(None);
+    report.print();
+    let beside = compare::run(Kind::for_worst(), 300, 1);
+    let blocks = worst::blocks(worst::CELLS);
+    blocks.print();
+    vec![
+        (
+            "the sheets that take longest: n - 1 rounds".into(),
+            report.failed == 0,
+        ),
+        comparison("the sheets that take longest and others", &beside),
+        (
+            format!(
+                "the bound on the rounds, all small blocks: {:?}",
+                blocks.failure
+            ),
+            blocks.failure.is_none() && blocks.bound.met(),
+        ),
+    ]
 }
 
 /// Runs from records of every kind, which must meet each limit of a run.
@@ -70,7 +99,7 @@ fn runs() -> Vec<(String, bool)> {
 fn faults<C, T: PartialEq>(part: &Part<C, T>) -> Vec<(String, bool)> {
     let shown = mutants::run(part, 27_000, 0, true);
     let faults = part.faults.iter().zip(shown);
-    let can = faults.filter(|((fault, _), _)| mutants::can_show(*fault));
+    let can = faults.filter(|((fault, _), _)| part.hides(*fault).is_none());
     can.map(|((_, text), (seen, _))| (format!("a {} shows the fault: {text}", part.case), seen > 0))
         .collect()
 }
@@ -164,11 +193,14 @@ fn recorded() -> Vec<(String, bool)> {
 pub fn run() -> bool {
     let mut checks = stars::checks();
     checks.extend(comparisons());
+    checks.extend(longest());
     checks.extend(runs());
     checks.extend(faults(&mutants::answers()));
     checks.extend(faults(&mutants::maps()));
     checks.extend(faults(&mutants::runs()));
     checks.extend(faults(&mutants::peels()));
+    checks.extend(faults(&mutants::worst()));
+    checks.extend(faults(&mutants::worst_rounds()));
     checks.extend(properties());
     checks.push(("text and back".into(), text_and_back()));
     checks.push((

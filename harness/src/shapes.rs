@@ -441,14 +441,17 @@ pub fn with_strengths(mut sheet: Sheet, fraction: f32, strength: impl Fn(usize) 
     sheet
 }
 
-/// A row of points that are all weak but the last: each round takes the one at the free end.
+/// The row of document 02, A.6, of any number of points: seven pixels apart, all weak but the last, so that each
+/// round takes the one at the free end.
 pub fn chain(count: usize) -> Sheet {
+    const APART: f32 = 7.0;
+    let mut row = columns(count, 1);
+    row.settings.cell_size = APART;
+    for point in &mut row.points {
+        point.x = APART * point.u as f32;
+    }
     let last = count.saturating_sub(1);
-    with_strengths(
-        columns(count, 1),
-        2.0,
-        |k| if k == last { 2.0 } else { 1.0 },
-    )
+    with_strengths(row, 2.0, |k| if k == last { 2.0 } else { 1.0 })
 }
 
 /// A straight sheet that a peel can take apart: a chain, a comb, a spiral, steps, pairs, patches or a board.

@@ -1,10 +1,11 @@
 //! The sheets that document 01 names, with what it says of them, one on which the Rust's acos
 //! differs, maps, tallies and calls in a run written out from document 02, A.1 and A.2, sheets
-//! about A.4's limit of points, and sheets with A.5's strengths.
+//! about A.4's limit of points, sheets with A.5's strengths, and A.6's sheets that take longest.
 
 mod peels;
 mod points;
 mod runs;
+mod worst;
 
 use crate::second::{self, over_30_degrees, Answer, Fault, ROOM};
 use crate::text;
@@ -220,6 +221,7 @@ pub fn small_files() -> Vec<Vec<u8>> {
     out.extend([file(TORN), file(REPEATED_AND_INFINITE), Vec::new()]);
     out.extend(runs::files());
     out.extend(peels::files());
+    out.extend(worst::files());
     out
 }
 
@@ -230,6 +232,7 @@ pub fn files() -> Vec<Vec<u8>> {
     out.extend(points::files());
     out.extend(MAPS.iter().map(|(_, sheet, _)| file(sheet)));
     out.extend(peels::files());
+    out.extend(worst::files());
     out
 }
 
@@ -255,6 +258,7 @@ pub fn checks() -> Vec<(String, bool)> {
     out.extend(maps());
     out.extend(points::checks());
     out.extend(peels::checks());
+    out.extend(worst::checks());
     out.extend(runs::tallies());
     out.extend(runs::calls());
     let mut also = |name: &str, holds: bool| out.push((name.to_string(), holds));

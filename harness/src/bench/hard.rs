@@ -93,7 +93,7 @@ pub fn hard_shapes(n: usize) -> Vec<(&'static str, Shape)> {
 
 pub const DEAREST: &str = "the dearest found";
 
-/// The dearest shape that `worst` found: points so close together that all pairs are near in x,
+/// The dearest shape that the search found: points so close together that all pairs are near in x,
 /// some in y, and every square of a difference is subnormal.
 fn dearest(n: usize) -> Shape {
     Shape {
@@ -106,7 +106,7 @@ fn dearest(n: usize) -> Shape {
 }
 
 /// Looks for the dearest call on the most points: shapes at random, then changes to the dearest ones.
-pub fn worst(tries: usize, seed: u64) {
+pub fn dearest_call(tries: usize, seed: u64) {
     const KEPT: usize = 12;
     let mut r = Random::new(seed);
     let mut kept: Vec<(f64, Shape)> = Vec::new();

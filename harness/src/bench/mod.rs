@@ -3,7 +3,7 @@
 mod hard;
 mod peels;
 
-pub use hard::worst;
+pub use hard::dearest_call;
 
 use crate::clock::processor;
 use crate::library;
@@ -308,6 +308,14 @@ impl Text {
     }
 }
 
+/// Prints the tables of sheets with strengths alone.
+pub fn peels(runs: usize) {
+    let rounds = Rounds::new(runs);
+    let mut out = Text(String::new());
+    peels::tables(&mut out, &rounds);
+    print!("{}", out.0);
+}
+
 /// Prints all tables. With a file, they take the place of what stands there between two marks.
 pub fn run(runs: usize, count: usize, file: Option<&str>) {
     let rounds = Rounds::new(runs);
@@ -323,7 +331,7 @@ pub fn run(runs: usize, count: usize, file: Option<&str>) {
         hard(&mut out, &rounds);
         growth(&mut out, &rounds);
         others(&mut out, &rounds);
-        peels::table(&mut out, &rounds);
+        peels::tables(&mut out, &rounds);
     }
     print!("{}", out.0);
     let Some(file) = file else { return };

@@ -1,10 +1,10 @@
-//! Weak ends: chains that lose a point a round, and boards of which nothing or something is peeled.
+//! Weak ends: the sheets that take longest, chains, and boards of which nothing or something is peeled.
 
 use super::{grouped, one_place, our_map, our_run, ours, ratio, whole, Rounds, Text};
 use crate::run_original::Prepared;
 use crate::second::{self, Answer, Fault, MAX_POINTS, ROOM};
-use crate::shapes::{self, columns, with_strengths, Cells, Index, Shape, SIDE};
-use crate::sheet::Sheet;
+use crate::shapes::{self, with_strengths, Cells, Index, Shape, SIDE};
+use crate::sheet::{Sheet, Strengths};
 
 /// The most that a call on the first sheet may take, in microseconds.
 const DEMANDED: usize = 3000;
@@ -21,28 +21,33 @@ fn strong_last(cells: Cells) -> Sheet {
     with_strengths(sheet, 2.0, |k| if k == last { 2.0 } else { 1.0 })
 }
 
+/// The file of the program `worst` for n.
+fn worst(n: usize) -> Sheet {
+    Sheet::from_file(&second::worst_of(n)).unwrap()
+}
+
 /// Large sheets with strengths, and two of them without.
-fn sheets() -> Vec<(&'static str, Sheet)> {
+fn sheets() -> Vec<(String, Sheet)> {
     let unmarked = |cells| shapes::unmarked(cells, MAX_POINTS);
     let board = unmarked(Cells::Board(SIDE));
-    let row = || columns(MAX_POINTS, 1);
+    let row = || Sheet {
+        strengths: Strengths::Missing,
+        ..worst(MAX_POINTS)
+    };
     let mut twice = unmarked(Cells::Row);
     twice.index = Index::Twice;
     twice.rest.wrong_label = 0;
-    vec![
+    let longest = format!("`worst {MAX_POINTS}`");
+    let others = [
         (
-            "a chain that loses one point a round",
-            shapes::chain(MAX_POINTS),
-        ),
-        (
-            "the chain, two points a round",
+            "the same row, two points a round",
             with_strengths(row(), 2.0, |_| 1.0),
         ),
         (
-            "the chain, nothing weak",
+            "the same row, nothing weak",
             with_strengths(row(), 0.5, |_| 1.0),
         ),
-        ("the chain without tag 4", row()),
+        ("the same row without tag 4", row()),
         (
             "a spiral that loses one point a round",
             strong_last(Cells::Spiral),
@@ -64,7 +69,11 @@ fn sheets() -> Vec<(&'static str, Sheet)> {
             with_strengths(board.sheet(), 0.5, |_| 1.0),
         ),
         ("the board without tag 4", board.sheet()),
-    ]
+    ];
+    let others = others.map(|(name, sheet)| (name.to_string(), sheet));
+    std::iter::once((longest, worst(MAX_POINTS)))
+        .chain(others)
+        .collect()
 }
 
 /// The original's `drop_set`, `weak_leaf_peel` and `largest_component_filter`, one after the other, on a
@@ -74,7 +83,7 @@ fn theirs(rounds: &Rounds, sheet: &Sheet) -> Option<f64> {
     Some(rounds.least(|| prepared.all_filters()))
 }
 
-pub fn table(out: &mut Text, rounds: &Rounds) {
+fn large(out: &mut Text, rounds: &Rounds) {
     let points = grouped(MAX_POINTS);
     let demanded = grouped(DEMANDED);
     out.line(&format!(
@@ -106,4 +115,30 @@ pub fn table(out: &mut Text, rounds: &Rounds) {
         ];
         out.line(&format!("| {name} | {} |", line.join(" | ")));
     }
+}
+
+/// How the cost of the sheet that takes longest grows with its points.
+fn by_points(out: &mut Text, rounds: &Rounds) {
+    out.line("\nThe sheet of `worst N`, which loses a point a round; µs:\n");
+    out.line("| N | rounds | rows | a point | in a run | original | original / rows |");
+    out.line("|---|---|---|---|---|---|---|");
+    for n in [2, 16, 64, 256, 512, 1024, 1536, MAX_POINTS] {
+        let sheet = worst(n);
+        let (rows, in_run) = (ours(rounds, &sheet), our_run(rounds, &sheet));
+        let original = theirs(rounds, &sheet);
+        let line = [
+            grouped(n - 1),
+            whole(rows),
+            rows.map_or("–".into(), |time| format!("{:.2}", time / n as f64)),
+            whole(in_run),
+            whole(original),
+            one_place(ratio(original, rows)),
+        ];
+        out.line(&format!("| {} | {} |", grouped(n), line.join(" | ")));
+    }
+}
+
+pub fn tables(out: &mut Text, rounds: &Rounds) {
+    large(out, rounds);
+    by_points(out, rounds);
 }

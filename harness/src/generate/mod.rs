@@ -8,8 +8,10 @@ mod peels;
 mod runs;
 mod settings;
 mod small;
+mod worst;
 
 pub use runs::{few_indices, run, start, Run, Start, Step, RUN_OF};
+pub use worst::{arguments, REFUSED};
 
 use crate::random::Random;
 use crate::second::ROW;
@@ -73,6 +75,9 @@ kinds! {
     DamagedPeels: "strengths: damaged files, several damages at once among them",
     FramingPeels: "strengths: files whose fields, lengths or end are wrong",
     ScrambledPeels: "strengths: files with bytes changed at random",
+    Worst: "the sheet that takes longest, of few points or many",
+    NearWorst: "the same, changed: other order, place, strengths, fraction, points or settings",
+    DamagedWorst: "the same, damaged: any numbers but 2, fields, bytes",
 }
 
 /// What the generator knows of the answer.
@@ -101,6 +106,9 @@ const FIRST: usize = 27;
 /// How many there were before those with strengths.
 const BEFORE_PEELS: usize = 33;
 
+/// How many there were before those about the sheet that takes longest.
+const BEFORE_WORST: usize = 45;
+
 impl Kind {
     /// The kinds of all sheets.
     pub fn first() -> &'static [(Kind, &'static str)] {
@@ -119,7 +127,12 @@ impl Kind {
 
     /// The kinds with strengths.
     pub fn for_peels() -> &'static [(Kind, &'static str)] {
-        &Kind::ALL[BEFORE_PEELS..]
+        &Kind::ALL[BEFORE_PEELS..BEFORE_WORST]
+    }
+
+    /// The kinds about the sheet that takes longest.
+    pub fn for_worst() -> &'static [(Kind, &'static str)] {
+        &Kind::ALL[BEFORE_WORST..]
     }
 
     pub fn from_name(name: &str) -> Option<Kind> {
@@ -132,6 +145,9 @@ impl Kind {
 pub fn case(kind: Kind, seed: u64) -> Case {
     let place = kind as u64;
     let mut own = Random::new(seed ^ place << 56);
+    if kind as usize >= BEFORE_WORST {
+        return worst::case(kind, &mut own, seed);
+    }
     if kind as usize >= BEFORE_PEELS {
         return peels::case(kind, &mut own, seed);
     }

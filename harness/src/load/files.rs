@@ -21,12 +21,14 @@ pub enum Form {
     PeelsChanged,
     PeelsFramed,
     PeelsFull,
+    Worst,
+    WorstChanged,
 }
 
 impl Form {
     /// Every form with what it holds and its share in a hundred files without strengths; the fixed ones are in
     /// every run, and those with strengths have seeds of their own (`peels.rs`).
-    pub const ALL: [(Form, &'static str, usize); 12] = [
+    pub const ALL: [(Form, &'static str, usize); 14] = [
         (Form::Noise, "random bytes, 0 to 66,000", 15),
         (Form::Framed, "right frame, the rest random", 15),
         (Form::Whole, "generated sheets of every kind", 27),
@@ -47,6 +49,16 @@ impl Form {
             0,
         ),
         (Form::PeelsFull, "large sheets with strengths", 0),
+        (
+            Form::Worst,
+            "sheets that take longest, of any number of points",
+            0,
+        ),
+        (
+            Form::WorstChanged,
+            "the same, points, strengths, bytes, fields or the length of tag 4 changed",
+            0,
+        ),
     ];
 }
 

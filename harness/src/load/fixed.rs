@@ -3,7 +3,7 @@
 use super::files::{self, Form, Load, LONGEST_BUFFER};
 use super::peels;
 use crate::random::Random;
-use crate::second::{MAX_POINTS, ROW};
+use crate::second::{self, MAX_POINTS, ROW};
 use crate::shapes;
 use crate::sheet::{Point, Sheet, Strengths, MOST_RECORDS};
 use std::fmt::{self, Display, Formatter};
@@ -53,8 +53,8 @@ fn one_after(points: usize) -> Vec<u8> {
 }
 
 /// The most points and one more, the most that a field holds and one more, whose length is cut; the same
-/// with strengths, and each number of these; chains; the longest well-framed file and a byte after it.
-pub const FIXED: [Fixed; 16] = [
+/// with strengths, and each number of these; the rows that take longest; the longest well-framed file and a byte after it.
+pub const FIXED: [Fixed; 17] = [
     ("all fields but tag 4", MAX_POINTS, |n| {
         all_fields(n).to_file()
     }),
@@ -77,8 +77,11 @@ pub const FIXED: [Fixed; 16] = [
     ("a strength missing", MAX_POINTS + 1, one_missing),
     ("an infinite strength", MAX_POINTS, last_infinite),
     ("two strengths of an index", MAX_POINTS, two_strengths),
-    ("a chain", MAX_POINTS, |n| shapes::chain(n).to_file()),
-    ("a chain", MAX_POINTS + 1, |n| shapes::chain(n).to_file()),
+    ("the row that takes longest", MAX_POINTS, second::worst_of),
+    ("the row that takes longest", MAX_POINTS + 1, |n| {
+        shapes::chain(n).to_file()
+    }),
+    ("the row that takes longest", 2, second::worst_of),
     ("the longest well-framed file", MOST_RECORDS, longest),
     ("a byte after the longest", MOST_RECORDS, one_after),
 ];

@@ -1,9 +1,9 @@
-//! Files with strengths: generated, changed, framed and large ones.
+//! Files with strengths: generated, changed, framed and large ones, and sheets that take longest.
 
 use super::files::{self, Form, Load, LONGEST_FILE};
 use crate::generate::{self, Kind};
 use crate::random::Random;
-use crate::second::MAX_POINTS;
+use crate::second::{self, MAX_POINTS};
 use crate::shapes::{self, any_bits};
 use crate::sheet::{field, Sheet, Strengths};
 
@@ -62,8 +62,7 @@ fn fields(r: &mut Random, sheet: &Sheet) -> Vec<u8> {
     fields.concat()
 }
 
-fn changed(r: &mut Random) -> Vec<u8> {
-    let mut file = generated(r);
+fn changed(r: &mut Random, mut file: Vec<u8>) -> Vec<u8> {
     match Sheet::from_file(&file) {
         Some(sheet) if r.one_in(2) => file = fields(r, &sheet),
         _ => flipped(r, &mut file),
@@ -123,13 +122,39 @@ fn full(r: &mut Random) -> Vec<u8> {
     shapes::with_strengths(sheet, fraction, |k| strength(indices[k])).to_file()
 }
 
+/// A sheet that takes longest, as it is, as a generator changed it, or with bytes or fields changed.
+fn worst(r: &mut Random) -> (Form, Vec<u8>) {
+    let n = match r.below(3) {
+        0 => r.whole(2, 40),
+        1 => r.whole(2, 400),
+        _ => r.whole(2, MAX_POINTS as i32),
+    };
+    let file = second::worst_of(n as usize);
+    match r.below(4) {
+        0 | 1 => (Form::Worst, file),
+        2 => (Form::WorstChanged, changed(r, file)),
+        _ => {
+            let kind = r.pick(&[Kind::NearWorst, Kind::DamagedWorst]);
+            (
+                Form::WorstChanged,
+                generate::case(kind, r.bits() >> 16).file,
+            )
+        }
+    }
+}
+
 /// The file of a seed.
 pub fn nth(seed: u64) -> Load {
     let mut random = Random::new(seed ^ 0x5EED << 40);
     let r = &mut random;
+    // Drawn apart: the other files are those that they were without these.
     let (form, file) = match r.below(20) {
+        _ if Random::new(!seed).one_in(16) => worst(r),
         0..9 => (Form::Peels, generated(r)),
-        9..15 => (Form::PeelsChanged, changed(r)),
+        9..15 => {
+            let file = generated(r);
+            (Form::PeelsChanged, changed(r, file))
+        }
         15..19 => (Form::PeelsFramed, framed(r)),
         _ => (Form::PeelsFull, full(r)),
     };

@@ -80,7 +80,7 @@ pub struct Runner {
 }
 
 /// Whether a function may return this number at all. Each round removes a point or more, and each patch has
-/// a point that is left.
+/// a point that is left; of two points or more there are fewer rounds than points.
 fn possible(function: Function, returned: u64) -> bool {
     let of_sheet = match Returned::new(returned) {
         Returned::Refused(number) => {
@@ -92,7 +92,8 @@ fn possible(function: Function, returned: u64) -> bool {
             rounds,
         } => {
             let one = returned >> 32 & 0xFFFF == 1;
-            one && points <= MAX_POINTS && components + rounds <= points
+            let few = components + rounds <= points && rounds < points.max(2);
+            one && points <= MAX_POINTS && few
         }
     };
     match function {

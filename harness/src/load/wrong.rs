@@ -11,7 +11,7 @@ use std::sync::Mutex;
 use std::time::Duration;
 
 /// Faults of the call for rows.
-const KEEP: [&str; 28] = [
+const KEEP: [&str; 30] = [
     "reads a byte beyond the file",
     "reads a byte before the file",
     "writes a byte beyond the buffer",
@@ -40,6 +40,8 @@ const KEEP: [&str; 28] = [
     "refuses with 9 an index with two strengths",
     "refuses with 1 the longest well-framed file",
     "refuses with 12 a byte after it",
+    "hands back a round too many of a row that takes longest",
+    "loses the last round of a row that takes longest",
 ];
 
 /// Faults of the call for the map.
@@ -198,6 +200,8 @@ unsafe extern "C" fn keep(file: *const u8, file_len: usize, rows: *mut u8, rows_
         25 if returned == 14 => return 9,
         26 if returned == 12 && file_len == LONGEST => return 1,
         27 if returned == 1 && file_len == LONGEST + 1 => return 12,
+        28 if rounds > 0 && rounds + 1 == points => return with_rounds(returned, points),
+        29 if rounds > 1 && rounds + 1 == points => return with_rounds(returned, rounds - 1),
         _ => {}
     }
     returned

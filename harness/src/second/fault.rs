@@ -6,7 +6,8 @@ macro_rules! faults {
         $($of_tally:ident: $counted:literal,)* ;
         $($of_map:ident: $what:literal,)* ;
         $($of_run:ident: $wrong:literal,)* ;
-        $($of_peel:ident: $peeled:literal,)*
+        $($of_peel:ident: $peeled:literal,)* ;
+        $($of_worst:ident: $written:literal,)*
     ) => {
         #[derive(Clone, Copy, Debug, PartialEq, Eq)]
         pub enum Fault {
@@ -19,6 +20,7 @@ macro_rules! faults {
             $($of_map,)*
             $($of_run,)*
             $($of_peel,)*
+            $($of_worst,)*
         }
 
         impl Fault {
@@ -39,6 +41,10 @@ macro_rules! faults {
 
             /// Every deliberate fault of strengths and of what is made of them.
             pub const PEEL: &'static [(Fault, &'static str)] = &[$((Fault::$of_peel, $peeled),)*];
+
+            /// Every deliberate fault of the sheet that takes longest, those of its argument last.
+            pub const WORST: &'static [(Fault, &'static str)] =
+                &[$((Fault::$of_worst, $written),)*];
 
             /// a above b; under the fault `wrong` also where they are equal.
             pub fn above(self, a: f32, b: f32, wrong: Fault) -> bool {
@@ -215,4 +221,35 @@ faults! {
     FractionAlone: "13 looks at the fraction alone",
     StrengthsByValue: "14 compares strengths by value",
     StrengthsInCellOrder: "strengths are taken in cell order",
+    // Those of the sheet that takes longest.
+    ;
+    WorstLastAlike: "the last strength is 1",
+    WorstFirstStrong: "the first strength is 2, the last 1",
+    WorstMiddleStrong: "the strength of the point in the middle is 2, the last 1",
+    WorstFraction1: "the fraction is 1",
+    WorstNoStrengths: "there is no tag 4",
+    WorstStrengthMissing: "tag 4 is a strength short",
+    WorstApart8: "points lie 8 pixels apart",
+    WorstCell8: "the cell size is 8",
+    WorstCell100: "the cell size is 100",
+    WorstIndexFrom1: "indices begin at 1",
+    WorstCellsFrom1: "cells begin at (1,0)",
+    WorstColumn: "cells are (0,u)",
+    WorstAcross: "positions are (0,7u)",
+    WorstFalling: "points are listed from the last u downward",
+    WorstOneFewer: "there is a point fewer",
+    WorstOneMore: "there is a point more",
+    WorstAllSettings: "the settings are all 21 bytes of the defaults",
+    WorstGate: "there is a tag 2, which gates nothing",
+    WorstSaysWhy: "a line is written for anything else",
+    WorstTakes1: "1 is taken",
+    WorstRefuses2: "2 writes nothing",
+    WorstRefusesMost: "2,304 writes nothing",
+    WorstTakesMore: "2,305 is taken",
+    WorstLeadingZeros: "leading zeros are passed over",
+    WorstSign: "a plus sign is passed over",
+    WorstSpaces: "spaces about the digits are passed over",
+    WorstTail: "what stands after the digits is passed over",
+    WorstWraps: "the number wraps at 2^32",
+    WorstMoreArguments: "arguments after the first are passed over",
 }

@@ -19,6 +19,7 @@ mod rows;
 mod run;
 mod tally;
 mod validate;
+mod worst;
 
 pub use fault::Fault;
 pub use file::{LAST_NUMBER, MAX_POINTS, ORDER, ROOM, ROW};
@@ -27,6 +28,7 @@ pub use plane::over_30_degrees;
 pub use root::root;
 pub use run::{keep_in_run, InRun, Record, FULL, MOST_SHEETS, NUMBERS, OLD, SUMMED, SUM_LIMIT};
 pub use tally::Tally;
+pub use worst::{worst, worst_of};
 
 use board::Board;
 use peel::Peeled;

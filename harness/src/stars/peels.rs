@@ -8,13 +8,13 @@ use crate::vectors::{long, spoilt, weighed};
 
 /// A sheet with its first line, the marks of its points in cell order, its tally and the beginnings of
 /// its map's lines.
-struct Worked {
-    name: &'static str,
-    sheet: &'static str,
-    first: &'static str,
-    marks: &'static [&'static str],
-    tally: &'static str,
-    map: &'static [&'static str],
+pub struct Worked {
+    pub name: &'static str,
+    pub sheet: &'static str,
+    pub first: &'static str,
+    pub marks: &'static [&'static str],
+    pub tally: &'static str,
+    pub map: &'static [&'static str],
 }
 
 /// Rows of points 100 pixels apart get no mark from the earlier filters.
@@ -337,6 +337,17 @@ fn library_agrees(file: &[u8]) -> bool {
         && library::run_difference(file, ROOM, &Record::new(), &handed).is_none()
 }
 
+/// The listing, the map and the library's answer of a sheet, each with whether it holds.
+pub fn checks_of(worked: &Worked) -> [(String, bool); 3] {
+    let [listing, map, library] = holds(worked);
+    let name = worked.name;
+    [
+        (name.into(), listing),
+        (format!("the map of {name}"), map),
+        (format!("the library on {name}"), library),
+    ]
+}
+
 fn holds(worked: &Worked) -> [bool; 3] {
     let file = file(worked.sheet);
     let (answer, map) = second::answer_and_map(&file, ROOM);
@@ -384,12 +395,7 @@ fn numbers() -> Vec<(String, bool)> {
 /// Each check with whether it holds.
 pub fn checks() -> Vec<(String, bool)> {
     let mut out = numbers();
-    for worked in SHEETS {
-        let [listing, map, library] = holds(worked);
-        let name = worked.name;
-        out.extend([(name.into(), listing), (format!("the map of {name}"), map)]);
-        out.push((format!("the library on {name}"), library));
-    }
+    out.extend(SHEETS.iter().flat_map(checks_of));
     for (name, sheet, number) in REFUSED.iter().chain(TOO_WIDE) {
         let file = file(sheet);
         let (answer, map) = second::answer_and_map(&file, ROOM);

@@ -28,8 +28,8 @@ fn longest() -> Vec<u8> {
     shapes::longest().to_file()
 }
 
-/// A row of 2,304 points that loses one a round but for the last.
-fn chain() -> Vec<u8> {
+/// A.6's row of 2,304 points, which loses one a round but for the last.
+pub fn longest_row() -> Vec<u8> {
     shapes::chain(2304).to_file()
 }
 
@@ -62,7 +62,11 @@ fn mirrored() -> Vec<u8> {
 pub fn files() -> Vec<Vec<u8>> {
     let rows = [2304, 2305, 3276, 3277].map(row);
     let boards = [target(), longest_unweighed(), close(), mirrored()];
-    boards.into_iter().chain(rows).chain([chain()]).collect()
+    boards
+        .into_iter()
+        .chain(rows)
+        .chain([longest_row()])
+        .collect()
 }
 
 /// Whether the second program's listing and map of a file begin so, and the library, if it is linked,
@@ -90,7 +94,7 @@ fn accepted() -> [(&'static str, Vec<u8>, String, &'static str); 7] {
     let rounds = "points 2304 components 1 rounds 2303\n0 0 0 ---L- - -\n".into();
     let strong = weighed(2304).to_file();
     [
-        ("a chain of 2,304 points", chain(), rounds, wide),
+        ("the row that takes longest", longest_row(), rounds, wide),
         ("2,304 points with strengths", strong, one.clone(), wide),
         ("the target, all weak", weak_target(), one.clone(), MAP),
         ("2,304 points", row(2304), one.clone(), wide),
@@ -176,11 +180,11 @@ fn with_marks() -> [(&'static str, bool); 3] {
     let peeled = "kept 1 validate 0 orientation 0 wrong 0 leaf 2303 component 0";
     let wrong = "kept 0 validate 0 orientation 0 wrong 2304 leaf 0 component 0";
     let both = "kept 1104 validate 0 orientation 1104 wrong 95 leaf 0 component 1";
-    let of_chain = |u, _| if u == 2303 { "-----" } else { "---L-" };
+    let of_row = |u, _| if u == 2303 { "-----" } else { "---L-" };
     [
         (
-            "the marks of a chain of 2,304 points",
-            marked(&chain(), 1, of_chain, peeled),
+            "the marks of the row that takes longest",
+            marked(&longest_row(), 1, of_row, peeled),
         ),
         (
             "the marks of points one pixel apart",
