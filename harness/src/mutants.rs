@@ -103,7 +103,7 @@ pub fn runs() -> Part<Run, Vec<InRun>> {
 }
 
 /// Arguments as a person would type them.
-fn typed(arguments: &Vec<Vec<u8>>) -> String {
+fn typed(arguments: &[Vec<u8>]) -> String {
     let word = |bytes: &Vec<u8>| format!("'{}'", bytes.escape_ascii());
     let words: Vec<String> = arguments.iter().map(word).collect();
     match words.len() {
@@ -119,7 +119,7 @@ pub fn worst() -> Part<Vec<Vec<u8>>, Vec<u8>> {
         case: "list of arguments",
         cases: "lists of arguments",
         nth: generate::arguments,
-        name: typed,
+        name: |arguments| typed(arguments),
         outcome: |arguments, fault| second::worst(arguments, fault),
         hidden: &[],
     }
@@ -132,7 +132,7 @@ pub fn worst_rounds() -> Part<Vec<Vec<u8>>, Option<Result<usize, u8>>> {
         case: "count of rounds",
         cases: "counts of rounds, each of what is written for a list of arguments",
         nth: generate::arguments,
-        name: typed,
+        name: |arguments| typed(arguments),
         outcome: |arguments, fault| {
             let file = second::worst(arguments, fault);
             if file.is_empty() {

@@ -160,8 +160,9 @@ fn of_block(width: usize, height: usize, mut k: usize) -> Sheet {
         let (u, v) = (cell / height, cell % height);
         let (x, y) = (100.0 * u as f32, 100.0 * v as f32);
         let point = Point::new(u as i32, v as i32, cell as u32, x, y);
-        if k % 3 > 0 {
-            points.push((point, k % 3 == 1));
+        match k % 3 {
+            0 => {}
+            state => points.push((point, state == 1)),
         }
         k /= 3;
     }
@@ -246,12 +247,11 @@ fn with_dropped(mut k: usize) -> Sheet {
     let mut points = vec![(Point::new(far, far, far as u32, spot, 0.0), true)];
     for cell in 0..6 {
         let (u, v) = (cell / 3, cell % 3);
-        let x = match k % 4 {
-            3 => spot,
-            _ => 100.0 * cell as f32,
-        };
-        if k % 4 > 0 {
-            points.push((Point::new(u, v, cell as u32, x, 0.0), k % 4 != 2));
+        let at = |x: f32| Point::new(u, v, cell as u32, x, 0.0);
+        match k % 4 {
+            0 => {}
+            3 => points.push((at(spot), true)),
+            state => points.push((at(100.0 * cell as f32), state == 1)),
         }
         k /= 4;
     }
