@@ -1,4 +1,4 @@
--- The limit of points, of the call and of both programs: sheets of zeros at the limit, above it, of the most points that can be framed, and of
+-- The limit of points, of the call and of the programs `sheet` and `map`: sheets of zeros at the limit, above it, of the most points that can be framed, and of
 -- one more, by laws and not by computing over the bytes; and one whose tag 4 does not fit. Assumes nothing.
 use mathlib.Core.Path.{_≡_, refl}
 use mathlib.Core.List.{List, [], _++_}

@@ -15,7 +15,7 @@ use Rattle.judging.specs.Judging.{judgedFor}
 use Rattle.kept.specs.declared.Answer.{Answer}
 use Rattle.kept.specs.declared.Answer.the-variants.{Refused, Accepted}
 use Rattle.stars.specs.Listed.{file}
-use Rattle.written_file.specs.File.{recordsOf, unweighedFile, weighedFile}
+use Rattle.written_file.specs.File.{pointsBytes, unweighedFile, weighedFile}
 
 -- a point without tag 4: the patterns of its cell, its index, and the patterns of its position
 abbrev pub point : ℕ → ℕ → ℕ → ℕ → ℕ → Point
@@ -38,7 +38,7 @@ abbrev pub gatedFile : ℕ → ℕ → ℕ → ℕ → List Point → List ℕ
 gatedFile size wrong largest degree ps =
     field 1 (longSettings size wrong largest)
     ++ (field 2 (degree ∷ (littleEndian 0 ++ littleEndian 0x4080_0000 ++ littleEndian 0 ++ littleEndian 0x4080_0000))
-    ++ field 3 (recordsOf ps))
+    ++ field 3 (pointsBytes ps))
 
 -- ---- files with tag 4
 

@@ -21,7 +21,7 @@ use Rattle.patches.specs.Search.{NearPlaces}
 use Rattle.peel.specs.Peel.{liveSides, peeledOf}
 use Rattle.peel.specs.Theorems.{Placed}
 use Rattle.peel.specs.declared.Peeled.{Peeled}
-use Rattle.peel_rounds.specs.Rounds.{plain, Neighbours, leftCount}
+use Rattle.peel_rounds.specs.Rounds.{noneTwice, Neighbours, leftCount}
 use Rattle.peel_rounds.proofs.Ends.{lives, isEnd, lives-lt, end-lives, end-weak, end-few, many-sides, some-end, end-out, out-dead, lived, before-last, left-after}
 
 -- ---- the list of offsets
@@ -33,8 +33,8 @@ opposite sides e i h =
     let v = some-at (λ (j : ℕ). eqb (getD sides j 0) (24 - getD sides i 0)) (length sides) (every-at _ (length sides) e i h) in
     (v .0, v .1, eqb-true (getD sides (v .0) 0) (24 - getD sides i 0) (v .2))
 
-different : (sides : List ℕ) → plain sides ≡ true → (i j : ℕ) → i < j → j < length sides → getD sides i 0 ≡ getD sides j 0 → ⊥
-unfolding plain
+different : (sides : List ℕ) → noneTwice sides ≡ true → (i j : ℕ) → i < j → j < length sides → getD sides i 0 ≡ getD sides j 0 → ⊥
+unfolding noneTwice
 different sides e i j h g q =
     true≢false (sym (every-at (λ (k : ℕ). not (eqb (getD sides k 0) (getD sides j 0))) j (every-at _ (length sides) e j g) i h) ∙ ap not (eq-eqb (getD sides i 0) (getD sides j 0) q))
 

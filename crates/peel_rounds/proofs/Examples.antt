@@ -18,9 +18,9 @@ use Rattle.view.specs.View.{View}
 use Rattle.patches.specs.Reach.{paired}
 use Rattle.patches.proofs.Lattices.{square-places, square-paired}
 use Rattle.peel.specs.Peel.{liveSides, leaf, goneAfter, roundsIn, peeledIn, peeledOf}
-use Rattle.peel_rounds.specs.Rounds.{plain, Neighbours, leftCount}
+use Rattle.peel_rounds.specs.Rounds.{noneTwice, Neighbours, leftCount}
 use Rattle.peel_rounds.proofs.Bound.{rounds-bound}
-use Rattle.peel_rounds.proofs.Lattices.{square-plain}
+use Rattle.peel_rounds.proofs.Lattices.{square-once}
 
 -- n points, each with an index of its own, with this table of neighbours
 abbrev seen : ℕ → (ℕ → ℕ) → View
@@ -42,14 +42,14 @@ abbrev leadsAway : View → List ℕ → Bool
 leadsAway w sides = every (λ (k : ℕ). every (λ (i : ℕ). not (eqb (w .near (25 * k + getD sides i 0)) k)) (length sides)) (w .count)
 
 abbrev tests : View → List ℕ → List Bool
-tests w sides = mirrors w ∷ paired sides ∷ plain sides ∷ leadsAway w sides ∷ []
+tests w sides = mirrors w ∷ paired sides ∷ noneTwice sides ∷ leadsAway w sides ∷ []
 
 -- two points, both weak: the rounds, and which conditions hold
 abbrev Case : View → List ℕ → ℕ → List Bool → Type 0
 Case w sides rounds conditions = (shown w sides [] (1 ∷ 1 ∷ []) ≡ rounds ∷ 2 ∷ []) × (tests w sides ≡ conditions)
 
 -- the tests are the conditions
-neighbours-by : (w : View) (sides : List ℕ) → mirrors w ≡ true → paired sides ≡ true → plain sides ≡ true → leadsAway w sides ≡ true → Neighbours w sides
+neighbours-by : (w : View) (sides : List ℕ) → mirrors w ≡ true → paired sides ≡ true → noneTwice sides ≡ true → leadsAway w sides ≡ true → Neighbours w sides
 neighbours-by w sides m p o a = record {
   mirrored = record { back = back };
   opposites = p;
@@ -69,13 +69,13 @@ pair = seen 2 (λ i. cond (eqb i 17) 1 (cond (eqb i 32) 0 9))
 
 -- they go in one round
 pair-shown : Case pair (places squareSides) 1 (true ∷ true ∷ true ∷ true ∷ [])
-unfolding first firstIn listOf upFrom some every tally column liveSides leaf goneAfter roundsIn peeledIn paired plain
+unfolding first firstIn listOf upFrom some every tally column liveSides leaf goneAfter roundsIn peeledIn paired noneTwice
 pair-shown = (refl, refl)
 
 -- what the theorems say of it
 pair-neighbours : Neighbours pair (places squareSides)
 unfolding every
-pair-neighbours = neighbours-by pair (places squareSides) refl square-paired square-plain refl
+pair-neighbours = neighbours-by pair (places squareSides) refl square-paired square-once refl
 
 pub pair-bound : (weak : List ℕ) → peeledOf pair (places squareSides) [] weak .rounds + 1 ≤ 2
 unfolding tally
@@ -85,22 +85,22 @@ pair-bound weak = rounds-bound pair (places squareSides) [] weak (λ k h. h) (sq
 
 -- the first is twice beside the second, and the second is nowhere beside the first
 unmirrored : Case (seen 2 (λ i. cond (eqb i 32) 0 (cond (eqb i 42) 0 9))) (7 ∷ 17 ∷ []) 2 (false ∷ true ∷ true ∷ true ∷ [])
-unfolding first firstIn listOf upFrom some every tally column liveSides leaf goneAfter roundsIn peeledIn paired plain
+unfolding first firstIn listOf upFrom some every tally column liveSides leaf goneAfter roundsIn peeledIn paired noneTwice
 unmirrored = (refl, refl)
 
 -- places 7 and 8 alone are sides, and not their opposites 17 and 16
 unpaired : Case (seen 2 (λ i. cond (eqb i 16) 1 (cond (eqb i 17) 1 (cond (eqb i 32) 0 (cond (eqb i 33) 0 9))))) (7 ∷ 8 ∷ []) 2 (true ∷ false ∷ true ∷ true ∷ [])
-unfolding first firstIn listOf upFrom some every tally column liveSides leaf goneAfter roundsIn peeledIn paired plain
+unfolding first firstIn listOf upFrom some every tally column liveSides leaf goneAfter roundsIn peeledIn paired noneTwice
 unpaired = (refl, refl)
 
 -- place 17 stands twice in the list
 twice : Case pair (17 ∷ 17 ∷ 7 ∷ []) 2 (true ∷ true ∷ false ∷ true ∷ [])
-unfolding first firstIn listOf upFrom some every tally column liveSides leaf goneAfter roundsIn peeledIn paired plain
+unfolding first firstIn listOf upFrom some every tally column liveSides leaf goneAfter roundsIn peeledIn paired noneTwice
 twice = (refl, refl)
 
 -- at place 12 the first is beside itself
 itself : Case (seen 2 (λ i. cond (eqb i 12) 0 (cond (eqb i 17) 1 (cond (eqb i 32) 0 9)))) (7 ∷ 12 ∷ 17 ∷ []) 2 (true ∷ true ∷ true ∷ false ∷ [])
-unfolding first firstIn listOf upFrom some every tally column liveSides leaf goneAfter roundsIn peeledIn paired plain
+unfolding first firstIn listOf upFrom some every tally column liveSides leaf goneAfter roundsIn peeledIn paired noneTwice
 itself = (refl, refl)
 
 -- ---- fewer than two points are left: one alone, and one of two

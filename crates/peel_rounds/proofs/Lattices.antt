@@ -1,4 +1,4 @@
--- The lists of offsets that are in use, or will be: none stands twice, and none leads to the cell itself. Assumes nothing.
+-- The square list of offsets, and that of the honeycomb: none stands twice, and none leads to the cell itself. Assumes nothing.
 use mathlib.Core.Path.{_≡_, refl, sym, ap, _∙_}
 use mathlib.Core.Bool.{Bool, true, not, true≢false}
 use mathlib.Core.List.{List}
@@ -10,7 +10,7 @@ use Rattle.folds.specs.Below.{every}
 use Rattle.folds.proofs.Below.{every-at}
 use Rattle.offsets.specs.Offsets.{own, squareSides, placeOf, places}
 use Rattle.patches.proofs.Lattices.{hexSides}
-use Rattle.peel_rounds.specs.Rounds.{plain}
+use Rattle.peel_rounds.specs.Rounds.{noneTwice}
 
 -- none is the place of the cell itself
 abbrev leadAway : List ℕ → Bool
@@ -21,9 +21,9 @@ away-at sides e i h q = true≢false (sym (every-at (λ (i : ℕ). not (eqb (get
 
 -- ---- the square lattice
 
-pub square-plain : plain (places squareSides) ≡ true
-unfolding plain every
-square-plain = refl
+pub square-once : noneTwice (places squareSides) ≡ true
+unfolding noneTwice every
+square-once = refl
 
 pub square-away : (i : ℕ) → i < length (places squareSides) → getD (places squareSides) i 0 ≡ placeOf own → ⊥
 unfolding every
@@ -31,9 +31,9 @@ square-away = away-at (places squareSides) refl
 
 -- ---- the honeycomb
 
-hex-plain : plain (places hexSides) ≡ true
-unfolding plain every
-hex-plain = refl
+hex-once : noneTwice (places hexSides) ≡ true
+unfolding noneTwice every
+hex-once = refl
 
 hex-away : leadAway (places hexSides) ≡ true
 unfolding every

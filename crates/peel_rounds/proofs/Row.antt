@@ -55,7 +55,7 @@ module _ (w : View) (dropped weak : List ℕ) (m : ℕ) (long : w .count ≡ m +
     still : (k : ℕ) → r ≤ k → k < w .count → lives r k ≡ true
     still k h g =
         live-is (survives (w .count) dropped) (w .byIdx) (out r) k
-        (and-both (ltb k (w .count)) (eqb (getD dropped k 0) 0) (lt-ltb k (w .count) g) (eq-eqb (getD dropped k 0) 0 (row .kept k g)))
+        (and-both (ltb k (w .count)) (eqb (getD dropped k 0) 0) (lt-ltb k (w .count) g) (eq-eqb (getD dropped k 0) 0 (row .undropped k g)))
         (ap (out r) (row .own k g) ∙ gone k ∙ le-ltb k r h)
 
     later : (k : ℕ) → lives r k ≡ true → (k < w .count) × (r ≤ k)

@@ -13,15 +13,15 @@ use Rattle.patches.specs.Patches.{survives}
 use Rattle.patches.specs.Reach.{Mirrored, paired}
 
 -- no offset stands twice in the list
-unfoldable pub plain : List ℕ → Bool
+unfoldable pub noneTwice : List ℕ → Bool
 unfolding every
-plain sides = every (λ (i : ℕ). every (λ (j : ℕ). not (eqb (getD sides j 0) (getD sides i 0))) i) (length sides)
+noneTwice sides = every (λ (i : ℕ). every (λ (j : ℕ). not (eqb (getD sides j 0) (getD sides i 0))) i) (length sides)
 
 -- neighbours both ways: the table is mirrored, the list has each offset's opposite and none twice, and none leads to the cell itself
 pub record Neighbours (w : View) (sides : List ℕ) : Type 0 where
   pub mirrored : Mirrored (w .count) (w .near)
   pub opposites : paired sides ≡ true
-  pub once : plain sides ≡ true
+  pub once : noneTwice sides ≡ true
   pub apart : (k i : ℕ) → k < w .count → i < length sides → w .near (25 * k + getD sides i 0) ≡ k → ⊥
 
 -- how many points the earlier filters left
@@ -31,7 +31,7 @@ leftCount w dropped = tally (survives (w .count) dropped) (w .count)
 -- A row of points, each with an index of its own, of which nothing is dropped and all are weak but the last
 pub record InRow (w : View) (dropped weak : List ℕ) : Type 0 where
   pub own : (k : ℕ) → k < w .count → w .byIdx k ≡ k
-  pub kept : (k : ℕ) → k < w .count → getD dropped k 0 ≡ 0
+  pub undropped : (k : ℕ) → k < w .count → getD dropped k 0 ≡ 0
   pub next : (k : ℕ) → k + 1 < w .count → rankAt w k nextU ≡ k + 1
   pub prev : (k : ℕ) → k + 1 < w .count → rankAt w (k + 1) prevU ≡ k
   pub first : w .count ≤ rankAt w 0 prevU

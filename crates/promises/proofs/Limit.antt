@@ -1,4 +1,4 @@
--- The limit of points, of the call and of both programs: a number is ruled exactly where it is answered and printed. Assumes nothing.
+-- The limit of points, of the call and of the programs `sheet` and `map`: a number is ruled exactly where it is answered and printed. Assumes nothing.
 use mathlib.Core.Path.{_≡_, refl, sym, ap, _∙_}
 use mathlib.Core.List.{List}
 use Prim.Native.Nat.{ℕ}

@@ -29,7 +29,7 @@ use Rattle.patches.specs.Patches.{survives}
 use Rattle.patches.proofs.Lattices.{square-near, square-places, square-paired}
 use Rattle.peel_rounds.specs.Rounds.{Neighbours, leftCount}
 use Rattle.peel_rounds.proofs.Bound.{rounds-left, rounds-bound}
-use Rattle.peel_rounds.proofs.Lattices.{square-plain, square-away}
+use Rattle.peel_rounds.proofs.Lattices.{square-once, square-away}
 use Rattle.drop_set.specs.Filters.{sidesOf, wrongMark, pointFilters, weakBy, pointMarks}
 use Rattle.promises.specs.Words.{DistinctIndices, roundsOf}
 use Rattle.promises.specs.Tally.{different, anyPoint, indexIn}
@@ -53,7 +53,7 @@ unfolding viewOf
 neighbours s ps o = record {
   mirrored = record { back = mirrored ps o };
   opposites = square-paired;
-  once = square-plain;
+  once = square-once;
   apart = λ k i h l e.
       let d = getD (sidesOf s) i own in
       let at = places-at (sidesOf s) i l in

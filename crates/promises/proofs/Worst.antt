@@ -27,7 +27,7 @@ use Rattle.peel.specs.Peel.{peeledOf}
 use Rattle.peel_rounds.proofs.Row.{row-rounds}
 use Rattle.straight_row.proofs.Unmarked.{unmarked}
 use Rattle.worst_sheet.specs.Worst.{worstPoints, worstFile}
-use Rattle.worst_row.specs.Sheet.{settings}
+use Rattle.worst_row.specs.Sheet.{worstSettings}
 use Rattle.worst_row.proofs.Accepted.{settings-plain, point-is, point-count, worst-accepted, worst-bytes}
 use Rattle.worst_row.proofs.Row.{counted, row-view}
 use Rattle.worst_row.proofs.Weak.{weakMarks, two-weak}
@@ -35,11 +35,11 @@ use Rattle.worst_row.proofs.InRow.{in-row}
 use Rattle.promises.specs.Words.{DistinctIndices, marksIn, roundsOf, otherMark, survivor}
 use Rattle.promises.specs.Leaves.{WeakEnds}
 use Rattle.promises.specs.Longest.{beforehand}
-use Rattle.promises.specs.Worst.{WorstPromise}
+use Rattle.promises.specs.Worst.{WorstPromise, NothingElse}
 use Rattle.promises.proofs.Leaves.{rounds-are, weak-ends}
 use Rattle.promises.proofs.Longest.{zero-before, longest}
 use Rattle.promises.proofs.Theorems.{answer-is}
-use Rattle.worst_sheet.proofs.Asked.{written-for}
+use Rattle.worst_sheet.proofs.Asked.{written-for, nothing-else}
 
 module _ (n : ℕ) (few : n ≤ maxPoints) where
   abbrev ps : List Point
@@ -49,13 +49,13 @@ module _ (n : ℕ) (few : n ≤ maxPoints) where
   view = viewOf ps
 
   abbrev drops : List ℕ
-  drops = pointMarks settings view (cellsOf ps)
+  drops = pointMarks worstSettings view (cellsOf ps)
 
   none-dropped : (k : ℕ) → getD drops k 0 ≡ 0
-  none-dropped k = unmarked settings view (cellsOf ps) settings-plain (row-view n few) k
+  none-dropped k = unmarked worstSettings view (cellsOf ps) settings-plain (row-view n few) k
 
-  undropped : (k : ℕ) → k < n → beforehand settings ps k ≡ false
-  undropped k h = not-yes (beforehand settings ps k) (sym (zero-before settings ps k (omega (arith, point-count n few))) ∙ ap (λ (m : ℕ). eqb m 0) (none-dropped k))
+  undropped : (k : ℕ) → k < n → beforehand worstSettings ps k ≡ false
+  undropped k h = not-yes (beforehand worstSettings ps k) (sym (zero-before worstSettings ps k (omega (arith, point-count n few))) ∙ ap (λ (m : ℕ). eqb m 0) (none-dropped k))
 
   index-is : (k : ℕ) → k < n → getD ps k nowhere .index ≡ k
   index-is k h = ap (λ (p : Point). p .index) (point-is n few k h)
@@ -68,10 +68,10 @@ module _ (n : ℕ) (few : n ≤ maxPoints) where
 
   -- ---- three points or more: they go one by one, up to the last
 
-  many-rounds : 3 ≤ n → roundsOf settings ps ≡ n - 1
+  many-rounds : 3 ≤ n → roundsOf worstSettings ps ≡ n - 1
   many-rounds three =
-      rounds-are settings ps
-      ∙ ap (λ (c : ℕ). peeledOf view (places squareSides) drops (weakBy (settings .«score_frac») c (strengthsOf ps)) .rounds) (counted n few)
+      rounds-are worstSettings ps
+      ∙ ap (λ (c : ℕ). peeledOf view (places squareSides) drops (weakBy (worstSettings .«score_frac») c (strengthsOf ps)) .rounds) (counted n few)
       ∙ row-rounds view drops (weakMarks n) (n - 1) (omega (arith, counted n few)) (in-row n few three drops (λ k h. none-dropped k))
 
 -- ---- two points: both are weak, and go in one round
@@ -97,8 +97,8 @@ one-neighbour survives = omega (arith, tally-four (beside survives), bit-le (bes
 pair-small : 2 ≤ maxPoints
 pair-small = omega arith
 
-pair-ends : WeakEnds settings pair
-pair-ends = weak-ends (worstFile 2) 56 settings pair (worst-bytes 2 pair-small) (worst-accepted 2 pair-small 56 (omega arith))
+pair-ends : WeakEnds worstSettings pair
+pair-ends = weak-ends (worstFile 2) 56 worstSettings pair (worst-bytes 2 pair-small) (worst-accepted 2 pair-small 56 (omega arith))
 
 -- without a mark of the first four filters it survives
 unmarked-survives : (m : ℕ) → hasMark validate m || (hasMark orientation m || hasMark wrong m) ≡ false → hasMark leaf m ≡ false → otherMark m ≡ false
@@ -112,32 +112,36 @@ unmarked-survives m = go (hasMark validate m) (hasMark orientation m) (hasMark w
     go false false false true e f = f
     go false false false false e f = refl
 
-some-round : roundsOf settings pair ≡ 0 → ⊥
+some-round : roundsOf worstSettings pair ≡ 0 → ⊥
 unfolding listOf
 some-round e =
-    let alive : survivor settings pair 0 ≡ true = ap not (unmarked-survives (marksIn settings pair 0) (undropped 2 pair-small 0 (omega arith)) (pair-ends .none-removed e 0 (omega arith))) in
-    omega (arith, pair-ends .left-two 0 alive (two-weak 0 (omega arith)), one-neighbour (survivor settings pair))
+    let alive : survivor worstSettings pair 0 ≡ true = ap not (unmarked-survives (marksIn worstSettings pair 0) (undropped 2 pair-small 0 (omega arith)) (pair-ends .none-removed e 0 (omega arith))) in
+    omega (arith, pair-ends .left-two 0 alive (two-weak 0 (omega arith)), one-neighbour (survivor worstSettings pair))
 
-two-rounds : roundsOf settings pair ≡ 1
+two-rounds : roundsOf worstSettings pair ≡ 1
 two-rounds =
-    let b = longest (worstFile 2) 56 settings pair (worst-bytes 2 pair-small) (worst-accepted 2 pair-small 56 (omega arith)) .bound (omega (arith, point-count 2 pair-small)) in
-    ⊎-elim (λ (d : 0 ≡ roundsOf settings pair). absurd (some-round (sym d))) (λ (l : 0 < roundsOf settings pair). omega (arith, b, point-count 2 pair-small)) (eq-or-lt-of-le zero-le)
+    let b = longest (worstFile 2) 56 worstSettings pair (worst-bytes 2 pair-small) (worst-accepted 2 pair-small 56 (omega arith)) .bound (omega (arith, point-count 2 pair-small)) in
+    ⊎-elim (λ (d : 0 ≡ roundsOf worstSettings pair). absurd (some-round (sym d))) (λ (l : 0 < roundsOf worstSettings pair). omega (arith, b, point-count 2 pair-small)) (eq-or-lt-of-le zero-le)
 
 -- ---- every n
 
-rounds-reach : (n : ℕ) → 2 ≤ n → n ≤ maxPoints → roundsOf settings (worstPoints n) ≡ n - 1
+rounds-reach : (n : ℕ) → 2 ≤ n → n ≤ maxPoints → roundsOf worstSettings (worstPoints n) ≡ n - 1
 rounds-reach n two few =
-    ⊎-elim (λ (d : 2 ≡ n). ap (λ (m : ℕ). roundsOf settings (worstPoints m)) (sym d) ∙ two-rounds ∙ (omega arith)) (λ (l : 2 < n). many-rounds n few (omega arith)) (eq-or-lt-of-le two)
+    ⊎-elim (λ (d : 2 ≡ n). ap (λ (m : ℕ). roundsOf worstSettings (worstPoints m)) (sym d) ∙ two-rounds ∙ (omega arith)) (λ (l : 2 < n). many-rounds n few (omega arith)) (eq-or-lt-of-le two)
 
 pub worst : WorstPromise
 worst n room two few enough =
     let e = worst-accepted n few room enough in
     record {
       written = written-for n two few;
+      bytes = worst-bytes n few;
       ruling = e;
       count = point-count n few;
       distinct = distinct n few;
       undropped = undropped n few;
       rounds = rounds-reach n two few;
-      answer = answer-is (worstFile n) room settings (worstPoints n) e ∙ rw (point-count n few, rounds-reach n two few);
+      answer = answer-is (worstFile n) room worstSettings (worstPoints n) e ∙ rw (point-count n few, rounds-reach n two few);
     }
+
+pub nothing : NothingElse
+nothing = nothing-else

@@ -16,7 +16,6 @@ use Rattle.marks.specs.Marks.{isSet}
 use Rattle.marks.specs.Byte.{hasMark}
 use Rattle.drop_set.specs.Filters.{sidesOf, weakBy}
 use Rattle.ruling.specs.Ruling.{accepted, rulingOf}
-use Rattle.judging.specs.Judging.{judgedFor}
 use Rattle.promises.specs.Words.{marksIn, roundsOf, survivor}
 
 module _ (s : Settings) (ps : List Point) where

@@ -8,7 +8,7 @@ use native.Mathlib.Omega.{arith}
 use lib.Dec.{T}
 use lib.IntN.{ℤ, pos}
 use borrow.Author.Tests.{le-ltb}
-use lib.Ieee.{Float, nan, inf, fin, binary32, up, down, isNan, fits, le, sum, neg, add, sub, ofInt, ofBits, toBits}
+use lib.Ieee.{Float, nan, inf, fin, binary32, up, down, fits, le, sum, neg, add, sub, ofInt, ofBits, toBits}
 use lib.Ieee.Exact.{HasValue}
 use lib.Ieee.Back.{round-whole}
 use lib.Ieee.Bits.{ofBits-toBits}
@@ -17,7 +17,7 @@ use lib.Ieee.Order.{round-mono}
 use lib.Ieee.Positive.{positive, positive-of-value}
 use lib.Ieee.Scale.{round-same, finite}
 use Rattle.folds.specs.Arith.{_⊖_}
-use Rattle.float.proofs.Order.{plain, plain-round, plain-number}
+use Rattle.float.proofs.Order.{plain, plain-round}
 use Rattle.whole_floats.specs.Whole.{asFloat}
 
 -- ---- any whole number
@@ -32,9 +32,6 @@ whole-fits n = round-fits binary32 false n 1
 
 pub whole-plain : (n : ℕ) → T (plain (asFloat n))
 whole-plain n = plain-round binary32 n 1
-
-pub whole-number : (n : ℕ) → isNan (asFloat n) ≡ false
-whole-number n = plain-number (asFloat n) (whole-plain n)
 
 pub whole-mono : (a b : ℕ) → a ≤ b → T (le (asFloat a) (asFloat b))
 whole-mono a b h = round-mono binary32 a 1 b 1 (omega arith) (omega arith) (mul-le-mul-right 1 h)

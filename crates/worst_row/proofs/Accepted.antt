@@ -31,33 +31,33 @@ use Rattle.ruling.proofs.Standing.{Words}
 use Rattle.written_file.proofs.Parts.{word-there, words-bytes, no-bytes}
 use Rattle.written_file.proofs.ReadBack.{ruled, bytes-back}
 use Rattle.straight_row.specs.Row.{Plain}
-use Rattle.worst_sheet.specs.Worst.{floatBits, pointAt, worstPoints, worstSettings, worstFile}
-use Rattle.worst_row.specs.Sheet.{settings}
+use Rattle.worst_sheet.specs.Worst.{floatBits, pointAt, worstPoints, settingsData, worstFile}
+use Rattle.worst_row.specs.Sheet.{worstSettings}
 use Rattle.worst_row.proofs.Patterns.{bits-small, bits-inside, two-is, seven-is}
 use Rattle.sort.proofs.Listed.{sort-listed}
 
 -- ---- the settings
 
-pub settings-plain : Plain settings
+pub settings-plain : Plain worstSettings
 unfolding defaultsFor lt ofBits
 settings-plain = record { cell = refl; ungated = refl; tolerant = refl }
 
-settings-are : defaultsFor (f32 (le32 worstSettings 0)) Off (fractionIn (f32 (floatBits 2))) ≡ settings
+settings-are : defaultsFor (f32 (le32 settingsData 0)) Off (fractionIn (f32 (floatBits 2))) ≡ worstSettings
 settings-are = rw (word-there (floatBits 7) [] (bits-small 7), seven-is, bits-inside 2 (omega arith), two-is)
 
 -- ---- one point
 
 module _ (n : ℕ) where
-  point-words : (u : ℕ) → u < 2304 → Words (pointAt n u)
+  point-words : (u : ℕ) → u < maxPoints → Words (pointAt n u)
   point-words u h = record { u = omega arith; v = omega arith; index = omega arith; x = bits-small (7 * u); y = bits-small 0; strength = bits-small (cond (eqb (u + 1) n) 2 1) }
 
-  in-range : (u : ℕ) → u < 2304 → within (signed u) ≡ true
+  in-range : (u : ℕ) → u < maxPoints → within (signed u) ≡ true
   in-range u h = range-is u (omega arith) ∙ ends-are (biased u) (omega arith) (omega arith)
 
-  point-in-range : (u : ℕ) → u < 2304 → offRange (pointAt n u) ≡ false
+  point-in-range : (u : ℕ) → u < maxPoints → offRange (pointAt n u) ≡ false
   point-in-range u h = rw (in-range u h)
 
-  point-in-limit : (u : ℕ) → u < 2304 → offLimit (pointAt n u) ≡ false
+  point-in-limit : (u : ℕ) → u < maxPoints → offLimit (pointAt n u) ≡ false
   point-in-limit u h = rw (bits-inside (7 * u) (omega arith), bits-inside 0 (omega arith))
 
   strength-in-limit : (u : ℕ) → offStrength (pointAt n u) ≡ false
@@ -67,7 +67,7 @@ module _ (n : ℕ) where
       small true = omega arith
       small false = omega arith
 
-  pub key-is : (u : ℕ) → u < 2304 → keyOf (pointAt n u) ≡ (u + 8003) * 16384 + 8003
+  key-is : (u : ℕ) → u < maxPoints → keyOf (pointAt n u) ≡ (u + 8003) * 16384 + 8003
   key-is u h = omega arith
 
 apart : (i j : ℕ) → i < j → eqb i j ≡ false
@@ -86,7 +86,7 @@ module _ (n : ℕ) (few : n ≤ maxPoints) where
   words = at-all Words nowhere (worstPoints n) (λ k h. let l : k < n = omega (arith, point-count) in rw (point-is k l) (point-words n k (omega arith)))
 
   -- none of 6, 7, 13, 8, 9 and 14 applies
-  points-pass : anyIn holds (pointRefusals (settings .«score_frac») (worstPoints n)) ≡ false
+  points-pass : anyIn holds (pointRefusals (worstSettings .«score_frac») (worstPoints n)) ≡ false
   unfolding pointRefusals defaultsFor
   points-pass =
       rw (
@@ -102,16 +102,16 @@ module _ (n : ℕ) (few : n ≤ maxPoints) where
   in-order : cellOrder (worstPoints n) ≡ worstPoints n
   in-order = sort-listed comesBefore (pointAt n) n (λ i j l h. le-ltb (keyOf (pointAt n j)) (keyOf (pointAt n i)) (omega (arith, key-is n i (omega arith), key-is n j (omega arith))))
 
-  points-accepted : rulingFor settings (worstPoints n) ≡ accepted settings (worstPoints n)
+  points-accepted : rulingFor worstSettings (worstPoints n) ≡ accepted worstSettings (worstPoints n)
   unfolding rulingFor
-  points-accepted = none-passes refused (accepted settings (cellOrder (worstPoints n))) (pointRefusals (settings .«score_frac») (worstPoints n)) points-pass ∙ rw in-order
+  points-accepted = none-passes refused (accepted worstSettings (cellOrder (worstPoints n))) (pointRefusals (worstSettings .«score_frac») (worstPoints n)) points-pass ∙ rw in-order
 
-  pub worst-accepted : (room : ℕ) → 28 * n ≤ room → rulingOf (worstFile n) room ≡ accepted settings (worstPoints n)
+  pub worst-accepted : (room : ℕ) → 28 * n ≤ room → rulingOf (worstFile n) room ≡ accepted worstSettings (worstPoints n)
   unfolding worstFile
   worst-accepted room enough =
-      ruled worstSettings (floatBits 2) (worstPoints n) refl room (omega (arith, point-count)) words (bits-small 2) (omega (arith, point-count)) (rw (word-there (floatBits 7) [] (bits-small 7)) (bits-inside 7 (omega arith)))
+      ruled settingsData (floatBits 2) (worstPoints n) refl room (omega (arith, point-count)) words (bits-small 2) (omega (arith, point-count)) (rw (word-there (floatBits 7) [] (bits-small 7)) (bits-inside 7 (omega arith)))
       ∙ rw settings-are points-accepted
 
   pub worst-bytes : Bytes (worstFile n)
   unfolding worstFile
-  worst-bytes = bytes-back worstSettings (floatBits 2) (worstPoints n) (inr refl) (words-bytes (floatBits 7 ∷ []) [] no-bytes) (omega (arith, point-count))
+  worst-bytes = bytes-back settingsData (floatBits 2) (worstPoints n) (inr refl) (words-bytes (floatBits 7 ∷ []) [] no-bytes) (omega (arith, point-count))

@@ -31,7 +31,7 @@ module _ (n : ℕ) (few : n ≤ maxPoints) (three : 3 ≤ n) where
       let r = row-view n few in
       record {
         own = λ k h. own-index n few k (omega arith);
-        kept = λ k h. none k (omega arith);
+        undropped = λ k h. none k (omega arith);
         next = λ k h. next-found n few k (omega arith);
         prev = λ k h. prev-found n few k (omega arith);
         first = absent w 0 prevU (λ t. omega (arith, r .behind 0 (omega arith) t));

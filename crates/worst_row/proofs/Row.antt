@@ -27,7 +27,7 @@ use Rattle.grid.proofs.Views.{indexList, index-read}
 use Rattle.ruling.proofs.Standing.{accepted-order}
 use Rattle.straight_row.specs.Row.{Row}
 use Rattle.worst_sheet.specs.Worst.{worstPoints, worstFile}
-use Rattle.worst_row.specs.Sheet.{settings}
+use Rattle.worst_row.specs.Sheet.{worstSettings}
 use Rattle.worst_row.proofs.Patterns.{bits-back, zero-is}
 use Rattle.worst_row.proofs.Accepted.{point-is, point-count, worst-accepted, worst-bytes}
 
@@ -65,8 +65,8 @@ module _ (n : ℕ) (few : n ≤ maxPoints) where
   pub counted : w .count ≡ n
   counted = count-read ps ∙ point-count n few
 
-  pub worst-order : CellOrder ps
-  worst-order = accepted-order (worstFile n) (28 * n) settings ps (worst-bytes n few) (worst-accepted n few (28 * n) (omega arith))
+  worst-order : CellOrder ps
+  worst-order = accepted-order (worstFile n) (28 * n) worstSettings ps (worst-bytes n few) (worst-accepted n few (28 * n) (omega arith))
 
   cell-is : (k : ℕ) → k < n → cellOf (getD ps k nowhere) ≡ cellAt (pos k) ±0
   cell-is k h = ap cellOf (point-is n few k h) ∙ same-cell (signed-is k (omega arith)) refl

@@ -24,20 +24,20 @@ use Rattle.sheet_file.specs.declared.Fraction.the-variants.{Given}
 use Rattle.strengths.proofs.Laws.{weak-by}
 use Rattle.drop_set.specs.Filters.{weakBy}
 use Rattle.worst_sheet.specs.Worst.{floatBits, worstPoints}
-use Rattle.worst_row.specs.Sheet.{settings}
+use Rattle.worst_row.specs.Sheet.{worstSettings}
 use Rattle.worst_row.proofs.Patterns.{one-is, two-is}
 use Rattle.sort.proofs.Listed.{sort-listed}
 use Rattle.worst_row.proofs.Accepted.{point-is, point-count}
 
 -- the weak marks, from the settings and the points
 abbrev pub weakMarks : ℕ → List ℕ
-weakMarks n = weakBy (settings .«score_frac») n (strengthsOf (worstPoints n))
+weakMarks n = weakBy (worstSettings .«score_frac») n (strengthsOf (worstPoints n))
 
 -- "all strengths 1 but the last, which is 2"
 abbrev strength : ℕ → ℕ → Float
 strength n k = cond (eqb (k + 1) n) two one
 
-fraction-is : settings .«score_frac» ≡ Given two
+fraction-is : worstSettings .«score_frac» ≡ Given two
 unfolding defaultsFor
 fraction-is = refl
 

@@ -7,5 +7,5 @@ use Rattle.sheet_file.specs.declared.Settings.{Settings}
 use Rattle.straight_row.specs.Row.{seven}
 
 -- "length-4 settings, no tag 2, .. cell size 7, fraction 2"
-abbrev pub settings : Settings
-settings = defaultsFor seven Off (Given two)
+abbrev pub worstSettings : Settings
+worstSettings = defaultsFor seven Off (Given two)

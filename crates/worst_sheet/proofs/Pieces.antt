@@ -19,8 +19,8 @@ use Rattle.text.proofs.Stores.{shows, stored-length, stored-then, each-none, ea
 use Rattle.cells.specs.Points.{Point}
 use Rattle.sheet_file.specs.Bytes.{littleEndian}
 use Rattle.sheet_file.specs.Grammar.{field}
-use Rattle.written_file.specs.File.{recordOf, recordsOf, strengthBytes, weights}
-use Rattle.worst_sheet.specs.Worst.{floatBits, strengthAt, pointAt, worstPoints, worstSettings, worstFile}
+use Rattle.written_file.specs.File.{pointBytes, pointsBytes, strengthBytes, weights}
+use Rattle.worst_sheet.specs.Worst.{floatBits, strengthAt, pointAt, worstPoints, settingsData, worstFile}
 
 -- a text in a buffer that has room for it ends within it, and stands before its end
 pub stored-whole : {l t m : List ℕ} {e : ℕ} → Stored l 0 t m e → length t ≤ length l → (e ≤ length m) × (take e m ≡ t)
@@ -50,25 +50,25 @@ module _ (all : List Point → List ℕ) (one : Point → List ℕ) (none : all 
   unfolding listOf
   all-each n = let z : 0 + n ≡ n = omega arith in rw (each-none (λ u. one (f u)), z) at (each-then 0 n)
 
-pub records-are : (n : ℕ) → recordsOf (worstPoints n) ≡ each (λ u. recordOf (pointAt n u)) n
-records-are n = all-each recordsOf recordOf refl (λ p ps. refl) (pointAt n) n
+pub records-are : (n : ℕ) → pointsBytes (worstPoints n) ≡ each (λ u. pointBytes (pointAt n u)) n
+records-are n = all-each pointsBytes pointBytes refl (λ p ps. refl) (pointAt n) n
 
 pub strengths-are : (n : ℕ) → strengthBytes (worstPoints n) ≡ each (λ u. littleEndian (strengthAt n u)) n
 strengths-are n = all-each strengthBytes (λ p. littleEndian (p .strength)) refl (λ p ps. refl) (pointAt n) n
 
-pub records-long : (n : ℕ) → length (recordsOf (worstPoints n)) ≡ 20 * n
-records-long n = ap length (records-are n) ∙ each-long (λ u. recordOf (pointAt n u)) 20 n (λ k l. refl)
+pub records-long : (n : ℕ) → length (pointsBytes (worstPoints n)) ≡ 20 * n
+records-long n = ap length (records-are n) ∙ each-long (λ u. pointBytes (pointAt n u)) 20 n (λ k l. refl)
 
 pub strengths-long : (n : ℕ) → length (strengthBytes (worstPoints n)) ≡ 4 * n
 strengths-long n = ap length (strengths-are n) ∙ each-long (λ u. littleEndian (strengthAt n u)) 4 n (λ k l. refl)
 
 -- "length-4 settings, .. cell size 7"
-pub settings-are : worstSettings ≡ 0 ∷ 0 ∷ 0xE0 ∷ 0x40 ∷ []
+pub settings-are : settingsData ≡ 0 ∷ 0 ∷ 0xE0 ∷ 0x40 ∷ []
 unfolding toBits ofInt
 settings-are = refl
 
 -- the fields of the sheet
-pub file-is : (n : ℕ) → worstFile n ≡ field 1 worstSettings ++ (field 3 (recordsOf (worstPoints n)) ++ weights (floatBits 2) (worstPoints n))
+pub file-is : (n : ℕ) → worstFile n ≡ field 1 settingsData ++ (field 3 (pointsBytes (worstPoints n)) ++ weights (floatBits 2) (worstPoints n))
 unfolding worstFile
 file-is n = refl
 

@@ -11,14 +11,14 @@ use Rattle.view.specs.View.{maxPoints}
 use Rattle.text.specs.Answer.{Shows}
 use Rattle.text.specs.declared.Written.{Written}
 use Rattle.text.specs.declared.Written.the-variants.{Whole}
-use Rattle.written_file.specs.File.{recordsOf, weights}
-use Rattle.worst_sheet.specs.Worst.{floatBits, worstPoints, worstSettings, worstFile, asked, worstOf, worstSize}
+use Rattle.written_file.specs.File.{pointsBytes, weights}
+use Rattle.worst_sheet.specs.Worst.{floatBits, worstPoints, settingsData, worstFile, asked, worstOf, worstSize}
 use Rattle.worst_sheet.proofs.Asked.{worst-is, worst-none}
 use Rattle.worst_sheet.proofs.Pieces.{file-is, records-long, strengths-long}
 
 -- three fields, and 24 bytes for each point
-pub file-long : (n : ℕ) → length (worstFile n) ≡ (3 + length worstSettings) + (3 + 20 * n) + (3 + 4 + 4 * n)
-file-long n = omega (arith, ap length (file-is n), length-append (recordsOf (worstPoints n)) (weights (floatBits 2) (worstPoints n)), records-long n, strengths-long n)
+pub file-long : (n : ℕ) → length (worstFile n) ≡ (3 + length settingsData) + (3 + 20 * n) + (3 + 4 + 4 * n)
+file-long n = omega (arith, ap length (file-is n), length-append (pointsBytes (worstPoints n)) (weights (floatBits 2) (worstPoints n)), records-long n, strengths-long n)
 
 pub worst-fits : (argument : List ℕ) → length (worstOf argument) ≤ worstSize
 worst-fits argument = elim (decLt maxPoints (asked argument)) [

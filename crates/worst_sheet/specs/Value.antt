@@ -1,4 +1,4 @@
--- How the argument is read: the one number that it can be. Assumes nothing.
+-- For the code alone: the one number that an argument can spell, by which it finds what is asked for. Assumes nothing.
 use mathlib.Core.List.{List}
 use Prim.Native.Nat.{ℕ, _+_, _*_, _%_}
 use Rattle.folds.specs.Lists.{over}

@@ -33,13 +33,13 @@ abbrev pub worstPoints : ℕ → List Point
 worstPoints n = listOf n (pointAt n)
 
 -- "length-4 settings, .. cell size 7": the data of tag 1
-abbrev pub worstSettings : List ℕ
-worstSettings = littleEndian (floatBits 7)
+abbrev pub settingsData : List ℕ
+settingsData = littleEndian (floatBits 7)
 
 -- "no tag 2, .. fraction 2"
 unfoldable pub worstFile : ℕ → List ℕ
 unfolding listOf
-worstFile n = weighedFile worstSettings (floatBits 2) (worstPoints n)
+worstFile n = weighedFile settingsData (floatBits 2) (worstPoints n)
 
 -- "n as its one argument, printed like an index", "n from 2 to 2,304": the n whose decimal digits are the argument, and one more than the most
 -- points where there is none
@@ -54,4 +54,4 @@ worstOf argument = let n = asked argument in cond (ltb n (maxPoints + 1)) (worst
 
 -- no sheet that is written is longer: three fields, each with a tag and two bytes of length (proved in proofs/Size.antt)
 abbrev pub worstSize : ℕ
-worstSize = (3 + length worstSettings) + (3 + 20 * maxPoints) + (3 + 4 + 4 * maxPoints)
+worstSize = (3 + length settingsData) + (3 + 20 * maxPoints) + (3 + 4 + 4 * maxPoints)

@@ -11,7 +11,7 @@ ghost use Rattle.text.specs.Stored.{Stored};
 ghost use Rattle.text.specs.Text.{each, decimal};
 ghost use Rattle.sheet_file.specs.Bytes.{littleEndian};
 ghost use Rattle.sheet_file.specs.Grammar.{mostData};
-ghost use Rattle.written_file.specs.File.{recordOf};
+ghost use Rattle.written_file.specs.File.{pointBytes};
 ghost use Rattle.worst_sheet.specs.Worst.{floatBits, strengthAt, pointAt, worstFile, asked, worstOf, worstSize};
 ghost use Rattle.worst_sheet.specs.Value.{valueOf};
 
@@ -112,7 +112,7 @@ fn put_head(tag: u8, size: usize, out: &mut [u8], at: usize) -> usize
 
 fn put_point(u: usize, out: &mut [u8], at: usize) -> usize
     requires { ⌜ u < maxPoints ⌝ }
-    ensures { λ r. ⌜ ((n : ℕ) → Stored (now (out .entry)) at (recordOf (pointAt n u)) (now (out .exit)) r) ⌝ }
+    ensures { λ r. ⌜ ((n : ℕ) → Stored (now (out .entry)) at (pointBytes (pointAt n u)) (now (out .exit)) r) ⌝ }
 {
     let index = u as u32;
     let a = put_u32(index, out, at);
@@ -124,7 +124,7 @@ fn put_point(u: usize, out: &mut [u8], at: usize) -> usize
 
 fn put_points(n: usize, out: &mut [u8], at: usize) -> usize
     requires { ⌜ n ≤ maxPoints ⌝ }
-    ensures { λ r. ⌜ Stored (now (out .entry)) at (each (λ u. recordOf (pointAt n u)) n) (now (out .exit)) r ⌝ }
+    ensures { λ r. ⌜ Stored (now (out .entry)) at (each (λ u. pointBytes (pointAt n u)) n) (now (out .exit)) r ⌝ }
 {
     let mut to = at;
     let mut u = 0;

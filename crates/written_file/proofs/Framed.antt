@@ -16,10 +16,10 @@ use Rattle.sheet_file.specs.declared.Layout.{Layout}
 use Rattle.sheet_file.specs.declared.Framing.the-variants.{Framed}
 use Rattle.sheet_file.proofs.Fields.{is-framed, field-in, StrengthsAt, strengths-there, strengths-absent, GateAt, gate-there, gate-absent, Fields, full-settings, short-settings, fields-of, PointsAt, points-in}
 use Rattle.sheet_file.proofs.Grammar.{well-framed, points-counted}
-use Rattle.written_file.specs.File.{recordsOf, strengthBytes, weights, weighedFile}
+use Rattle.written_file.specs.File.{pointsBytes, strengthBytes, weights, weighedFile}
 use Rattle.written_file.proofs.Parts.{records-length, strengths-length}
 
--- tag 1 "of length 21 or 4"
+-- "Tag 1, length 21 .. Length 4 gives the cell size only"
 abbrev pub SettingsSize : List ℕ → Type 0
 SettingsSize settings = (length settings ≡ 21) ⊎ (length settings ≡ 4)
 
@@ -47,14 +47,14 @@ module _ (settings : List ℕ) (fraction : ℕ) (ps : List Point) where
   -- how long it is
   pub file-length : length file ≡ length settings + 13 + 24 * length ps
   file-length =
-      omega (arith, length-append settings (field 3 (recordsOf ps) ++ weights fraction ps), length-append (recordsOf ps) (weights fraction ps), records-length ps, strengths-length ps)
+      omega (arith, length-append settings (field 3 (pointsBytes ps) ++ weights fraction ps), length-append (pointsBytes ps) (weights fraction ps), records-length ps, strengths-length ps)
 
   module _ (size : SettingsSize settings) where
     abbrev pub written-well : WellFramed file
     written-well = record {
       settings = settings;
       gate = [];
-      points = recordsOf ps;
+      points = pointsBytes ps;
       weights = weights fraction ps;
       settings-size = size;
       gate-optional = absent refl;
@@ -70,7 +70,7 @@ module _ (settings : List ℕ) (fraction : ℕ) (ps : List Point) where
     next-tag : byteAt file (length settings + 3) ≡ 3
     next-tag =
         let e : length settings + 3 ≡ length (field 1 settings) + 0 = omega arith in
-        rw e (getD-append-add (field 1 settings) (field 3 (recordsOf ps) ++ weights fraction ps) 0 0)
+        rw e (getD-append-add (field 1 settings) (field 3 (pointsBytes ps) ++ weights fraction ps) 0 0)
 
     first-size : le16 file 1 ≡ length settings
     unfolding le16

@@ -13,7 +13,7 @@ use Rattle.sheet_file.proofs.Words.{SameBytes, bytes-join, le32-same}
 use Rattle.points.specs.Records.{pointIn}
 use Rattle.points.proofs.Located.{point-same}
 use Rattle.ruling.proofs.Standing.{Words}
-use Rattle.written_file.specs.File.{recordOf, recordsOf, strengthBytes}
+use Rattle.written_file.specs.File.{pointBytes, pointsBytes, strengthBytes}
 
 -- ---- two lists
 
@@ -66,7 +66,7 @@ words-bytes (b ∷ l) r h = bytes-join (littleEndian b) (words l ++ r) (word-byt
 
 -- ---- records
 
-pub records-length : (ps : List Point) → length (recordsOf ps) ≡ 20 * length ps
+pub records-length : (ps : List Point) → length (pointsBytes ps) ≡ 20 * length ps
 records-length [] = refl
 records-length (p ∷ ps) = omega (arith, records-length ps)
 
@@ -74,19 +74,19 @@ records-length (p ∷ ps) = omega (arith, records-length ps)
 abbrev pub weighing : Point → ℕ → Point
 weighing p w = record { u = p .u; v = p .v; index = p .index; x = p .x; y = p .y; strength = w }
 
-record-there : (p : Point) (l : List ℕ) (w : ℕ) → Words p → pointIn (recordOf p ++ l) 0 w ≡ weighing p w
+record-there : (p : Point) (l : List ℕ) (w : ℕ) → Words p → pointIn (pointBytes p ++ l) 0 w ≡ weighing p w
 unfolding le32
 record-there p l w h = rw (from-bytes (p .u) (h .u), from-bytes (p .v) (h .v), from-bytes (p .index) (h .index), from-bytes (p .x) (h .x), from-bytes (p .y) (h .y))
 
 -- point i of a list is read of its records
-pub records-there : (ps : List Point) (l : List ℕ) (w : ℕ) → All Words ps → (i : ℕ) → i < length ps → pointIn (recordsOf ps ++ l) (20 * i) w ≡ weighing (getD ps i nowhere) w
+pub records-there : (ps : List Point) (l : List ℕ) (w : ℕ) → All Words ps → (i : ℕ) → i < length ps → pointIn (pointsBytes ps ++ l) (20 * i) w ≡ weighing (getD ps i nowhere) w
 records-there [] l w h i b = absurd (omega arith)
-records-there (p ∷ ps) l w h zero b = record-there p (recordsOf ps ++ l) w (h .0)
-records-there (p ∷ ps) l w h (suc i) b = point-after (recordOf p) (recordsOf ps ++ l) (20 * suc i) (20 * i) w (omega arith) ∙ records-there ps l w (h .1) i (omega arith)
+records-there (p ∷ ps) l w h zero b = record-there p (pointsBytes ps ++ l) w (h .0)
+records-there (p ∷ ps) l w h (suc i) b = point-after (pointBytes p) (pointsBytes ps ++ l) (20 * suc i) (20 * i) w (omega arith) ∙ records-there ps l w (h .1) i (omega arith)
 
-pub records-bytes : (ps : List Point) → Bytes (recordsOf ps)
+pub records-bytes : (ps : List Point) → Bytes (pointsBytes ps)
 records-bytes [] = no-bytes
-records-bytes (p ∷ ps) = words-bytes (p .u ∷ p .v ∷ p .index ∷ p .x ∷ p .y ∷ []) (recordsOf ps) (records-bytes ps)
+records-bytes (p ∷ ps) = words-bytes (p .u ∷ p .v ∷ p .index ∷ p .x ∷ p .y ∷ []) (pointsBytes ps) (records-bytes ps)
 
 -- ---- strengths
 

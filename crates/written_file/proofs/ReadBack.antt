@@ -31,7 +31,7 @@ use Rattle.ruling.specs.Ruling.{refused, rulingFor, pointsOf, rulingOf}
 use Rattle.ruling.proofs.Given.{by-points}
 use Rattle.ruling.proofs.Limit.{more-refused}
 use Rattle.ruling.proofs.Standing.{Words}
-use Rattle.written_file.specs.File.{recordsOf, strengthBytes, weights, weighedFile}
+use Rattle.written_file.specs.File.{pointsBytes, strengthBytes, weights, weighedFile}
 use Rattle.written_file.proofs.Parts.{first-part, word-after, point-after, word-there, words-bytes, weighing, records-length, records-there, records-bytes, strengths-length, strengths-there, strengths-bytes}
 use Rattle.written_file.proofs.Framed.{SettingsSize, layoutFor, written-well, framed}
 
@@ -57,7 +57,7 @@ module _ (settings : List ℕ) (fraction : ℕ) (ps : List Point) where
 
   -- what stands after tag 1
   abbrev rest : List ℕ
-  rest = field 3 (recordsOf ps) ++ weights fraction ps
+  rest = field 3 (pointsBytes ps) ++ weights fraction ps
 
   -- ---- the points
 
@@ -65,7 +65,7 @@ module _ (settings : List ℕ) (fraction : ℕ) (ps : List Point) where
   weight-word : (at k : ℕ) → at ≡ f .strengths + k → le32 file at ≡ le32 (weightData fraction ps) k
   weight-word at k e =
       word-after (field 1 settings) rest at (3 + 20 * length ps + 3 + k) (omega arith)
-      ∙ word-after (field 3 (recordsOf ps)) (weights fraction ps) (3 + 20 * length ps + 3 + k) (3 + k) (omega (arith, records-length ps))
+      ∙ word-after (field 3 (pointsBytes ps)) (weights fraction ps) (3 + 20 * length ps + 3 + k) (3 + k) (omega (arith, records-length ps))
       ∙ word-after (headOf 4 (weightData fraction ps)) (weightData fraction ps) (3 + k) k refl
 
   module _ (words : All Words ps) where
@@ -77,7 +77,7 @@ module _ (settings : List ℕ) (fraction : ℕ) (ps : List Point) where
     record-read : (i w : ℕ) → i < length ps → pointIn file (f .points + 20 * i) w ≡ weighing (getD ps i nowhere) w
     record-read i w h =
         point-after (field 1 settings) rest (f .points + 20 * i) (3 + 20 * i) w (omega arith)
-        ∙ point-after (headOf 3 (recordsOf ps)) (recordsOf ps ++ weights fraction ps) (3 + 20 * i) (20 * i) w refl
+        ∙ point-after (headOf 3 (pointsBytes ps)) (pointsBytes ps ++ weights fraction ps) (3 + 20 * i) (20 * i) w refl
         ∙ records-there ps (weights fraction ps) w words i h
 
     pub points-back : pointsIn file f ≡ ps
@@ -175,9 +175,6 @@ module _ (settings : List ℕ) (fraction : ℕ) (ps : List Point) (size : length
   short-settings : settingsFor settings fraction ≡ short
   short-settings = rw (first-word, size)
 
-  pub settings-back : fraction < 2 ^ 32 → settingsOf (weighedFile settings fraction ps) (layoutFor settings ps) ≡ short
-  settings-back small = settings-read settings fraction ps small (inr size) ∙ short-settings
-
   -- none of 1, 12, 2, 3, 4 and 5 applies
   pub ruled : (room : ℕ) → length ps ≤ maxPoints → All Words ps → fraction < 2 ^ 32 → 28 * length ps ≤ room → outside cellSize ≡ false → rulingOf (weighedFile settings fraction ps) room ≡ rulingFor short ps
   unfolding badFlag badFloat
@@ -212,8 +209,8 @@ field-bytes tag body t l h (suc (suc (suc k))) = h k
 
 pub bytes-back : (settings : List ℕ) (fraction : ℕ) (ps : List Point) → SettingsSize settings → Bytes settings → length ps ≤ maxPoints → Bytes (weighedFile settings fraction ps)
 bytes-back settings fraction ps size b few =
-    bytes-join (field 1 settings) (field 3 (recordsOf ps) ++ weights fraction ps) (field-bytes 1 settings (omega arith) (short size) b)
-    (bytes-join (field 3 (recordsOf ps)) (weights fraction ps) (field-bytes 3 (recordsOf ps) (omega arith) (omega (arith, records-length ps)) (records-bytes ps))
+    bytes-join (field 1 settings) (field 3 (pointsBytes ps) ++ weights fraction ps) (field-bytes 1 settings (omega arith) (short size) b)
+    (bytes-join (field 3 (pointsBytes ps)) (weights fraction ps) (field-bytes 3 (pointsBytes ps) (omega arith) (omega (arith, records-length ps)) (records-bytes ps))
     (field-bytes 4 (weightData fraction ps) (omega arith) (omega (arith, strengths-length ps)) (words-bytes (fraction ∷ []) (strengthBytes ps) (strengths-bytes ps))))
   where
     short : SettingsSize settings → length settings < 65536
