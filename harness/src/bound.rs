@@ -25,22 +25,19 @@ enum Class {
     Repeated,
 }
 
-/// Each class with a name of it and of its bound.
-const CLASSES: [(Class, &str, &str); 5] = [
-    (Class::Nothing, "of which nothing is left", "no round"),
-    (Class::One, "of which one index is left", "one round"),
+/// A name of each class and of its bound, in the order above.
+const CLASSES: [(&str, &str); 5] = [
+    ("of which nothing is left", "no round"),
+    ("of which one index is left", "one round"),
     (
-        Class::Whole,
         "of two points or more, no index repeated, nothing dropped before",
         "n - 1 rounds",
     ),
     (
-        Class::Dropped,
         "of which two points or more are left and others were dropped",
         "a round for each but one of those left",
     ),
     (
-        Class::Repeated,
         "with a repeated index among those left",
         "a round for each index left",
     ),
@@ -90,8 +87,7 @@ impl Bound {
     }
 
     pub fn print(&self) {
-        for ((_, of, bound), (held, reached)) in
-            CLASSES.iter().zip(self.held.iter().zip(self.reached))
+        for ((of, bound), (held, reached)) in CLASSES.iter().zip(self.held.iter().zip(self.reached))
         {
             if *held > 0 {
                 println!("{held:>6} sheets {of}: {reached} reach the bound of {bound}");

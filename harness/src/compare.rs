@@ -216,25 +216,8 @@ impl Report {
         }
     }
 
-    fn add(&mut self, case: &Case) {
-        let (answer, map) = second::answer_and_map(&case.file, case.buffer);
-        self.count_map(&map);
-        self.sheets += 1;
-        self.by_kind.resize(Kind::ALL.len(), [0; 4]);
-        let kind = &mut self.by_kind[case.kind as usize];
-        kind[0] += 1;
-        match &answer {
-            Answer::Refused(number) => self.refused[usize::from(*number)] += 1,
-            Answer::Accepted { .. } => kind[1] += 1,
-        }
-        let mut verdict = check(case, &answer, &map);
-        if let Answer::Accepted { rows, rounds, .. } = &answer {
-            let sheet = Sheet::from_file(&case.file).unwrap();
-            self.count_sheet(&sheet, rows, *rounds);
-            if let Some(text) = self.count_rounds(&sheet, &answer) {
-                verdict = Verdict::Different(text);
-            }
-        }
+    /// Counts how a case came out, keeps the smallest that only acos explains and prints the first that differ.
+    fn count_verdict(&mut self, case: &Case, verdict: Verdict) {
         let kind = &mut self.by_kind[case.kind as usize];
         match verdict {
             Verdict::Same => {}
@@ -258,6 +241,28 @@ impl Report {
                 }
             }
         }
+    }
+
+    fn add(&mut self, case: &Case) {
+        let (answer, map) = second::answer_and_map(&case.file, case.buffer);
+        self.count_map(&map);
+        self.sheets += 1;
+        self.by_kind.resize(Kind::ALL.len(), [0; 4]);
+        let kind = &mut self.by_kind[case.kind as usize];
+        kind[0] += 1;
+        match &answer {
+            Answer::Refused(number) => self.refused[usize::from(*number)] += 1,
+            Answer::Accepted { .. } => kind[1] += 1,
+        }
+        let mut verdict = check(case, &answer, &map);
+        if let Answer::Accepted { rows, rounds, .. } = &answer {
+            let sheet = Sheet::from_file(&case.file).unwrap();
+            self.count_sheet(&sheet, rows, *rounds);
+            if let Some(text) = self.count_rounds(&sheet, &answer) {
+                verdict = Verdict::Different(text);
+            }
+        }
+        self.count_verdict(case, verdict);
     }
 
     fn print_sheets(&self) {

@@ -357,7 +357,12 @@ fn main() -> ExitCode {
         }
         ["load", "faults"] => holds = load::faults(),
         ["load", ..] => holds = load(&args),
-        ["bench", "--peels", ..] => bench::peels(option(&args, "--runs", 60) as usize),
+        ["bench", ..] if has(&args, "--peels") => {
+            if has(&args, "--into") {
+                fail("bench --peels prints its tables and takes no --into");
+            }
+            bench::peels(option(&args, "--runs", 60) as usize);
+        }
         ["bench", rest @ ..] => {
             let into = rest.iter().position(|a| *a == "--into");
             let file = into.map(|k| {

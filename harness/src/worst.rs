@@ -199,10 +199,47 @@ impl Blocks {
         }
     }
 
+    /// All sheets of the largest blocks of at most so many cells, each cell empty, weak or strong.
+    fn add_states(&mut self, cells: usize) {
+        for (width, height) in largest(cells) {
+            for k in 0..3usize.pow((width * height) as u32) {
+                let name = format!("{width} by {height}, sheet {k}");
+                self.add(&name, &of_block(width, height, k));
+            }
+        }
+    }
+
+    /// All sheets of a block of six cells with points that are dropped before.
+    fn add_dropped(&mut self) {
+        for k in 0..4usize.pow(6) {
+            let name = format!("2 by 3 with dropped points, sheet {k}");
+            self.add(&name, &with_dropped(k));
+        }
+    }
+
+    /// All sheets of the largest blocks of at most so many cells, with every way to repeat indices.
+    fn add_numberings(&mut self, cells: usize) {
+        for (width, height) in largest(cells) {
+            for numbering in numberings(width * height) {
+                let largest = numbering.iter().copied().max().unwrap_or(0);
+                for weak in (0..1 << (largest + 1)).step_by(2) {
+                    let name = format!("{width} by {height}, indices {numbering:?}, weak {weak:b}");
+                    self.add(&name, &numbered(height, &numbering, weak));
+                }
+            }
+        }
+    }
+
     pub fn print(&self) {
         self.bound.print();
         println!("{} sheets of the cells of blocks", self.sheets);
     }
+}
+
+/// The width and the height of the largest blocks of at most so many cells, none higher than wide.
+fn largest(cells: usize) -> impl Iterator<Item = (usize, usize)> {
+    let heights = (1..=cells).take_while(move |height| height * height <= cells);
+    heights.map(move |height| (cells / height, height))
 }
 
 /// Each way to give cells indices, the same to several or not: a list of numbers, each at most one more than the
@@ -269,29 +306,8 @@ fn with_dropped(mut k: usize) -> Sheet {
 /// points that are dropped before; and of three fifths as many cells, with every way to repeat indices.
 pub fn blocks(cells: usize) -> Blocks {
     let mut out = Blocks::default();
-    for height in (1..=cells).take_while(|height| height * height <= cells) {
-        let width = cells / height;
-        for k in 0..3usize.pow((width * height) as u32) {
-            let name = format!("{width} by {height}, sheet {k}");
-            out.add(&name, &of_block(width, height, k));
-        }
-    }
-    for k in 0..4usize.pow(6) {
-        out.add(
-            &format!("2 by 3 with dropped points, sheet {k}"),
-            &with_dropped(k),
-        );
-    }
-    let cells = cells * 3 / 5;
-    for height in (1..=cells).take_while(|height| height * height <= cells) {
-        let width = cells / height;
-        for numbering in numberings(width * height) {
-            let largest = numbering.iter().copied().max().unwrap_or(0);
-            for weak in (0..1 << (largest + 1)).step_by(2) {
-                let name = format!("{width} by {height}, indices {numbering:?}, weak {weak:b}");
-                out.add(&name, &numbered(height, &numbering, weak));
-            }
-        }
-    }
+    out.add_states(cells);
+    out.add_dropped();
+    out.add_numberings(cells * 3 / 5);
     out
 }

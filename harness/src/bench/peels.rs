@@ -16,7 +16,7 @@ fn weak(shape: &Shape) -> Sheet {
 
 /// The same with a strong last point.
 fn strong_last(cells: Cells) -> Sheet {
-    let sheet = shapes::unmarked(cells, MAX_POINTS).sheet();
+    let sheet = unmarked(cells).sheet();
     let last = sheet.points.len() - 1;
     with_strengths(sheet, 2.0, |k| if k == last { 2.0 } else { 1.0 })
 }
@@ -26,19 +26,18 @@ fn worst(n: usize) -> Sheet {
     Sheet::from_file(&second::worst_of(n)).unwrap()
 }
 
-/// Large sheets with strengths, and two of them without.
-fn sheets() -> Vec<(String, Sheet)> {
-    let unmarked = |cells| shapes::unmarked(cells, MAX_POINTS);
-    let board = unmarked(Cells::Board(SIDE));
+/// A shape of the most points without a mark.
+fn unmarked(cells: Cells) -> Shape {
+    shapes::unmarked(cells, MAX_POINTS)
+}
+
+/// The row of `worst` with other strengths, and without.
+fn rows() -> [(&'static str, Sheet); 3] {
     let row = || Sheet {
         strengths: Strengths::Missing,
         ..worst(MAX_POINTS)
     };
-    let mut twice = unmarked(Cells::Row);
-    twice.index = Index::Twice;
-    twice.rest.wrong_label = 0;
-    let longest = format!("`worst {MAX_POINTS}`");
-    let others = [
+    [
         (
             "the same row, two points a round",
             with_strengths(row(), 2.0, |_| 1.0),
@@ -48,32 +47,50 @@ fn sheets() -> Vec<(String, Sheet)> {
             with_strengths(row(), 0.5, |_| 1.0),
         ),
         ("the same row without tag 4", row()),
+    ]
+}
+
+/// Other shapes of which much is peeled.
+fn peeled() -> [(&'static str, Sheet); 6] {
+    let all_weak = |cells| weak(&unmarked(cells));
+    let mut twice = unmarked(Cells::Row);
+    twice.index = Index::Twice;
+    twice.rest.wrong_label = 0;
+    [
         (
             "a spiral that loses one point a round",
             strong_last(Cells::Spiral),
         ),
         ("a chain of indices at two cells, all weak", weak(&twice)),
-        ("a comb, all weak", weak(&unmarked(Cells::Comb))),
-        ("stairs, all weak", weak(&unmarked(Cells::Stairs))),
-        (
-            "isolated points, all weak",
-            weak(&unmarked(Cells::Isolated)),
-        ),
+        ("a comb, all weak", all_weak(Cells::Comb)),
+        ("stairs, all weak", all_weak(Cells::Stairs)),
+        ("isolated points, all weak", all_weak(Cells::Isolated)),
         (
             "ragged, a third missing, all weak",
-            weak(&unmarked(Cells::Ragged(60))),
+            all_weak(Cells::Ragged(60)),
         ),
+    ]
+}
+
+/// A board, of which nothing is peeled, with strengths and without.
+fn boards() -> [(&'static str, Sheet); 3] {
+    let board = unmarked(Cells::Board(SIDE));
+    [
         ("a board, all weak, nothing peeled", weak(&board)),
         (
             "the board, nothing weak",
             with_strengths(board.sheet(), 0.5, |_| 1.0),
         ),
         ("the board without tag 4", board.sheet()),
-    ];
+    ]
+}
+
+/// Large sheets with strengths, and two of them without.
+fn sheets() -> Vec<(String, Sheet)> {
+    let longest = (format!("`worst {MAX_POINTS}`"), worst(MAX_POINTS));
+    let others = rows().into_iter().chain(peeled()).chain(boards());
     let others = others.map(|(name, sheet)| (name.to_string(), sheet));
-    std::iter::once((longest, worst(MAX_POINTS)))
-        .chain(others)
-        .collect()
+    std::iter::once(longest).chain(others).collect()
 }
 
 /// The original's `drop_set`, `weak_leaf_peel` and `largest_component_filter`, one after the other, on a

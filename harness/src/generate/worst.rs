@@ -117,60 +117,50 @@ fn near(r: &mut Random) -> Sheet {
     s
 }
 
-/// Damages of several numbers, or a file that is cut, goes on, or has bytes changed.
-fn damaged(r: &mut Random, seed: u64) -> Case {
-    let mut s = sheet(r);
-    let unknown = |buffer: usize, file: Vec<u8>| Case {
-        kind: Kind::DamagedWorst,
-        seed,
-        file,
-        buffer,
-        expected: Expected::Unknown,
-        map: Expected::Unknown,
-    };
-    let needed = s.points.len() * ROW;
-    let mut file = s.to_file();
-    match r.below(6) {
-        0 => {
-            file.truncate(r.below(file.len()));
-            unknown(needed, file)
-        }
-        1 => {
-            file.extend(vec![r.bits() as u8; r.whole(1, 30) as usize]);
-            unknown(needed, file)
-        }
-        2 => {
+/// A file that is cut, goes on, or has bytes changed.
+fn other_bytes(r: &mut Random, way: usize, file: &mut Vec<u8>) {
+    match way {
+        0 => file.truncate(r.below(file.len())),
+        1 => file.extend(vec![r.bits() as u8; r.whole(1, 30) as usize]),
+        _ => {
             for _ in 0..r.whole(1, 3) {
                 let at = r.below(file.len());
                 file[at] ^= 1 << r.below(8);
             }
-            unknown(needed, file)
-        }
-        _ => {
-            let numbers = [3, 4, 5, 6, 7, 8, 9, 12, 13, 14];
-            let mut chosen: Vec<u8> = (0..r.whole(1, 3)).map(|_| r.pick(&numbers)).collect();
-            damage::in_order(&mut chosen);
-            let buffer = damage::put_in(r, &mut s, &chosen);
-            // A point more than the most, which a damage may add, is refused with 2.
-            let too_many = s.points.len() > MAX_POINTS;
-            let expected = match too_many {
-                true => Expected::Unknown,
-                false => Expected::Refused(chosen[0]),
-            };
-            let map = match too_many {
-                true => Expected::Unknown,
-                false => damage::map_number(&s, &chosen),
-            };
-            Case {
-                kind: Kind::DamagedWorst,
-                seed,
-                file: s.to_file(),
-                buffer,
-                expected,
-                map,
-            }
         }
     }
+}
+
+/// Damages of several numbers.
+fn other_numbers(r: &mut Random, mut s: Sheet, case: &mut Case) {
+    let numbers = [3, 4, 5, 6, 7, 8, 9, 12, 13, 14];
+    let mut chosen: Vec<u8> = (0..r.whole(1, 3)).map(|_| r.pick(&numbers)).collect();
+    damage::in_order(&mut chosen);
+    case.buffer = damage::put_in(r, &mut s, &chosen);
+    case.file = s.to_file();
+    // A point more than the most, which a damage may add, is refused with 2.
+    if s.points.len() <= MAX_POINTS {
+        case.expected = Expected::Refused(chosen[0]);
+        case.map = damage::map_number(&s, &chosen);
+    }
+}
+
+/// Damages of several numbers, or other bytes.
+fn damaged(r: &mut Random, seed: u64) -> Case {
+    let s = sheet(r);
+    let mut case = Case {
+        kind: Kind::DamagedWorst,
+        seed,
+        file: s.to_file(),
+        buffer: s.points.len() * ROW,
+        expected: Expected::Unknown,
+        map: Expected::Unknown,
+    };
+    match r.below(6) {
+        way @ 0..3 => other_bytes(r, way, &mut case.file),
+        _ => other_numbers(r, s, &mut case),
+    }
+    case
 }
 
 /// The case of one of these kinds.
