@@ -1,4 +1,6 @@
 // The marks of indices, from their line flags, residuals and steps.
+#![tactic(auto)]
+
 ghost use Rattle.std.specs.Prelude.{◌≡◌, List, [], ℕ, ◌≤◌, ◌<◌, get_or, Float};
 ghost use Rattle.folds.specs.Column.{column};
 ghost use Rattle.folds.specs.Below.{some};
@@ -10,7 +12,7 @@ ghost use Rattle.blame.specs.Marks.{evidenceBy, isOutlier, worseOf, blamed, isVi
 use view::{MAX_POINTS, Places, Ranks};
 
 // The place of an index, and its line flags.
-#[derive(Drop)]
+#[derive(Clone, Copy)]
 struct Worst {
     at: usize,
     flags: u16,

@@ -1,4 +1,6 @@
 // The cell of a point: whether it is in range, and its key. Points and cells are defined in specs/.
+#![tactic(auto)]
+
 ghost use Rattle.std.specs.Prelude.{◌≡◌, ◌/◌, ◌%◌};
 ghost use Rattle.cells.specs.Points.{stride, biased, key_at};
 ghost use Rattle.cells.specs.Cell.{signed, within};

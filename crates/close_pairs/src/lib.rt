@@ -1,4 +1,6 @@
 // Points that lie on almost one pixel: a sweep in the order of x, which compares each point only with those that follow it closely.
+#![tactic(auto)]
+
 ghost use Rattle.std.specs.Prelude.{◌≡◌, ◌&&◌, ◌||◌, List, ℕ, ◌+◌, ◌*◌, ◌%◌, ◌≤◌, ◌<◌, eqb, ltb, get_or};
 ghost use Rattle.std.specs.Float.Ieee.{lt};
 ghost use Rattle.folds.specs.Below.{some};

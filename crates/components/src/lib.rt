@@ -1,4 +1,6 @@
 // How many patches there are, which is the largest, and the component mark. See specs/Components.antt.
+#![tactic(auto)]
+
 ghost use Rattle.std.specs.Prelude.{◌≡◌, cond, not, ◌&&◌, List, ◌+◌, ◌≤◌, ◌<◌, eqb, ltb, Float};
 ghost use Rattle.folds.specs.Marked.{bit};
 ghost use Rattle.view.specs.View.{maxPoints, viewAt, Ranked};
@@ -103,7 +105,7 @@ fn others(label: &Places, n: usize, win: usize) -> Marks
 // ---- the component mark
 
 // The component mark of each rank, and how many patches there are.
-#[derive(Drop)]
+#[derive(Clone, Copy)]
 pub struct ComponentFilter {
     pub marks: Marks,
     pub components_seen: usize,

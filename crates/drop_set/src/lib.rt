@@ -1,4 +1,6 @@
 // The filters of a sheet, in two steps: those that go by the points themselves, and those that go by what these leave. See specs/Filters.antt.
+#![tactic(auto)]
+
 ghost use Rattle.std.specs.Prelude.{◌≡◌, List, [], ◌∷◌, ℕ, ◌≤◌, Float};
 ghost use Rattle.folds.specs.Column.{column};
 ghost use Rattle.folds.specs.Marked.{bit};
@@ -23,7 +25,7 @@ use sheet_file::{Fraction, Settings};
 use view::{Floats, MAX_POINTS, Marks, Ranks, Words};
 
 // The bytes of marks, how many patches the survivors have, how many rounds removed a weak end, and the tally.
-#[derive(Drop)]
+#[derive(Clone, Copy)]
 pub struct DropSet {
     pub marks: Marks,
     pub components: usize,

@@ -1,4 +1,6 @@
 // Edge figures and edge reasons: how edges continue through a corner, and the shape of the cells around it.
+#![tactic(auto)]
+
 ghost use Rattle.std.specs.Prelude.{◌≡◌, true, cond, [], ◌≤◌, ◌<◌};
 ghost use Rattle.std.specs.Float.Ieee.{lt};
 ghost use Rattle.offsets.specs.Offsets.{isNear};
@@ -12,7 +14,7 @@ use offsets::{NEXT_U, NEXT_V, OWN, Offset, PREV_U, PREV_UV, PREV_V};
 use sheet_file::EdgeShapeParams;
 use view::{Floats, Ranks};
 
-#[derive(Drop)]
+#[derive(Clone, Copy)]
 struct Side {
     dx: f32,
     dy: f32,
@@ -20,20 +22,20 @@ struct Side {
 }
 
 // A cosine and a ratio of lengths.
-#[derive(Drop)]
+#[derive(Clone, Copy)]
 pub enum Measure {
     Absent,
     Held(f32, f32),
 }
 
 // The four corners of a cell are on the sheet, or not: the measures of its two pairs of opposite sides.
-#[derive(Drop)]
+#[derive(Clone, Copy)]
 enum CellShape {
     Incomplete,
     Complete(Measure, Measure),
 }
 
-#[derive(Drop)]
+#[derive(Clone, Copy)]
 pub enum Reason {
     NoReason,
     LowCardinalDegree,
@@ -41,7 +43,7 @@ pub enum Reason {
     NoValidAdjacentCell,
 }
 
-#[derive(Drop)]
+#[derive(Clone, Copy)]
 pub struct Figures {
     pub degree: u8,
     pub adjacent: u8,

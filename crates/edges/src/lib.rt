@@ -1,4 +1,6 @@
 // The edges of the lattice: the length and the unit vector of each, computed once for all filters.
+#![tactic(auto)]
+
 ghost use Rattle.std.specs.Prelude.{◌≡◌, true, ◌+◌, ◌*◌, ◌≤◌, ◌<◌, get_or, replicate};
 ghost use Rattle.std.specs.Float.{nan};
 ghost use Rattle.offsets.specs.Offsets.{isNear};
@@ -14,7 +16,7 @@ pub const EDGES_SIZE: usize = 6 * MAX_POINTS;
 pub type Edges = [f32; EDGES_SIZE];
 
 // An edge: its length and its unit vector, which means something only where the length is above 0.
-#[derive(Drop)]
+#[derive(Clone, Copy)]
 pub struct Edge {
     pub len: f32,
     pub ux: f32,

@@ -1,4 +1,6 @@
 // The functions of `float` for C and Rust: `harness float-check` runs them over all bit patterns and times them.
+#![tactic(auto)]
+
 ghost use Rattle.std.specs.Prelude.{◌≡◌};
 ghost use Rattle.float.specs.Root.{rootOf};
 ghost use Rattle.float.specs.Scalar.{normOf, absOf, max_of, minOf, clampOf, over30Degrees};

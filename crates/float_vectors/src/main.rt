@@ -1,5 +1,7 @@
 // Reads bit patterns of f32, four bytes each, lowest first. For each it writes a line: the pattern, that of its root, and `over`
 // where a cosine with that pattern is over 30 degrees, else a dash. What it must write was made by `harness vectors float`.
+#![tactic(auto)]
+
 ghost use Rattle.std.specs.Prelude.{◌+◌, ◌≤◌, length};
 
 use libc::{STDIN_FILENO, STDOUT_FILENO};

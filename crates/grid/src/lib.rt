@@ -1,4 +1,6 @@
 // The table of ranks of a sheet (see the crate `view`), from the keys and indices of its points in cell order.
+#![tactic(auto)]
+
 ghost use Rattle.std.specs.Prelude.{◌≡◌, cond, ◌&&◌, ◌+◌, ◌*◌, ◌/◌, ◌%◌, ◌≤◌, ◌<◌, eqb, ltb, length, replicate};
 ghost use Rattle.folds.specs.Column.{column};
 ghost use Rattle.view.specs.View.{maxPoints, ranksSize, rows_at, columnsAt, indicesAt};

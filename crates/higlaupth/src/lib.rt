@@ -1,5 +1,7 @@
 // The calls for C and Rust programs: over `kept::keep`, over `kept_in_run::keep_in_run` with the two ways in which a run starts, over
 // `sheet_map::draw_sheet`, and over `sheet_fills::fill_sheet`.
+#![tactic(auto)]
+
 ghost use Rattle.std.specs.Prelude.{◌≡◌, ◌++◌, length, take, drop};
 ghost use Rattle.runs.specs.Run.{newRun, run_from};
 ghost use Rattle.kept.specs.Answer.{answer_of, rowsAfter};

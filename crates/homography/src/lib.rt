@@ -1,16 +1,18 @@
 // The plane projective map that takes four points to four others, by the normalised construction of Hartley and Zisserman: each four is centred
 // and scaled, eight equations are solved, and the scalings are taken back.
+#![tactic(auto)]
+
 ghost use Rattle.std.specs.Prelude.{◌≡◌};
 ghost use Rattle.homography.specs.Fit.{meanOfFour, meanDistance, normalizingScale, normalizationOf, movedBy, normalizedBy, equationU, equationV, equations_of, rightSide, matrixOf, normalizedMap, denormalizedMap, homographyFrom4pt, appliedTo};
 
-#[derive(Drop)]
+#[derive(Clone, Copy)]
 pub struct PlanePoint {
     pub x: f32,
     pub y: f32,
 }
 
 // A map of the plane, row by row: h12 is entry 2 of row 1.
-#[derive(Drop)]
+#[derive(Clone, Copy)]
 pub struct Homography {
     pub h00: f32,
     pub h01: f32,
@@ -24,7 +26,7 @@ pub struct Homography {
 }
 
 // The map of four points to four others, or the finding that there is none.
-#[derive(Drop)]
+#[derive(Clone, Copy)]
 pub enum HomographyFit {
     Found(Homography),
     NoFit,

@@ -1,4 +1,6 @@
 // From the points of a sheet in cell order to the judged sheet. What it is stands in specs/Judging.antt.
+#![tactic(auto)]
+
 ghost use Rattle.std.specs.Prelude.{◌≡◌, ◌≤◌, replicate};
 ghost use Rattle.view.specs.View.{maxPoints, ranksSize, viewAt};
 ghost use Rattle.grid.specs.Tables.{ranksOf};
@@ -18,7 +20,7 @@ use sheet_file::Settings;
 use view::{Floats, Marks, RANKS_SIZE, Ranks, Words};
 
 // The settings of a sheet, and how many points it has.
-#[derive(Drop)]
+#[derive(Clone, Copy)]
 pub struct Terms {
     pub settings: Settings,
     pub count: usize,

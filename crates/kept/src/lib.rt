@@ -1,4 +1,6 @@
 // The call on a sheet file: its rows and counts, or the number of a refusal.
+#![tactic(auto)]
+
 ghost use Rattle.std.specs.Prelude.{◌≡◌, length};
 ghost use Rattle.ruling.specs.Ruling.{rulingOf};
 ghost use Rattle.ruling.specs.Sheet.{Ruled};
@@ -9,21 +11,21 @@ use judging::Terms;
 use marks::{COUNTS, Tally};
 use ruling::Sheet;
 
-#[derive(Drop)]
+#[derive(Clone, Copy)]
 pub struct Counts {
     pub points: usize,
     pub components: usize,
     pub rounds: usize,
 }
 
-#[derive(Drop)]
+#[derive(Clone, Copy)]
 pub enum Answer {
     Refused(u8),
     Accepted(Counts),
 }
 
 // The answer, and the tally of an accepted sheet; zeros where it is refused.
-#[derive(Drop)]
+#[derive(Clone, Copy)]
 pub struct Kept {
     pub answer: Answer,
     pub tally: Tally,

@@ -1,4 +1,6 @@
 // The call on a sheet file in a run: the call's answer and rows, and the record with the sheet added. What it is stands in specs/InRun.antt.
+#![tactic(auto)]
+
 ghost use Rattle.std.specs.Prelude.{◌≡◌, length};
 ghost use Rattle.kept_in_run.specs.InRun.{answerInRun, runAfter, rowsInRun, addedBy};
 ghost use Rattle.runs.specs.Run.{Takes};
@@ -7,7 +9,7 @@ use kept::Answer;
 use marks::Tally;
 use runs::Run;
 
-#[derive(Drop)]
+#[derive(Clone, Copy)]
 pub struct InRun {
     pub answer: Answer,
     pub run: Run,

@@ -1,11 +1,13 @@
 // A system of eight linear equations, solved by elimination with row exchange. The matrix is a local of `solve` and lent to the steps of the
 // elimination: a call that takes and returns it would copy it.
+#![tactic(auto)]
+
 ghost use Rattle.std.specs.Prelude.{◌≡◌, ◌<◌, ◌≤◌};
 ghost use Rattle.folds.specs.Run.{run};
 ghost use Rattle.linear.specs.Linear.{nextLarger, pivotRow, reduceEntry, reduceRow, reduceRows, eliminateColumn, lessEntry, forwardBy, backwardBy, zeroDiagonal, substituted, solutionOf};
 
 // The solution x, where there is one.
-#[derive(Drop)]
+#[derive(Clone, Copy)]
 pub struct Solution {
     pub found: bool,
     pub x: [f32; 8],

@@ -1,4 +1,6 @@
 // Rows and columns of points: the line fitted to each, and the points that lie off it.
+#![tactic(auto)]
+
 ghost use Rattle.std.specs.Prelude.{◌≡◌, Bool, true, ℕ, ◌+◌, ◌≤◌, ◌<◌, length, get_or, take, replicate, []};
 ghost use Rattle.folds.specs.Below.{first};
 ghost use Rattle.folds.specs.Lists.{Gathered, over};
@@ -14,7 +16,7 @@ ghost use Rattle.lines.specs.Lines.{Members, Chained, Onward, Linked, markIf};
 use view::{Floats, MAX_POINTS, Marks, Places, Ranks, wide};
 
 // A line: its centre and its unit direction.
-#[derive(Drop)]
+#[derive(Clone, Copy)]
 struct Line {
     cx: f32,
     cy: f32,
@@ -22,7 +24,7 @@ struct Line {
     uy: f32,
 }
 
-#[derive(Drop)]
+#[derive(Clone, Copy)]
 struct Vector {
     x: f32,
     y: f32,

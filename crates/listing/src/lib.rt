@@ -1,4 +1,6 @@
 // The text that the program `sheet` prints, into a buffer that the caller lends. What it is stands in specs/Listing.antt.
+#![tactic(auto)]
+
 mod fill;
 mod line;
 

@@ -1,4 +1,6 @@
 // Numbers as bytes, the lowest first, into a buffer that the caller lends. See sheet_file/specs/Bytes.antt.
+#![tactic(auto)]
+
 ghost use Rattle.sheet_file.specs.Bytes.{littleEndian};
 ghost use Rattle.text.specs.Stored.{Stored};
 

@@ -1,4 +1,6 @@
 // The residual of each corner: how far the map fitted to its nearest neighbours takes its cell from where it is seen.
+#![tactic(auto)]
+
 ghost use Rattle.std.specs.Prelude.{◌≡◌, true, not, ◌&&◌, List, [], ◌+◌, ◌*◌, ◌≤◌, ◌<◌, get_or, Float, pos, nat_abs, ◌-ℤ◌};
 ghost use Rattle.offsets.specs.Offsets.{isWithin2, isNear, place_of};
 ghost use Rattle.view.specs.View.{maxPoints, viewAt};
@@ -14,7 +16,7 @@ use offsets::{OWN, Offset};
 use view::{Floats, Ranks, Words};
 
 // The base of a corner, by places in the order of the 24 cells round it. A place of 24 or more is none, and then so are those after it.
-#[derive(Drop)]
+#[derive(Clone, Copy)]
 pub struct Base {
     pub a: usize,
     pub b: usize,
@@ -23,7 +25,7 @@ pub struct Base {
 }
 
 // A place of the order with its offset and the rank there; a place of 24 or more is none.
-#[derive(Drop)]
+#[derive(Clone, Copy)]
 struct Found {
     place: usize,
     offset: Offset,
@@ -31,7 +33,7 @@ struct Found {
 }
 
 // A base with the ranks of its members.
-#[derive(Drop)]
+#[derive(Clone, Copy)]
 struct FoundBase {
     base: Base,
     i: usize,
@@ -41,7 +43,7 @@ struct FoundBase {
 }
 
 // A residual, or the finding that no fit exists.
-#[derive(Drop)]
+#[derive(Clone, Copy)]
 pub enum Residual {
     Value(f32),
     NoFit,

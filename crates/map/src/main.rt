@@ -1,4 +1,6 @@
 // Reads a sheet file from standard input and prints its map, or `refused` and the number. What failed is said on standard error.
+#![tactic(auto)]
+
 use map_lines::MAP_SIZE;
 use sheet_file::FILE_SIZE;
 use standard_input::Input;

@@ -1,4 +1,6 @@
 // The map of a sheet: a line for each v, a character for each u, into a buffer that the caller lends. What it is stands in specs/Map.antt.
+#![tactic(auto)]
+
 pub mod spans;
 
 ghost use Rattle.std.specs.Prelude.{◌≡◌, false, ◌||◌, [], ◌∷◌, ℕ, ◌+◌, ◌^◌, ◌≤◌, ◌<◌, ltb, pos, ◌-ℤ◌};

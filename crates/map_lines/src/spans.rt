@@ -5,14 +5,14 @@ ghost use Rattle.map_lines.specs.Page.{part, lowerOf, higherOf, Spans};
 
 use view::Words;
 
-#[derive(Drop)]
+#[derive(Clone, Copy)]
 pub enum Axis {
     AlongU,
     AlongV,
 }
 
 // The smallest u or v, plus BIAS, and how many values there are from it to the largest.
-#[derive(Drop)]
+#[derive(Clone, Copy)]
 pub struct Span {
     pub least: usize,
     pub count: usize,

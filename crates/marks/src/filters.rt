@@ -22,7 +22,7 @@ pub const COMPONENT: usize = 4;
 const WORD_SIZE: usize = 13;
 
 // A filter: the value of its bit, its letter, and its word with a space on each side, which is so long.
-#[derive(Drop)]
+#[derive(Clone, Copy)]
 struct Filter {
     bit_value: u8,
     letter: u8,

@@ -1,4 +1,6 @@
 // Marks of points, the marks of their indices, the byte of marks of each point, and the tally.
+#![tactic(auto)]
+
 pub mod filters;
 
 ghost use Rattle.std.specs.Prelude.{◌≡◌, cond, ◌&&◌, List, [], ℕ, ◌+◌, ◌≤◌, ◌<◌, eqb, ltb, Float};

@@ -1,4 +1,6 @@
 // Matrices of three rows of three.
+#![tactic(auto)]
+
 ghost use Rattle.std.specs.Prelude.{◌≡◌, ◌<◌};
 ghost use Rattle.matrix.specs.Matrix.{innerSum, rowTimes, productEntry, productOf, minor, determinantOf, inverseOf};
 

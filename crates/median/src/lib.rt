@@ -1,4 +1,6 @@
 // The median of an array's numbers: of the positive ones, by a sort of their bit patterns; of all, by a sort of keys that rise with them.
+#![tactic(auto)]
+
 ghost use Rattle.std.specs.Prelude.{◌≡◌, ◌≤◌, ◌<◌, T, length};
 ghost use Rattle.std.specs.Float.Ieee.Scale.{finite};
 ghost use Rattle.view.specs.View.{maxPoints, Finite};

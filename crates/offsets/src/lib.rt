@@ -1,9 +1,11 @@
 // Offsets: what is added to a cell's u and v. The named ones, and the place that each has among the 25 of a corner. See specs/Offsets.antt.
+#![tactic(auto)]
+
 ghost use Rattle.std.specs.Prelude.{◌≡◌, true, ◌≤◌, ◌<◌};
 ghost use Rattle.offsets.specs.Offsets.{isWithin2, upBy2, isNear, place_of};
 
 // A pair (du, dv).
-#[derive(Drop)]
+#[derive(Clone, Copy)]
 pub struct Offset {
     pub du: i8,
     pub dv: i8,

@@ -1,4 +1,6 @@
 // Votes on the orientation of the lattice, and the marks of the indices whose points cast those of the minority.
+#![tactic(auto)]
+
 ghost use Rattle.std.specs.Prelude.{◌≡◌, [], ℕ, ◌*◌, ◌≤◌, ◌<◌, eqb, get_or};
 ghost use Rattle.folds.specs.Below.{some, tally};
 ghost use Rattle.folds.specs.Column.{column};

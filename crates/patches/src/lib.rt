@@ -1,4 +1,6 @@
 // Patches of surviving points: cells joined by shared edges, over any list of offsets, which are given by their places. See specs/Patches.antt.
+#![tactic(auto)]
+
 pub mod boxes;
 
 ghost use Rattle.std.specs.Prelude.{◌≡◌, true, List, ◌+◌, ◌≤◌, ◌<◌, Float};

@@ -1,5 +1,7 @@
 // Weak ends of a patch, peeled in rounds, over any list of offsets, which are given by their places. See specs/Peel.antt for what is computed,
 // and specs/Work.antt for the arrays.
+#![tactic(auto)]
+
 ghost use Rattle.std.specs.Prelude.{◌≡◌, true, List, [], ℕ, ◌*◌, ◌≤◌, ◌<◌, eqb, Float, length, get_or, replicate};
 ghost use Rattle.view.specs.View.{maxPoints, viewAt, Ranked};
 ghost use Rattle.marks.specs.Marks.{is_set};
@@ -210,7 +212,7 @@ fn remove(queue: &Places, from: usize, end: usize, state: &mut Marks)
 // ---- the whole
 
 // The mark of each rank, and how many rounds removed something.
-#[derive(Drop)]
+#[derive(Clone, Copy)]
 pub struct Peeled {
     pub marks: Marks,
     pub rounds: usize,

@@ -1,4 +1,6 @@
 // The points of a sheet file: the refusals 6, 7, 13, 8, 9 and 14, and the points in cell order.
+#![tactic(auto)]
+
 ghost use Rattle.std.specs.Prelude.{◌≡◌, ◌||◌, [], ℕ, ◌+◌, ◌*◌, ◌/◌, ◌%◌, ◌≤◌, ◌<◌, length, get_or};
 ghost use Rattle.std.specs.Float.{nan};
 ghost use Rattle.folds.specs.Among.{anyIn};
@@ -16,7 +18,7 @@ use sheet_file::{Fraction, Layout};
 use view::{Floats, MAX_POINTS, Words};
 
 // What of a point is looked at: by the numbers 6 and 8 its cell, by 7 and 9 its position, by 13 and 14 its strength.
-#[derive(Drop)]
+#[derive(Clone, Copy)]
 pub enum Part {
     Cell,
     Position,
@@ -273,7 +275,7 @@ fn strengths(file: &[u8], f: Layout, entries: &[u64; MAX_POINTS]) -> Floats
 }
 
 // The points in cell order, one array a field; or one of the numbers 6, 7, 13, 8, 9 and 14, and no points.
-#[derive(Drop)]
+#[derive(Clone, Copy)]
 pub struct Table {
     pub number: u8,
     pub keys: Words,

@@ -1,5 +1,7 @@
 // Positions for dropped points, from the kept ones, over any list of offsets, which are given by their places. See specs/Predict.antt and
 // specs/Fills.antt.
+#![tactic(auto)]
+
 ghost use Rattle.std.specs.Prelude.{◌≡◌, ◌≤◌, ◌<◌, get_or};
 ghost use Rattle.std.specs.Float.{nan};
 ghost use Rattle.folds.specs.Arith.{◌⊕◌, ◌⊗◌};
@@ -12,7 +14,7 @@ ghost use Rattle.predict.specs.Sums.{Asked, FewSides, sumsWith, meanBy};
 use view::{Floats, MAX_POINTS, Marks, Ranks};
 
 // The average of the midpoints of the opposite pairs, and how many there are.
-#[derive(Drop)]
+#[derive(Clone, Copy)]
 pub struct PredictedPosition {
     pub x: f32,
     pub y: f32,
@@ -20,7 +22,7 @@ pub struct PredictedPosition {
 }
 
 // What is predicted for a cell.
-#[derive(Drop)]
+#[derive(Clone, Copy)]
 pub enum Prediction {
     NoPair,
     Pairs(PredictedPosition),
@@ -30,7 +32,7 @@ pub enum Prediction {
 pub type Fills = [Prediction; MAX_POINTS];
 
 // The sums of the midpoints met so far, and how many there were.
-#[derive(Drop)]
+#[derive(Clone, Copy)]
 struct Sums {
     x: f32,
     y: f32,

@@ -1,6 +1,8 @@
 // What the programs that replay recorded files share (harness/README.md, "Vectors"): reading a case, what stands in a buffer before the call,
 // what came against what is recorded, and the lines that are printed. No contract can speak of what is read or printed: a function that does
 // either is proved safe and ending, and promises what else it returns. What the others return stands in specs/Recorded.antt.
+#![tactic(auto)]
+
 ghost use Rattle.std.specs.Prelude.{◌≡◌, length};
 ghost use Rattle.folds.specs.Same.{same_list};
 ghost use Rattle.recorded.specs.Recorded.{Fits, filler, isRecorded, isFilled, sameRun, isText, differing};
@@ -21,7 +23,7 @@ pub const ROOM: usize = 100000;
 // ---- a case
 
 // The number of the refusal, or 0, and the counts.
-#[derive(Drop)]
+#[derive(Clone, Copy)]
 pub struct RecordedAnswer {
     pub number: usize,
     pub points: usize,
@@ -30,7 +32,7 @@ pub struct RecordedAnswer {
 }
 
 // Of the call for the fills: the number of the refusal, or 0, and the count.
-#[derive(Drop)]
+#[derive(Clone, Copy)]
 pub struct RecordedFills {
     pub number: usize,
     pub fills: usize,

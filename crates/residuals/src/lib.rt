@@ -1,4 +1,6 @@
 // The residuals of indices: "a residual comes from the last cell, in the order of the rows, having one", and a flag from any cell stays.
+#![tactic(auto)]
+
 ghost use Rattle.std.specs.Prelude.{◌≡◌, ℕ, ◌≤◌, get_or};
 ghost use Rattle.std.specs.Float.{nan};
 ghost use Rattle.folds.specs.Marked.{bit};
@@ -12,7 +14,7 @@ use view::{Floats, MAX_POINTS, Marks, Ranks, Words};
 mod by_index;
 
 // For each rank: whether there is a residual, and which, or 0; whether it is over the tolerance, and over twice the tolerance.
-#[derive(Drop)]
+#[derive(Clone, Copy)]
 pub struct Residuals {
     pub has: Marks,
     pub value: Floats,

@@ -1,4 +1,6 @@
 // Rows: what is shown of each point, 28 bytes in cell order.
+#![tactic(auto)]
+
 ghost use Rattle.std.specs.Prelude.{◌≡◌, ◌+◌, ◌*◌, ◌≤◌, length};
 ghost use Rattle.std.proofs.lemmas.List.Edits.{sets};
 ghost use Rattle.view.specs.View.{maxPoints};

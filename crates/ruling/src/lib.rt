@@ -1,4 +1,6 @@
 // The ruling on a sheet file: the number of a refusal, or the settings and the points in cell order.
+#![tactic(auto)]
+
 ghost use Rattle.points.specs.Records.{pointsIn, PointsFit};
 ghost use Rattle.points.specs.Table.{Tabled};
 ghost use Rattle.ruling.specs.Ruling.{refused, rulingFor, rulingOf, rowsSize};
@@ -20,7 +22,7 @@ pub fn rows_size() -> usize
 }
 
 // The settings, how many points there are, and the points in cell order. The number of a refusal is the table's; it is 0 for none.
-#[derive(Drop)]
+#[derive(Clone, Copy)]
 pub struct Sheet {
     pub settings: Settings,
     pub count: usize,

@@ -1,6 +1,8 @@
 // Replays recorded calls in a run (harness/README.md, "Vectors"): each through `kept_in_run::keep_in_run` with a buffer of the recorded length
 // and the recorded record of the run. It writes a line for each file whose number, counts, rows, bytes after the rows or record afterwards
 // differ from what is recorded, and at the end how many files there were and how many differ.
+#![tactic(auto)]
+
 use recorded::{LONGEST, ROOM, RecordedAnswer};
 use runs::Run;
 

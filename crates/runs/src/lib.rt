@@ -1,4 +1,6 @@
 // The record of a run: how it starts, when it is full, and the record with one sheet more. What it is stands in specs/Run.antt.
+#![tactic(auto)]
+
 ghost use Rattle.std.specs.Prelude.{◌≡◌, ◌<◌, length, get_or};
 ghost use Rattle.runs.specs.Run.{summed, run_from, newRun, full, withSheet, Takes};
 
@@ -22,7 +24,7 @@ const SUMMED: [usize; NEW_SUMS] = [FILTERS, VALIDATE, ORIENTATION, WRONG, LEAF, 
 
 // The sums of the tallies under the old count, which counted cells; how many sheets were accepted; and the sums of their tallies, which
 // count indices.
-#[derive(Drop)]
+#[derive(Clone, Copy)]
 pub struct Run {
     pub old_sums: [u32; OLD_SUMS],
     pub sheets: u32,

@@ -1,4 +1,6 @@
 // The sheet file: its fields, the refusals 1, 12 and 2 to 5 and the settings. Any bytes are read.
+#![tactic(auto)]
+
 ghost use Rattle.std.specs.Prelude.{◌≡◌, true, false, ◌+◌, ◌*◌, ◌≤◌, ◌<◌, length};
 ghost use Rattle.folds.specs.Among.{anyIn};
 ghost use Rattle.folds.specs.Arith.{f32};
@@ -94,7 +96,7 @@ pub fn float_at(file: &[u8], at: usize) -> f32
 // ---- the settings
 
 // The tolerances of the edge-shape gate, as tag 2 gives them.
-#[derive(Drop)]
+#[derive(Clone, Copy)]
 pub struct EdgeShapeParams {
     pub min_cardinal_degree: u8,
     pub continuation_cos_min: f32,
@@ -103,21 +105,21 @@ pub struct EdgeShapeParams {
     pub cell_opposite_length_ratio_max: f32,
 }
 
-#[derive(Drop)]
+#[derive(Clone, Copy)]
 pub enum EdgeGate {
     Off,
     On(EdgeShapeParams),
 }
 
 // The fraction of tag 4: none without that tag; one that number 13 refuses, of which no f32 is made; or the fraction.
-#[derive(Drop)]
+#[derive(Clone, Copy)]
 pub enum Fraction {
     Missing,
     Outside,
     Given(f32),
 }
 
-#[derive(Drop)]
+#[derive(Clone, Copy)]
 pub struct Settings {
     pub cell_size: f32,
     pub line_tol_rel: f32,
@@ -169,7 +171,7 @@ impl Settings {
 
 // Where the fields stand: whether tag 1 has length 21, whether there is a tag 2, where the points begin and how many there are, whether there
 // is a tag 4, where its data begin and how many bytes they are.
-#[derive(Drop)]
+#[derive(Clone, Copy)]
 pub struct Layout {
     pub full: bool,
     pub gated: bool,
@@ -180,7 +182,7 @@ pub struct Layout {
     pub strengths_len: usize,
 }
 
-#[derive(Drop)]
+#[derive(Clone, Copy)]
 pub enum Framing {
     Framed(Layout),
     Misframed,
@@ -303,13 +305,13 @@ pub fn frame(file: &[u8]) -> Framing
 // ---- what is read
 
 // The settings, and where the fields stand.
-#[derive(Drop)]
+#[derive(Clone, Copy)]
 pub struct Header {
     pub settings: Settings,
     pub layout: Layout,
 }
 
-#[derive(Drop)]
+#[derive(Clone, Copy)]
 pub enum Reading {
     Refused(u8),
     Accepted(Header),

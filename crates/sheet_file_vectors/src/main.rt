@@ -1,6 +1,8 @@
 // Replays recorded sheet files. Each case is the file's length and the result buffer's, both u32, and then the file's bytes. For each it
 // writes a line: the number of the refusal or 0, the number of points, and a digest of the points in cell order and of the fraction. What it
 // must write was made by `harness vectors sheet_file`.
+#![tactic(auto)]
+
 use libc::{STDIN_FILENO, STDOUT_FILENO};
 use sheet_file::Fraction;
 use view::{Floats, MAX_POINTS, Words};

@@ -1,5 +1,7 @@
 // From the bytes of a sheet file to the positions for its dropped points, as bytes into a buffer that the caller lends. What they are stands in
 // specs/Bytes.antt and specs/Answer.antt.
+#![tactic(auto)]
+
 ghost use Rattle.std.specs.Prelude.{◌≡◌, ◌≤◌, ◌++◌, length, pos, ◌-ℤ◌};
 ghost use Rattle.view.specs.View.{maxPoints};
 ghost use Rattle.cells.specs.Points.{bias};
@@ -20,13 +22,13 @@ use view::{MAX_POINTS, Marks, RANKS_SIZE, Words};
 // The bytes of a fill.
 pub const FILL_SIZE: usize = 20;
 
-#[derive(Drop)]
+#[derive(Clone, Copy)]
 pub struct FillCounts {
     pub points: usize,
     pub fills: usize,
 }
 
-#[derive(Drop)]
+#[derive(Clone, Copy)]
 pub enum FillAnswer {
     Refused(u8),
     Filled(FillCounts),

@@ -1,4 +1,6 @@
 // From the bytes of a sheet file to the text that the program `sheet` prints. What it is stands in specs/Text.antt.
+#![tactic(auto)]
+
 ghost use Rattle.text.specs.Answer.{Shows};
 ghost use Rattle.sheet_listing.specs.Text.{text_of};
 

@@ -1,4 +1,6 @@
 // From the bytes of a sheet file to the text that the program `map` prints. What it is stands in specs/Text.antt.
+#![tactic(auto)]
+
 ghost use Rattle.judging.specs.Judging.{Arrays};
 ghost use Rattle.text.specs.Answer.{Shows};
 ghost use Rattle.sheet_map.specs.Text.{mapTextOf};

@@ -1,6 +1,8 @@
 // Replays recorded sheet files (harness/README.md, "Vectors"): each through `kept::keep` and `sheet_fills::fill_sheet` with a buffer of the
 // recorded length, through `sheet_listing::list_sheet` and through `sheet_map::draw_sheet`. It writes a line for each file whose number, counts,
 // rows, fills, bytes after either, listing or map differ from the record, and at the end how many files there were and how many differ.
+#![tactic(auto)]
+
 use listing::LISTING_SIZE;
 use map_lines::MAP_SIZE;
 use recorded::{LONGEST, ROOM, RecordedAnswer, RecordedFills};

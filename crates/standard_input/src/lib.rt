@@ -1,11 +1,13 @@
 // Reading a file from standard input, for the programs.
+#![tactic(auto)]
+
 ghost use Rattle.std.specs.Prelude.{length};
 ghost use Rattle.standard_input.specs.Input.{Within};
 
 use libc::STDIN_FILENO;
 
 // What came of standard input.
-#[derive(Drop)]
+#[derive(Clone, Copy)]
 pub enum Input {
     // So many bytes, at the start of the buffer: all that there were, or as many as it holds.
     Read(usize),

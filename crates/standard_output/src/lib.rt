@@ -1,4 +1,6 @@
 // Printing a text to standard output, for the programs.
+#![tactic(auto)]
+
 ghost use Rattle.std.specs.Prelude.{length};
 ghost use Rattle.standard_output.specs.Within.{Within};
 

@@ -1,4 +1,6 @@
 // The local step of each index, its scale, and the steps that lie too far from their median.
+#![tactic(auto)]
+
 ghost use Rattle.std.specs.Prelude.{◌≡◌, true, ◌&&◌, List, [], ℕ, ◌≤◌, ◌<◌, get_or, Float};
 ghost use Rattle.std.specs.Float.{nan};
 ghost use Rattle.std.specs.Float.Ieee.{lt};
@@ -16,7 +18,7 @@ use offsets::Offset;
 use view::{Floats, MAX_POINTS, Marks, Ranks, rank_at};
 
 // A step, or none, whose value is 0.
-#[derive(Drop)]
+#[derive(Clone, Copy)]
 struct Step {
     there: bool,
     value: f32,

@@ -1,4 +1,6 @@
 // Which points are weak: fainter than a fraction of the median strength of the sheet.
+#![tactic(auto)]
+
 ghost use Rattle.std.specs.Prelude.{◌≡◌, ◌≤◌};
 ghost use Rattle.std.specs.Float.Ieee.{lt};
 ghost use Rattle.folds.specs.Marked.{bit};

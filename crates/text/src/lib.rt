@@ -1,12 +1,14 @@
 // Texts into a buffer that the caller lends, piece by piece. Each piece stores its text from a place on and returns the place
 // after it; what does not fit is left out, and the last place tells.
+#![tactic(auto)]
+
 ghost use Rattle.std.specs.Prelude.{◌≡◌, [], ◌∷◌, ◌<◌, pos, ◌-ℤ◌, length};
 ghost use Rattle.text.specs.Answer.{written_of, Shows};
 ghost use Rattle.text.specs.Text.{decimal, whole, hexDigit, hex, spaces, rightAligned, refusalOf};
 ghost use Rattle.text.specs.Stored.{Stored};
 
 // What became of a text.
-#[derive(Drop)]
+#[derive(Clone, Copy)]
 pub enum Written {
     // All of it stands at the start of the buffer: so many bytes.
     Whole(usize),

@@ -1,4 +1,6 @@
 // The validate mark of each index, its residual and its edge figures: rules 1 to 5 over lines, residuals, steps and edge shapes.
+#![tactic(auto)]
+
 ghost use Rattle.std.specs.Prelude.{◌≡◌, ◌||◌, List, ℕ, ◌≤◌, eqb, Float};
 ghost use Rattle.folds.specs.Column.{column};
 ghost use Rattle.folds.specs.Marked.{bit};
@@ -19,7 +21,7 @@ use sheet_file::{EdgeGate, Settings};
 use view::{Floats, MAX_POINTS, Marks, Ranks, Words};
 
 // What rules 1 to 4 give: the mark of each rank's index, and its residual, if it has one.
-#[derive(Drop)]
+#[derive(Clone, Copy)]
 struct ByRules {
     marks: Marks,
     has: Marks,

@@ -1,4 +1,6 @@
 // What the filters see of a sheet, as arrays: the most points, the table of ranks and what is read of it. See specs/View.antt.
+#![tactic(auto)]
+
 ghost use Rattle.std.specs.Prelude.{◌≡◌, true, [], ◌+◌, ◌*◌, ◌≤◌, ◌<◌, get_or, ltb};
 ghost use Rattle.view.specs.View.{maxPoints, ranksSize, rows_at, columnsAt, indicesAt, viewAt, degreeAt};
 ghost use Rattle.folds.specs.Marked.{bit};

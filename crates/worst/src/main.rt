@@ -1,5 +1,7 @@
 // Writes the sheet of n points that takes longest, where n is its one argument, and nothing for anything else. What failed is said on
 // standard error.
+#![tactic(auto)]
+
 use worst_sheet::WORST_SIZE;
 
 fn print_sheet(argument: &[u8]) {

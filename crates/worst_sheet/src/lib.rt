@@ -1,4 +1,6 @@
 // The sheet of n points that takes longest, as the bytes of its file, into a buffer that the caller lends. What it is stands in specs/Worst.antt.
+#![tactic(auto)]
+
 ghost use Rattle.std.specs.Prelude.{◌≡◌, ℕ, ◌/◌, ◌%◌, ◌<◌, ◌≤◌, [], ◌∷◌};
 ghost use Rattle.folds.specs.Same.{same_list};
 ghost use Rattle.view.specs.View.{maxPoints};

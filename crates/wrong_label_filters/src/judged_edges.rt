@@ -15,7 +15,7 @@ use edges::Edges;
 use float::constants::{GLOBAL_OVERLONG_RATIO, OVERLONG_RATIO};
 use view::{Floats, MAX_POINTS, Marks, Ranks};
 
-#[derive(Drop)]
+#[derive(Clone, Copy)]
 struct Window {
     count: usize,
     under: usize,
@@ -24,14 +24,14 @@ struct Window {
 }
 
 // 1.6 times the median of the sheet's positive lengths, where it is known: only an edge with few others in its window asks for it.
-#[derive(Drop)]
+#[derive(Clone, Copy)]
 struct Limit {
     known: bool,
     value: f32,
 }
 
 // Whether an edge fails, and the sheet's limit, if it is known by then.
-#[derive(Drop)]
+#[derive(Clone, Copy)]
 struct Verdict {
     fails: bool,
     limit: Limit,

@@ -1,4 +1,6 @@
 // The wrong-label filter: the marks of edges that fail, of points on one pixel and of line ends with a kink, by index.
+#![tactic(auto)]
+
 mod frontier;
 mod judged_edges;
 
