@@ -1,0 +1,12 @@
+use Prim.Native.Nat.{◌+◌, ◌*◌, ◌^◌, ◌≤◌, ◌<◌}
+use borrow.Author.Rules.{rules}
+use native.Mathlib.Omega.{arith}
+use Rattle.float.proofs.Near.{floor-only}
+use Rattle.float.proofs.Squares.{Stepped, newton-stepped, first_step, product_lt, square-pos}
+use Rattle.float.proofs.floor_root.Given as goal
+
+abbrev pub invariant-loop-r : goal.invariant-loop-r
+invariant-loop-r l = (l.n < (l.r + 1) * (l.r + 1)) × (l.r < 2 ^ 27)
+
+abbrev pub decreases-loop-r : goal.decreases-loop-r
+decreases-loop-r l = l.r

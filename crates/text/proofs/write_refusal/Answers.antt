@@ -1,0 +1,9 @@
+use Rattle.text.specs.Text.{refusalOf}
+use Rattle.text.proofs.Stores.{stored-then, shows}
+use borrow.Author.Rules.{rules}
+use Rattle.text.proofs.write_refusal.Goals as goal
+
+pub returns : goal.returns
+unfolding refusalOf
+returns c =
+    shows (stored-then (stored-then c.put_text-a.ensures c.put_decimal-b.ensures) c.put_byte-c.ensures) c.answer.ensures
