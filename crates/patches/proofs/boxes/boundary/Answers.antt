@@ -1,9 +1,7 @@
--- `patches::boxes::boundary` meets its contract. Assumes nothing.
 use mathlib.Core.Path.{◌≡◌, refl, sym, ap, ◌∙◌}
 use mathlib.Core.Bool.{◌&&◌}
 use mathlib.Core.List.{List, []}
 use Prim.Native.Nat.{ℕ}
-use borrow.Author.Rules.{rules}
 use lib.Dec.{eqb, ltb}
 use lib.ListN.{replicate}
 use Rattle.folds.proofs.Lists.{past_end}
@@ -13,23 +11,17 @@ use Rattle.cells.specs.Cell.{cellsAt}
 use Rattle.patches.specs.Patches.{labelsOf}
 use Rattle.patches.proofs.Agreeing.{labels-depend}
 use Rattle.patches.specs.Boxes.{boundaryAmong, boundaryOf}
-use Rattle.patches.proofs.boxes.boundary.Statement.{statement}
-use Rattle.patches.proofs.boxes.boundary.Tie as tie
+use Rattle.patches.proofs.boxes.boundary.Goals as goal
 
 -- with nothing dropped, every rank survives
 all_alike : (n : ℕ) (near : ℕ → ℕ) (sides : List ℕ) → labelsOf n near sides (replicate maxPoints 0) ≡ labelsOf n near sides []
 all_alike n near sides =
     labels-depend n near near sides sides (replicate maxPoints 0) [] (λ k h. ap (λ (x : ℕ). ltb k n && eqb x 0) (replicate-at {A = ℕ} maxPoints 0 k ∙ sym (past_end 0 k))) (λ a b h g. refl)
 
-returns : tie.Need-returns
+pub returns : goal.returns
 unfolding boundaryOf
 returns c xs ys =
-    let l = c.before.before in
-    let a = l.before.before.before.args in
+    let a = c.args in
     let w = viewAt a.n a.ranks.now [] [] in
-    c.boundary-among.ensures
-    ∙ ap (λ (s : List ℕ). boundaryAmong w s (cellsAt a.keys.now)) (l.labels.ensures [] [] ∙ all_alike a.n w.near a.sides.now)
-
-pub boundary-spec : {M : Type 1} → statement M
-boundary-spec = tie.close
-    (tie.spec (λ c κs. search rules) (λ c κs. search rules) returns)
+    c.boundary_among.ensures
+    ∙ ap (λ (s : List ℕ). boundaryAmong w s (cellsAt a.keys.now)) (c.labels-label.ensures [] [] ∙ all_alike a.n w.near a.sides.now)
