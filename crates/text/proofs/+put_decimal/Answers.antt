@@ -1,22 +1,9 @@
-use borrow.Author.Rules.{rules}
-use mathlib.Core.Path.{◌∙◌}
-use Prim.Native.Nat.{ℕ, ◌<◌}
-use native.Mathlib.Omega.{arith}
 use Rattle.text.proofs.Numbers.{decimal-one, decimal-more}
 use Rattle.text.proofs.Stores.{stored-then}
-use borrow.Fn.Kinds.{In}
-use borrow.Fn.PlainCycle.{Measures, is, falls, and}
-use Rattle.text.proofs.put_decimal.Reads as put-decimal
-use Rattle.text.proofs.put_decimal.Kinds as put-decimal-kinds
-use Rattle.text.proofs.+put_decimal.Lts-put_decimal as put-decimal-lts
-use Rattle.text.proofs.put_byte.Reads as put-byte-reads
-use Rattle.text.proofs.+put_decimal.{statement}
 use Rattle.text.proofs.+put_decimal.Goals as goal
 
 pub returns-then-n-lt10 : goal.returns-then-n-lt10
-returns-then-n-lt10 c =
-    c.put-byte2.auto.1.0 ∙ c.put-decimal.auto.1.0
+returns-then-n-lt10 t c = rw (decimal-one c.args.n c.if-n-lt10.true) c.put_byte.ensures
 
 pub returns : goal.returns
-returns c =
-    c.put-byte2.auto.1.0 ∙ c.put-decimal.auto.1.0
+returns t c = rw (decimal-more c.args.n c.if-n-lt10.false) (stored-then c.put_decimal-next.ensures c.put_byte-2.ensures)

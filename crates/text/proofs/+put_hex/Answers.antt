@@ -1,23 +1,9 @@
-use borrow.Author.Rules.{rules}
-use mathlib.Core.Path.{◌∙◌}
-use Prim.Native.Nat.{ℕ, ◌<◌}
-use native.Mathlib.Omega.{arith}
 use Rattle.text.proofs.Numbers.{hex-none, hex-more}
 use Rattle.text.proofs.Stores.{stored-none, stored-then}
-use borrow.Fn.Kinds.{In}
-use borrow.Fn.PlainCycle.{Measures, is, falls, and}
-use Rattle.text.proofs.put_hex.Reads as put-hex
-use Rattle.text.proofs.put_hex.Kinds as put-hex-kinds
-use Rattle.text.proofs.+put_hex.Lts-put_hex as put-hex-lts
-use Rattle.text.proofs.hex_digit.Reads as hex-digit-reads
-use Rattle.text.proofs.put_byte.Reads as put-byte-reads
-use Rattle.text.proofs.+put_hex.{statement}
 use Rattle.text.proofs.+put_hex.Goals as goal
 
 pub returns-then-count-eq0 : goal.returns-then-count-eq0
-returns-then-count-eq0 c =
-    c.put_byte.auto.1.0 ∙ c.put-hex.auto.1.1.0
+returns-then-count-eq0 t c = rw (hex-none c.args.count c.args.b c.if-count-eq0.true) stored-none
 
 pub returns : goal.returns
-returns c =
-    c.put_byte.auto.1.0 ∙ c.put-hex.auto.1.1.0
+returns t c = rw (hex-more c.args.count c.args.b c.if-count-eq0.false, ← c.hex_digit.ensures) (stored-then c.put_hex-next.ensures c.put_byte.ensures)

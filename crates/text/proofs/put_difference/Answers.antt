@@ -1,6 +1,5 @@
 use Rattle.text.proofs.Numbers.{whole_below, whole_from}
 use Rattle.text.proofs.Stores.{stored-then}
-use borrow.Author.Rules.{rules}
 use Rattle.text.proofs.put_difference.Goals as goal
 
 pub returns-then-a-b : goal.returns-then-a-b

@@ -6,7 +6,6 @@ use lib.IntN.{pos, ◌-ℤ◌}
 use lib.ListN.{length}
 use Rattle.text.specs.Text.{bytes, whole, spaces, rightAligned}
 use Rattle.text.proofs.Stores.{stored-then, each_none}
-use borrow.Author.Rules.{rules}
 use Rattle.text.proofs.put_right.Goals as goal
 
 none : spaces 0 ≡ []

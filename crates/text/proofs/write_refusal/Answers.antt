@@ -1,6 +1,5 @@
 use Rattle.text.specs.Text.{refusalOf}
 use Rattle.text.proofs.Stores.{stored-then, shows}
-use borrow.Author.Rules.{rules}
 use Rattle.text.proofs.write_refusal.Goals as goal
 
 pub returns : goal.returns

@@ -1,0 +1,14 @@
+use mathlib.Core.Path.{◌≡◌}
+use mathlib.Core.List.{[]}
+use Prim.Native.Nat.{◌≤◌, ◌-◌}
+use native.Mathlib.Omega.{arith}
+use Rattle.view.specs.View.{viewAt}
+use Rattle.marks.proofs.Counts.{Counted, counted_start, counted_skip, counted-more, counted-small, counted}
+use borrow.Author.Rules.{rules}
+use Rattle.marks.proofs.tally.Given as goal
+
+abbrev pub invariant-loop-k : goal.invariant-loop-k
+invariant-loop-k l = (l.k ≤ l.n) × Counted (viewAt l.n l.ranks [] []) l.marks l.k l.counts
+
+abbrev pub decreases-loop-k : goal.decreases-loop-k
+decreases-loop-k l = l.n - l.k
