@@ -1,11 +1,5 @@
-use native.Mathlib.Omega.{arith}
-use lib.ListN.{replicate}
-use lib.Ieee.{nan}
-use Rattle.folds.proofs.Column.{fill_start}
 use Rattle.view.specs.View.{viewAt}
-use Rattle.edges.specs.Edges.{edgesSize}
 use Rattle.edges.proofs.Laws.{table_done}
-use borrow.Author.Rules.{rules}
 use Rattle.edges.proofs.fill.Goals as goal
 
 pub returns : goal.returns

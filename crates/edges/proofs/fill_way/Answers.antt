@@ -1,10 +1,7 @@
-use Prim.Native.Nat.{◌-◌, ◌≤◌}
 use mathlib.Core.Path.{◌≡◌}
 use native.Mathlib.Omega.{arith}
 use Rattle.view.specs.View.{viewAt}
-use Rattle.edges.specs.Edges.{edgePlace, FilledTo}
 use Rattle.edges.proofs.Laws.{edge_more, way-done}
-use borrow.Author.Rules.{rules}
 use Rattle.edges.proofs.fill_way.Goals as goal
 
 pub loop-k-preserved : goal.loop-k-preserved
