@@ -1,14 +1,12 @@
-use Prim.Native.Nat.{ℕ, ◌+◌, ◌-◌, ◌≤◌, ◌<◌}
+use Prim.Native.Nat.{ℕ, ◌<◌}
 use mathlib.Core.Path.{◌≡◌}
 use mathlib.Core.List.{[]}
 use native.Mathlib.Omega.{arith}
-use lib.ListN.{get_or, replicate, length-replicate}
-use Rattle.folds.specs.Column.{column, Filling}
-use Rattle.folds.proofs.Column.{fill_start, fill_more, filled, column-at}
+use lib.ListN.{replicate, length-replicate}
+use Rattle.folds.proofs.Column.{fill_more, filled, column-at}
 use Rattle.folds.specs.Marked.{bit}
-use Rattle.view.specs.View.{maxPoints, indicesAt, viewAt}
+use Rattle.view.specs.View.{maxPoints, viewAt}
 use Rattle.marks.specs.Marks.{placeHas, indexMarks}
-use borrow.Author.Rules.{rules}
 use Rattle.marks.proofs.by_index.Goals as goal
 
 pub loop-k-preserved : goal.loop-k-preserved

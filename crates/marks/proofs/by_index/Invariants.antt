@@ -1,18 +1,15 @@
-use Prim.Native.Nat.{ℕ, ◌+◌, ◌-◌, ◌≤◌, ◌<◌}
+use Prim.Native.Nat.{ℕ, ◌+◌, ◌-◌, ◌≤◌}
 use mathlib.Core.Path.{◌≡◌}
 use mathlib.Core.List.{[]}
-use native.Mathlib.Omega.{arith}
-use lib.ListN.{get_or, replicate, length-replicate}
+use lib.ListN.{get_or, replicate}
 use Rattle.folds.specs.Column.{column, Filling}
-use Rattle.folds.proofs.Column.{fill_start, fill_more, filled, column-at}
 use Rattle.folds.specs.Marked.{bit}
 use Rattle.view.specs.View.{maxPoints, indicesAt, viewAt}
-use Rattle.marks.specs.Marks.{placeHas, indexMarks}
-use borrow.Author.Rules.{rules}
+use Rattle.marks.specs.Marks.{placeHas}
 use Rattle.marks.proofs.by_index.Given as goal
 
 abbrev pub invariant-loop-k : goal.invariant-loop-k
-invariant-loop-k l = 
+invariant-loop-k l =
     (l.k ≤ l.n)
     × Filling (replicate maxPoints 0) 0 (λ (j : ℕ). bit (placeHas (viewAt l.n l.ranks [] []) l.mark (get_or l.ranks (indicesAt + j) 0))) l.k l.out
     × (l.held ≡ column maxPoints 0 l.n (λ (m : ℕ). bit (placeHas (viewAt l.n l.ranks [] []) l.mark m)))

@@ -8,7 +8,7 @@ use Rattle.marks.specs.Byte.{withMark}
 use Rattle.marks.proofs.marked_by.Given as goal
 
 abbrev pub invariant-loop-k : goal.invariant-loop-k
-invariant-loop-k l = 
+invariant-loop-k l =
     (l.k ≤ l.n) × Filling (replicate maxPoints 0) 0 (λ (j : ℕ). cond (is_set l.mark j) (withMark l.f (get_or l.marks j 0)) (get_or l.marks j 0)) l.k l.out
 
 abbrev pub decreases-loop-k : goal.decreases-loop-k

@@ -1,9 +1,8 @@
 use mathlib.Core.Path.{◌≡◌}
 use mathlib.Core.List.{[]}
-use Prim.Native.Nat.{◌≤◌, ◌-◌}
 use native.Mathlib.Omega.{arith}
 use Rattle.view.specs.View.{viewAt}
-use Rattle.marks.proofs.Counts.{Counted, counted_start, counted_skip, counted-more, counted-small, counted}
+use Rattle.marks.proofs.Counts.{counted_start, counted_skip, counted-more, counted-small, counted}
 use borrow.Author.Rules.{rules}
 use Rattle.marks.proofs.tally.Goals as goal
 

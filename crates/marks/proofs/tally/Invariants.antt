@@ -1,10 +1,7 @@
-use mathlib.Core.Path.{◌≡◌}
 use mathlib.Core.List.{[]}
 use Prim.Native.Nat.{◌≤◌, ◌-◌}
-use native.Mathlib.Omega.{arith}
 use Rattle.view.specs.View.{viewAt}
-use Rattle.marks.proofs.Counts.{Counted, counted_start, counted_skip, counted-more, counted-small, counted}
-use borrow.Author.Rules.{rules}
+use Rattle.marks.proofs.Counts.{Counted}
 use Rattle.marks.proofs.tally.Given as goal
 
 abbrev pub invariant-loop-k : goal.invariant-loop-k
