@@ -7,9 +7,7 @@ use Rattle.folds.specs.Arith.{◌⊘◌, zeroF}
 use Rattle.float.specs.Constants.{one}
 use Rattle.linear.specs.Rows.{entry, matrixRow}
 use Rattle.linear.specs.Linear.{System, pivotRow, swapRows, swapEntries, reduceRows, eliminateBy, eliminateColumn}
-use borrow.Author.Rules.{rules}
-use Rattle.linear.proofs.eliminate.Statement.{statement}
-use Rattle.linear.proofs.eliminate.Tie as tie
+use Rattle.linear.proofs.eliminate.Goals as goal
 
 module _ (i k : ℕ) (m : List (List Float)) (y : List Float) (found : k ≡ pivotRow m i) where
   passed_over : eq (entry m k i) zeroF ≡ true → ◌≡◌ {A = System} (eliminateColumn i (record { rows = m; right = y })) (record { rows = m; right = y })
@@ -21,18 +19,8 @@ module _ (i k : ℕ) (m : List (List Float)) (y : List Float) (found : k ≡ piv
   unfolding eliminateColumn eliminateBy
   cleared out e h = rw (← found, e, h)
 
-returns : tie.Need-returns
-returns c = let pivot = c.before.before.pivot-row in passed_over _ pivot.result _ _ pivot.ensures.1 c.if1.true
+pub returns-then-pivot : goal.returns-then-pivot
+returns-then-pivot c = passed_over _ c.pivot_row-best.result _ _ c.pivot_row-best.ensures.1 c.if-pivot.true
 
-returns-2 : tie.Need-returns-2
-returns-2 c =
-    let b = c.before.before.before.before.before.before.before in
-    cleared _ _ _ _ b.before.before.pivot-row.ensures.1 _ b.if1.false c.reduce-rows.ensures
-
-pub eliminate-spec : {M : Type 1} → statement M
-eliminate-spec =
-    tie.close
-    (tie.spec (λ c κs. search rules) (λ c. search rules) (λ c. search rules) (λ c. search rules) (λ c. search rules) returns
-    (λ c. search rules) (λ c. search rules) (λ c. search rules) (λ c. search rules) (λ c. search rules) (λ c. search rules)
-    (λ c. search rules) (λ c. search rules) (λ c. search rules) (λ c. search rules) (λ c. search rules) (λ c. search rules)
-    (λ c. search rules) (λ c. search rules) (λ c. search rules) (λ c. search rules) (λ c κs. search rules) returns-2)
+pub returns : goal.returns
+returns c = cleared _ _ _ _ c.pivot_row-best.ensures.1 _ c.if-pivot.false c.reduce_rows.ensures
