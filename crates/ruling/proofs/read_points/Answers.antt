@@ -1,4 +1,3 @@
--- `ruling::read_points` meets its contract: by the number of the table. Assumes nothing.
 use Rattle.ruling.proofs.Parts.{by-table}
 use Rattle.ruling.specs.Sheet.{Ruled}
 use Rattle.ruling.specs.Ruling.{refused, rulingFor}
@@ -14,9 +13,7 @@ use lib.ListN.{length}
 use Prim.Native.Nat.{ℕ}
 use mathlib.Core.List.{List, []}
 use mathlib.Core.Path.{◌≡◌, refl, sym, ◌∙◌}
-use borrow.Author.Rules.{rules}
-use Rattle.ruling.proofs.read_points.Statement.{statement}
-use Rattle.ruling.proofs.read_points.Tie as tie
+use Rattle.ruling.proofs.read_points.Goals as goal
 
 module _ (s : Settings) (ps : List Point) (t : Table) (h : Tabled (numberFor s.score_frac ps) (acceptedOf s.score_frac ps) t) where
   taken : t.number ≡ 0 → (n : ℕ) → n ≡ length (cellOrder ps) → Ruled (rulingFor s ps) (record { settings = s; count = n; table = t })
@@ -30,15 +27,14 @@ module _ (s : Settings) (ps : List Point) (t : Table) (h : Tabled (numberFor s.s
   left : (t.number ≡ 0 → ⊥) → rulingFor s ps ≡ refused t.number
   left f = sym (by-table s ps) ∙ rw (← h.number_is, ne_eqb t.number 0 f)
 
-returns : tie.Need-returns
-returns c = taken _ _ _ c.before.before.read.ensures c.if1.true _ (sym (points-length _ _ c.before.before.before.before.before.before.requires.records.few))
+pub returns-then-table-eq0 : goal.returns-then-table-eq0
+returns-then-table-eq0 c =
+    taken _ _ _ c.read-table.ensures c.if-table-eq0.true _ (sym (points-length _ _ c.requires.records.few))
 
-refused-with-requires : tie.Need-refused-with-requires
-refused-with-requires c κs = no-points c.before.before.before.before.before.before.args.h.settings _ _ c.before.before.read.ensures c.if1.false
+pub refused_with-requires : goal.refused_with-requires
+refused_with-requires c =
+    no-points c.args.h.settings _ _ c.read-table.ensures c.if-table-eq0.false
 
-returns-2 : tie.Need-returns-2
-returns-2 c = rw (left c.before.before.before.before.before.before.before.args.h.settings _ _ c.before.before.before.read.ensures c.before.if1.false) c.refused-with.ensures
-
-pub read-points-spec : {M : Type 1} → statement M
-read-points-spec = tie.close
-    (tie.spec (λ c κs. search rules) returns refused-with-requires returns-2)
+pub returns : goal.returns
+returns c =
+    rw (left c.args.h.settings _ _ c.read-table.ensures c.if-table-eq0.false) c.refused_with.ensures
