@@ -8,7 +8,6 @@ use Rattle.view.specs.View.{viewAt}
 use Rattle.close_pairs.specs.Close.{limitOf, closeMark}
 use Rattle.close_pairs.proofs.Pairs.{sweepable, swept, nothing-close}
 use Rattle.close_pairs.proofs.Squares.{reaches}
-use borrow.Author.Rules.{rules}
 use Rattle.close_pairs.proofs.mark_close.Goals as goal
 
 pub sweep-requires : goal.sweep-requires

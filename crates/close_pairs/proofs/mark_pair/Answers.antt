@@ -1,10 +1,6 @@
-use mathlib.Core.Path.{sym, ◌∙◌}
-use lib.Ieee.{lt}
 use Rattle.folds.proofs.Marked.{marked-none, marked-one, marked-as, marked-then}
 use Rattle.close_pairs.specs.Close.{squareOf}
-use Rattle.close_pairs.proofs.Pairs.{pair-marked}
 use Rattle.close_pairs.proofs.Squares.{apart-in-y}
-use borrow.Author.Rules.{rules}
 use Rattle.close_pairs.proofs.mark_pair.Goals as goal
 
 pub returns-then-side-abs : goal.returns-then-side-abs

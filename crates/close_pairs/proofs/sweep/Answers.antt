@@ -1,11 +1,9 @@
-use Prim.Native.Nat.{ℕ, ◌-◌, ◌≤◌}
-use mathlib.Core.Path.{◌≡◌, refl}
+use Prim.Native.Nat.{ℕ}
+use mathlib.Core.Path.{refl}
 use native.Mathlib.Omega.{arith}
 use Rattle.folds.specs.Below.{some}
-use Rattle.folds.specs.Marked.{Marked}
 use Rattle.folds.proofs.Marked.{marked-none, marked_more}
 use Rattle.close_pairs.specs.Sweep.{sweepHits}
-use borrow.Author.Rules.{rules}
 use Rattle.close_pairs.proofs.sweep.Goals as goal
 
 pub loop-i-init : goal.loop-i-init

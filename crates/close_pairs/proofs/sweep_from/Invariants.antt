@@ -1,15 +1,9 @@
 use Prim.Native.Nat.{ℕ, ◌-◌, ◌≤◌, ◌<◌}
 use mathlib.Core.Path.{◌≡◌}
-use native.Mathlib.Omega.{arith}
 use lib.ListN.{get_or}
 use Rattle.folds.specs.Below.{some}
 use Rattle.folds.specs.Marked.{Marked}
-use Rattle.folds.proofs.Marked.{marked-none, marked-as, marked_more}
-use Rattle.view.specs.View.{maxPoints}
-use Rattle.close_pairs.specs.Close.{close, squareOf}
 use Rattle.close_pairs.specs.Sweep.{pairHits}
-use Rattle.close_pairs.proofs.Pairs.{sweep-none, sweep-stop, pair_is}
-use borrow.Author.Rules.{rules}
 use Rattle.close_pairs.proofs.sweep_from.Given as goal
 
 abbrev pub invariant-loop-j : goal.invariant-loop-j
