@@ -1,3 +1,2 @@
 // Small files that the promises on positions for dropped points hold of, and files that show what their conditions are for: theorems alone, in proofs/.
 #![tactic(auto)]
-

@@ -4,7 +4,7 @@
 
 ghost use Rattle.std.specs.Prelude.{◌+◌, ◌≤◌, length};
 
-use libc::{STDIN_FILENO, STDOUT_FILENO};
+use standard_input::Input;
 
 fn wide(x: u8) -> u32 {
     x as u32
@@ -19,28 +19,31 @@ fn pattern_at(bytes: &[u8], at: usize) -> u32
         | wide(bytes[at + 3]) << 24
 }
 
-fn write_line(pattern: u32) {
+fn write_line<R: Print>(rt: &R, pattern: u32) {
     let x = float::from_bits(pattern);
-    io::print_hex(STDOUT_FILENO, pattern as u64, 8);
-    io::write_all(STDOUT_FILENO, b" ");
-    io::print_hex(STDOUT_FILENO, float::to_bits(float::sqrt(x)) as u64, 8);
-    if float::over_30_degrees(x) {
-        io::write_all(STDOUT_FILENO, b" over\n");
+    let root = float::to_bits(float::sqrt(x));
+    let over = if float::over_30_degrees(x) {
+        "over"
     } else {
-        io::write_all(STDOUT_FILENO, b" -\n");
-    }
+        "-"
+    };
+    let _ = println!(rt; "{pattern:08x} {root:08x} {over}");
 }
 
-fn write_lines(bytes: &[u8]) {
+fn write_lines<R: Print>(rt: &R, bytes: &[u8]) {
     let mut at = 0;
     while 4 <= bytes.len() - at {
-        write_line(pattern_at(bytes, at));
+        write_line(rt, pattern_at(bytes, at));
         at += 4;
     }
 }
 
-fn main() {
-    let mut buffer = io::large_buffer();
-    let count = io::read_full(STDIN_FILENO, &mut buffer);
-    write_lines(&buffer[..count]);
+fn main(rt: HostRuntime) {
+    let mut buffer = [0u8; 65536];
+    match standard_input::read_file(&mut rt.stdin(), &mut buffer) {
+        Input::Read(count) => write_lines(&rt, &buffer[..count]),
+        Input::Failed(e) => {
+            let _ = eprintln!(rt; "float_vectors: reading standard input: {e}");
+        }
+    }
 }

@@ -37,6 +37,7 @@ data IsNone : HomographyFit → Type 0 where
 
 unless : (b : Bool) (h : Homography) → IsNone (cond b NoFit (Found h)) → b ≡ true
 unless true h e = refl
+unless false h e = elim e [ ]
 
 -- no fit is found in these cases only
 pub unfit-only : (p q : List PlanePoint) → homographyFrom4pt p q ≡ NoFit → isUnfit p q ≡ true

@@ -1,7 +1,7 @@
 -- Eight equations. "The source's eight equations are solved by elimination over eight rows of eight with their right side: pivot of largest
 -- magnitude, first of equals; an all-zero column is passed over; multiplier = entry times 1/pivot; columnwise substitution. A zero diagonal
 -- .. means no fit." Assumes nothing.
-use Rattle.std.specs.Prelude.{ℕ, ◌+◌, Bool, true, false, cond, List, [], set, replicate, Float}
+use Rattle.std.specs.Prelude.{ℕ, ◌+◌, Bool, true, false, cond, List, set, replicate, Float}
 use Rattle.std.specs.Int.Count.{count_trailing_zeros}
 use Rattle.std.specs.Float.Ieee.{add, sum, sub, mul, div, neg, lt, eq, of_bits, odd, round, units, size, span, climb}
 use Rattle.folds.specs.Arith.{◌⊕◌, ◌⊗◌, ◌⊘◌, zeroF}

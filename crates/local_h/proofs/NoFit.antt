@@ -36,6 +36,7 @@ pub data IsValue : Residual → Type 0 where
 
 none_of : (b : Bool) (x : Float) → IsNone (cond b NoFit (Value x)) → b ≡ true
 none_of true x e = refl
+none_of false x e = elim e [ ]
 
 module _ (w : View) (cell : ℕ → Cell) (k : ℕ) where
   residual-unless : Unless (isUnfitAt w cell k) (residualAt w cell k)

@@ -99,6 +99,7 @@ fn side_members(ranks: &Ranks, vote: &Marks, n: usize, side: u8) -> Marks
 }
 
 // Whether an index is marked, of np positive and nn negative votes, that has a member of the one side or not, and of the other.
+#[tactic(auto, unfolding(crate::specs::Orientation::turned))]
 fn turned_by(np: usize, nn: usize, p: bool, q: bool) -> bool
     ensures { result ≡ turned np nn p q }
 {

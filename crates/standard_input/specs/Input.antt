@@ -6,4 +6,4 @@ use Rattle.standard_input.specs.declared.Input.TheVariants.{Read, Failed}
 -- no more bytes came than a buffer of this size holds
 abbrev pub Within : ℕ → Input → Type 0
 Within size (Read n) = n ≤ size
-Within size Failed = Unit {0}
+Within size (Failed e) = Unit {0}

@@ -2,51 +2,54 @@
 #![tactic(auto)]
 
 ghost use Rattle.std.specs.Prelude.{length};
+ghost use Rattle.std.specs.Io.{ReadsAtMost};
 ghost use Rattle.standard_input.specs.Input.{Within};
 
-use libc::STDIN_FILENO;
+use std::io;
+use std::io::{ErrorKind, Read};
 
 // What came of standard input.
 #[derive(Clone, Copy)]
 pub enum Input {
     // So many bytes, at the start of the buffer: all that there were, or as many as it holds.
     Read(usize),
-    // Reading failed, and errno says why.
-    Failed,
+    // Reading failed, and why.
+    Failed(io::Error),
 }
 
-// One read, tried again where a signal interrupted it: how many bytes came, 0 at the end of the input, less than 0 for an error.
-// A proved loop has to end, so this one counts its turns down, from a number that no run uses up.
-fn read_some(part: &mut [u8]) -> isize {
-    let mut turns = u64::MAX;
-    while 0 < turns {
-        let got = libc::read(STDIN_FILENO, part);
-        if 0 <= got {
-            return got;
+// One read, tried again where a signal interrupted it: how many bytes came, 0 at the end of the input.
+// A proved loop has to end, so this one counts its turns, up to a number that no run uses up.
+fn read_some<R: Read>(reader: &mut R, part: &mut [u8]) -> io::Result<usize>
+    ensures { ReadsAtMost result part.new }
+{
+    for _ in 0..u64::MAX {
+        match reader.read(part) {
+            Ok(n) => return Ok(n),
+            Err(e) => {
+                if e.kind() != ErrorKind::Interrupted {
+                    return Err(e);
+                }
+            }
         }
-        if os::errno() != libc::EINTR {
-            return got;
-        }
-        turns -= 1;
     }
-    -1
+    Err(io::Error::from(ErrorKind::Interrupted))
 }
 
 // Fills the buffer from standard input, to its end or the input's.
-pub fn read_file(file: &mut [u8]) -> Input
+pub fn read_file<R: Read>(reader: &mut R, file: &mut [u8]) -> Input
     ensures { Within (length file.old) result }
 {
     let mut at: usize = 0;
     while at < file.len() {
-        let got = read_some(&mut file[at..]);
-        if got < 0 {
-            return Input::Failed;
+        match read_some(reader, &mut file[at..]) {
+            Ok(n) => {
+                if n == 0 {
+                    return Input::Read(at);
+                }
+                at += n;
+            }
+            Err(e) => return Input::Failed(e),
         }
-        let n = io::count(got, &file[at..]);
-        if n == 0 {
-            return Input::Read(at);
-        }
-        at += n;
     }
     Input::Read(at)
 }

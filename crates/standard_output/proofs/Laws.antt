@@ -1,9 +1,5 @@
 -- A text that is shown whole in a buffer can be printed from it. Assumes nothing.
-use mathlib.Core.Path.{◌≡◌, sym, subst}
-use mathlib.Core.List.{List}
-use Prim.Native.Nat.{ℕ, ◌≤◌}
-use native.Mathlib.Omega.{arith}
-use lib.ListN.{length}
+use Rattle.std.proofs.Common.{◌≡◌, sym, subst, List, ℕ, ◌≤◌, length, arith}
 use Rattle.text.specs.Answer.{Shows}
 use Rattle.text.specs.declared.Written.{Written}
 use Rattle.text.specs.declared.Written.TheVariants.{Whole}

@@ -1,8 +1,4 @@
-use Prim.Native.Nat.{◌+◌, ◌*◌, ◌^◌, ◌≤◌, ◌<◌}
-use borrow.Author.Rules.{rules}
-use native.Mathlib.Omega.{arith}
-use Rattle.float.proofs.Near.{floor-only}
-use Rattle.float.proofs.Squares.{Stepped, newton-stepped, first_step, product_lt, square-pos}
+use Prim.Native.Nat.{◌+◌, ◌*◌, ◌^◌, ◌<◌}
 use Rattle.float.proofs.floor_root.Given as goal
 
 abbrev pub invariant-loop-r : goal.invariant-loop-r

@@ -1,6 +1,5 @@
 use mathlib.Core.Path.{◌≡◌, ap, ◌∙◌}
 use Prim.Native.Nat.{ℕ, ◌+◌, ◌-◌, ◌*◌, ◌/◌, ◌%◌, ◌^◌}
-use borrow.Author.Rules.{rules}
 use native.Mathlib.Nat.{mod-eq_of_lt}
 use native.Mathlib.Omega.{arith}
 use lib.Count.{count_leading_zeros}
@@ -9,22 +8,32 @@ use Rattle.float.specs.Constants.{hiddenBit}
 use Rattle.float.proofs.Pattern.{Leading, leading, subnormal, normal, pattern-of-root, moved_down, moved_up}
 use Rattle.float.proofs.root_bits.Goals as goal
 
+-- the machine cuts nothing off
+whole : (b : ℕ) → Leading b (count_leading_zeros 32 b) → b * 2 ^ (count_leading_zeros 32 b - 8) % 2 ^ 32 ≡ b * 2 ^ (count_leading_zeros 32 b - 8)
+whole b z = mod-eq_of_lt (omega (arith, z.high))
+
 pub overflow_sub-shift : goal.overflow_sub-shift
-overflow_sub-shift c =
-    omega (arith, zeros c)
+overflow_sub-shift c = omega (arith, leading c.args.b c.requires.0 (omega arith))
+
+pub overflow_shl-b : goal.overflow_shl-b
+overflow_shl-b c = omega (arith, leading c.args.b c.requires.0 (omega arith))
+
+pub overflow_sub-shift-then-b-lt8388608 : goal.overflow_sub-shift-then-b-lt8388608
+overflow_sub-shift-then-b-lt8388608 c = omega (arith, leading c.args.b c.requires.0 (omega arith))
 
 pub root_pattern-requires : goal.root_pattern-requires
 root_pattern-requires c =
-    omega (arith, zeros c, whole c)
+    let z = leading c.args.b c.requires.0 (omega arith) in
+    omega (arith, z, whole c.args.b z)
 
 pub returns-then-b-lt8388608 : goal.returns-then-b-lt8388608
 returns-then-b-lt8388608 c =
     let b = c.args.b in
-    let m = hiddenBit + b % hiddenBit in
-    let k = b / hiddenBit - 1 in
-    pattern-of-root b _ m k m (b / hiddenBit + 25) (normal b k m (omega arith) (omega arith) (omega arith) (omega arith)) (omega arith) (omega arith) (omega arith) (omega arith) (omega arith)
-    (moved_down m k (b / hiddenBit + 25) (omega arith))
-    c.root_pattern.ensures
+    let t = count_leading_zeros 32 b - 8 in
+    let z = leading b c.requires.0 (omega arith) in
+    pattern-of-root b _ b 0 (b * 2 ^ t) (26 - t) (subnormal b c.if-b-lt8388608.true) c.requires.0 z.low z.high (omega (arith, z)) (omega arith)
+    (moved_up b t (omega (arith, z)))
+    (c.root_pattern.ensures ∙ ap (λ (m : ℕ). ((26 - t) / 2 + 50) * 2 ^ 23 + nearRoot (m * 2 ^ (23 + (26 - t) % 2))) (whole b z))
 
 pub returns : goal.returns
 returns c =

@@ -1,0 +1,9 @@
+use Rattle.grid.specs.Tables.{ranksOf}
+use Rattle.grid.proofs.Filled.{blocks-filled}
+use Rattle.grid.proofs.fill.Goals as goal
+
+pub returns : goal.returns
+unfolding ranksOf
+returns c =
+    let pre = c.requires in
+    blocks-filled _ _ _ _ _ _ _ _ _ pre.0.few pre.1 c.fill_near.ensures c.fill_rows.ensures c.fill_columns.ensures c.fill_indices.ensures

@@ -1,0 +1,30 @@
+use mathlib.Core.Path.{◌≡◌}
+use Prim.Native.Nat.{◌+◌, ◌-◌}
+use native.Mathlib.Omega.{arith}
+use Rattle.grid.specs.Tables.{entryIn}
+use Rattle.grid.proofs.Indices.{order_is, walked_start, walked_more, walked-done, rank_below}
+use Rattle.grid.proofs.fill_indices.Goals as goal
+
+pub loop-i-init : goal.loop-i-init
+loop-i-init c =
+    let few = c.requires.0 in
+    walked_start _ _ few _ (order_is _ _ _ few (rw c.packed_ranks-order.ensures at c.sort.ensures)) _ c.requires.1
+
+pub bounds-ranks-k : goal.bounds-ranks-k
+bounds-ranks-k c =
+    let l = c.loop-i in
+    omega (arith, rank_below (entryIn c.args.idx.now) c.args.n c.requires.0 c.sort.new.a l.invariant.ordered (l.i - 1) (omega (arith, l.invariant.low)))
+
+pub loop-i-preserved : goal.loop-i-preserved
+loop-i-preserved c =
+    let l = c.loop-i in
+    let pre = c.requires in
+    let e : l.i - 1 + 1 ≡ l.i = omega arith in
+    walked_more _ _ pre.0 _ l.invariant.ordered _ pre.1 (l.i - 1) _ (omega (arith, l.invariant.low)) (rw (← e) at l.invariant) c.last_rank-last.ensures
+
+pub returns : goal.returns
+returns c =
+    let l = c.loop-i in
+    let pre = c.requires in
+    let e : l.i ≡ 0 = omega arith in
+    walked-done _ _ pre.0 _ l.invariant.ordered _ pre.1 (rw e at l.invariant)

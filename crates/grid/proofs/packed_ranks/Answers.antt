@@ -1,0 +1,10 @@
+use mathlib.Core.Path.{◌≡◌}
+use native.Mathlib.Omega.{arith}
+use Rattle.folds.proofs.Column.{filled}
+use Rattle.grid.proofs.packed_ranks.Goals as goal
+
+pub returns : goal.returns
+returns c =
+    let l = c.loop-k in
+    let e : l.k ≡ c.args.n = omega (arith, l.invariant.0) in
+    filled _ (omega arith) (rw e at l.invariant.1)

@@ -1,0 +1,23 @@
+use mathlib.Core.Path.{◌∙◌, sym}
+use Rattle.folds.proofs.Below.{first-end}
+use Rattle.linear.specs.Linear.{nextLarger}
+use Rattle.linear.proofs.Pivot.{next-found, next-passed}
+use Rattle.linear.proofs.next_larger.Goals as goal
+
+pub returns-then-largest-magnitude : goal.returns-then-largest-magnitude
+unfolding nextLarger
+returns-then-largest-magnitude c =
+    let a = c.args in
+    let t = c.loop-k-test.true in
+    next-found a.m.now a.i a.best c.loop-k.k t c.magnitude-largest.ensures c.magnitude.ensures c.if-largest-magnitude.true ∙ c.loop-k.invariant
+
+pub loop-k-preserved : goal.loop-k-preserved
+loop-k-preserved c =
+    let a = c.args in
+    let t = c.loop-k-test.true in
+    next-passed a.m.now a.i a.best c.loop-k.k t c.magnitude-largest.ensures c.magnitude.ensures c.if-largest-magnitude.false ∙ c.loop-k.invariant
+
+pub returns : goal.returns
+unfolding nextLarger
+returns c =
+    sym (first-end _ _ _ c.loop-k-test.false) ∙ c.loop-k.invariant

@@ -1,0 +1,23 @@
+use mathlib.Core.Path.{◌≡◌}
+use native.Mathlib.Omega.{arith}
+use Rattle.text.proofs.Stores.{stored-start, stored_more}
+use borrow.Author.Rules.{rules}
+use Rattle.map_lines.specs.Map.{columns}
+use Rattle.map_lines.specs.Page.{pageLine}
+use Rattle.map_lines.proofs.put_characters.Goals as goal
+use Rattle.map_lines.proofs.put_characters.Invariants.{character}
+
+pub loop-j-init : goal.loop-j-init
+loop-j-init c =
+    (search rules, stored-start (character c.args.page.now c.args.i))
+
+pub loop-j-preserved : goal.loop-j-preserved
+loop-j-preserved c =
+    let a = c.args in
+    (search rules, stored_more (character a.page.now a.i) c.loop-j.invariant.1 c.put_byte-next.ensures)
+
+pub returns : goal.returns
+unfolding pageLine
+returns c =
+    let e : c.loop-j.j ≡ columns = omega arith in
+    rw e at c.loop-j.invariant.1

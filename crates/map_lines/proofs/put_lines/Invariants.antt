@@ -1,0 +1,18 @@
+use mathlib.Core.List.{List}
+use Prim.Native.Nat.{ℕ, ◌+◌, ◌-◌, ◌≤◌}
+use lib.IntN.{pos, ◌-ℤ◌}
+use Rattle.cells.specs.Points.{bias}
+use Rattle.text.specs.Text.{each}
+use Rattle.text.specs.Stored.{Stored}
+use Rattle.map_lines.specs.Map.{lineText}
+use Rattle.map_lines.specs.Page.{pageLine}
+use Rattle.map_lines.proofs.put_lines.Given as goal
+
+abbrev pub line : List ℕ → ℕ → ℕ → List ℕ
+line page v i = lineText (pos (v + i) -ℤ pos bias) (pageLine page i)
+
+abbrev pub invariant-loop-i : goal.invariant-loop-i
+invariant-loop-i l = (l.i ≤ l.count) × Stored l.initial.out l.at (each (line l.page l.v) l.i) l.out l.to
+
+abbrev pub decreases-loop-i : goal.decreases-loop-i
+decreases-loop-i l = l.count - l.i

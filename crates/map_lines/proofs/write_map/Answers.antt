@@ -1,0 +1,8 @@
+use Rattle.text.proofs.Stores.{shows}
+use Rattle.map_lines.proofs.Drawing.{page-is}
+use Rattle.map_lines.proofs.write_map.Goals as goal
+
+pub returns : goal.returns
+returns c =
+    let a = c.args in
+    shows (rw (page-is a.keys.now a.n a.u a.v c.requires.1 c.requires.2 c.requires.3 a.marks.now c.draw-page.result c.draw-page.ensures) at c.put_lines-a.ensures) c.answer.ensures

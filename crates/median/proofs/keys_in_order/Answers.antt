@@ -1,0 +1,9 @@
+use Rattle.median.specs.Keys.{key_at}
+use Rattle.median.proofs.Sorting.{sorted-keys}
+use Rattle.median.proofs.keys_in_order.Goals as goal
+
+pub returns : goal.returns
+returns c =
+    let g = c.args in
+    let k = c.keys-a.ensures in
+    record { is = sorted-keys (key_at g.v.now) g.n _ _ k.is c.sort.ensures; numbers = k.numbers }

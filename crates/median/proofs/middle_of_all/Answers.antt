@@ -1,0 +1,24 @@
+use Rattle.median.specs.Keys.{key_at}
+use Rattle.median.proofs.Sorting.{key-in-order, no-median, median-at}
+use Rattle.float.proofs.Nan.{zero-over-zero}
+use Rattle.folds.proofs.Lists.{length-list}
+use Rattle.sort.proofs.Packed.{placed_below}
+use native.Mathlib.Omega.{arith}
+use Prim.Native.Nat.{◌/◌}
+use mathlib.Core.Path.{sym, ◌∙◌}
+use Rattle.median.proofs.middle_of_all.Goals as goal
+
+pub returns-then-n-eq0 : goal.returns-then-n-eq0
+returns-then-n-eq0 c =
+    zero-over-zero ∙ sym (no-median _ (length-list _ _ ∙ c.if-n-eq0.true))
+
+pub bounds-v-a : goal.bounds-v-a
+bounds-v-a c =
+    let g = c.args in
+    omega (arith, key-in-order c.keys_in_order-a.ensures (g.n / 2) (omega arith), placed_below (key_at g.v.now) g.n (omega arith) (g.n / 2) (omega arith))
+
+pub returns : goal.returns
+returns c =
+    let g = c.args in
+    let k = c.keys_in_order-a.ensures in
+    rw (key-in-order k (g.n / 2) (omega arith)) (median-at g.v.now g.n (omega arith) k.numbers (omega arith))

@@ -1,0 +1,22 @@
+use mathlib.Core.Path.{◌≡◌, refl}
+use mathlib.Core.List.{[]}
+use native.Mathlib.Omega.{arith}
+use Rattle.folds.specs.Below.{some}
+use Rattle.folds.proofs.Marked.{marked-none, marked_more}
+use Rattle.view.specs.View.{viewAt}
+use Rattle.orientation.specs.Voters.{voters}
+use Rattle.orientation.proofs.Laws.{members-column}
+use Rattle.orientation.proofs.side_members.Goals as goal
+
+pub loop-k-init : goal.loop-k-init
+unfolding some
+loop-k-init c =
+    (omega arith, marked-none _ _ (λ m. refl))
+
+pub loop-k-preserved : goal.loop-k-preserved
+loop-k-preserved c =
+    (omega arith, marked_more (voters _ _ _) c.loop-k.k c.loop-k.invariant.1 c.mark_voters.ensures)
+
+pub returns : goal.returns
+returns c =
+    let a = c.args in let h : c.loop-k.k ≡ a.n = omega arith in members-column (viewAt a.n a.ranks.now [] []) a.vote.now a.side (omega arith) (rw h at c.loop-k.invariant.1)

@@ -1,0 +1,9 @@
+-- What was read stands within the buffer. The measure is the room that is left.
+use Rattle.std.proofs.Common.{length, ◌-◌, ◌≡◌, ◌≤◌}
+use Rattle.standard_input.proofs.read_file.Given as goal
+
+abbrev pub invariant-loop-at : goal.invariant-loop-at
+invariant-loop-at g l = (length l.file ≡ length l.initial.file) × (l.at ≤ length l.initial.file)
+
+abbrev pub decreases-loop-at : goal.decreases-loop-at
+decreases-loop-at g l = length l.initial.file - l.at

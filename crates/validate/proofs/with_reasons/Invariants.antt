@@ -1,0 +1,16 @@
+use Rattle.validate.specs.Validate.{isReason}
+use Rattle.judged.specs.Columns.{reasonFrom}
+use Rattle.marks.specs.Marks.{is_set}
+use Rattle.view.specs.View.{maxPoints}
+use Rattle.folds.specs.Marked.{bit}
+use Rattle.folds.specs.Column.{Filling}
+use lib.ListN.{replicate}
+use mathlib.Core.Bool.{◌||◌}
+use Prim.Native.Nat.{ℕ, ◌≤◌, ◌-◌}
+use Rattle.validate.proofs.with_reasons.Given as goal
+
+abbrev pub invariant-loop-k : goal.invariant-loop-k
+invariant-loop-k l = (l.k ≤ l.n) × Filling (replicate maxPoints 0) 0 (λ (j : ℕ). bit (is_set l.mark j || isReason (reasonFrom l.counts j))) l.k l.out
+
+abbrev pub decreases-loop-k : goal.decreases-loop-k
+decreases-loop-k l = l.n - l.k
