@@ -1,28 +1,19 @@
 -- What the inner functions lean on: the sums over places are those over offsets. Assumes nothing.
-use mathlib.Core.Path.{◌≡◌, refl, sym, ap, ◌∙◌}
-use mathlib.Core.Bool.{Bool, true, false, cond, not, ◌&&◌}
-use mathlib.Core.List.{List, [], ◌∷◌}
-use Prim.Native.Nat.{ℕ, zero, suc, ◌+◌, ◌-◌, ◌*◌, ◌≤◌, ◌<◌}
-use native.Mathlib.Omega.{arith}
-use lib.IntN.{ℤ}
+use mathlib.Core.Path.{◌≡◌, refl}
+use mathlib.Core.Bool.{Bool, true, false}
+use mathlib.Core.List.{List}
+use Prim.Native.Nat.{ℕ, ◌+◌, ◌-◌, ◌≤◌, ◌<◌}
 use lib.Dec.{eqb, leb, ltb}
-use lib.ListN.{length, get_or}
+use lib.ListN.{get_or}
 use lib.Ieee.{Float}
 use borrow.Author.Tests.{ltb-true, lt-ltb, le-ltb, lt-leb, le-leb}
 use Rattle.folds.specs.Arith.{◌⊕◌, zeroF}
 use Rattle.folds.specs.Below.{tally, sum_of}
-use Rattle.folds.proofs.Below.{and_left, and-false, tally-more, tally-none, sum_more, tally-ext, sum-ext, tally-le}
-use Rattle.offsets.specs.declared.Offset.{Offset}
-use Rattle.offsets.specs.Offsets.{−2, −1, ±0, +1, +2, offset, own, isWithin2, isNear, place_of, offset_of}
-use Rattle.offsets.proofs.Places.{each-within-2, within-u, within-v, offset_near, offset-place}
-use Rattle.view.specs.View.{View, maxPoints, rank_at}
+use Rattle.folds.proofs.Below.{and_left, and-false, tally-more, sum_more, tally-le}
+use Rattle.view.specs.View.{View}
 use Rattle.patches.specs.Patches.{survives}
-use Rattle.patches.specs.Search.{NearPlaces}
-use Rattle.predict.specs.Predict.{opposite, is_forward, sideAt, isPair, midpoint, pairCount, meanOf, prediction}
-use Rattle.predict.specs.Fills.{kept_at, predictionAt, offsetsOf}
-use Rattle.predict.specs.Sums.{rank_of, pair_at, midpointAt, sumsWith, sumsTo, meanBy}
+use Rattle.predict.specs.Sums.{rank_of, pair_at, midpointAt, sumsWith, sumsTo}
 use Rattle.predict.specs.declared.Sums.{Sums}
-use Rattle.predict.specs.declared.Prediction.{Prediction}
 
 -- ---- a point without a mark
 
