@@ -9,6 +9,7 @@ pub loop-i-init : goal.loop-i-init
 loop-i-init c =
     (omega arith, scattered-none _ _ _ _ _)
 
+-- each count has room for one more
 pub overflow_add-flags : goal.overflow_add-flags
 overflow_add-flags c =
     let m = c.index_of-m.result in
