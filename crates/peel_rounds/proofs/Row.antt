@@ -42,7 +42,7 @@ module _ (w : View) (dropped weak : List ℕ) (m : ℕ) (long : w.count ≡ m + 
   ends = leafOf w four dropped weak
 
   placed : Placed w
-  placed k h = omega (arith, row.own_val k h)
+  placed k h = omega (arith, row.own k h)
 
   known-ends : Ends w.count w.byIdx ends
   known-ends = known w four dropped weak placed
@@ -56,12 +56,12 @@ module _ (w : View) (dropped weak : List ℕ) (m : ℕ) (long : w.count ≡ m + 
     still k h g =
         live-is (survives w.count dropped) w.byIdx (out r) k
         (and_both (ltb k w.count) (eqb (get_or dropped k 0) 0) (lt-ltb k w.count g) (eq-eqb (get_or dropped k 0) 0 (row.undropped k g)))
-        (ap (out r) (row.own_val k g) ∙ gone k ∙ le-ltb k r h)
+        (ap (out r) (row.own k g) ∙ gone k ∙ le-ltb k r h)
 
     later : (k : ℕ) → lives r k ≡ true → (k < w.count) × (r ≤ k)
     later k e =
         let h = live.lives-lt w four dropped weak r k e in
-        (h, ltb-false k r (sym (gone k) ∙ sym (ap (out r) (row.own_val k h)) ∙ live-stays (survives w.count dropped) w.byIdx (out r) k e))
+        (h, ltb-false k r (sym (gone k) ∙ sym (ap (out r) (row.own k h)) ∙ live-stays (survives w.count dropped) w.byIdx (out r) k e))
 
     -- the next is its only live neighbour
     few : r + 1 < w.count → live.sidesLive w four dropped weak r r < 2
@@ -107,13 +107,13 @@ module _ (w : View) (dropped weak : List ℕ) (m : ℕ) (long : w.count ≡ m + 
     gone-more h b = gone-next w.count w.byIdx ends known-ends r b ∙ elim (ℕ_discrete b r) [
       | yes d ↦
           or_right (out r b) (goes w.count w.byIdx ends (out r) b)
-          (ap (goes w.count w.byIdx ends (out r)) (d ∙ sym (row.own_val r (omega arith)))
+          (ap (goes w.count w.byIdx ends (out r)) (d ∙ sym (row.own r (omega arith)))
           ∙ end_goes w.count w.byIdx ends (out r) r (omega arith) (first-end h))
           ∙ sym (lt-ltb b (r + 1) (omega arith))
       | no d ↦
           ap (λ (t : Bool). out r b || t)
           (not-true (goes w.count w.byIdx ends (out r) b)
-          (λ e. let v = goes_end w.count w.byIdx ends (out r) b e in d (sym v.3 ∙ row.own_val v.0 v.1 ∙ (only v.0 v.2).0)))
+          (λ e. let v = goes_end w.count w.byIdx ends (out r) b e in d (sym v.3 ∙ row.own v.0 v.1 ∙ (only v.0 v.2).0)))
           ∙ or-false (out r b) ∙ gone b ∙ other d
     ]
       where

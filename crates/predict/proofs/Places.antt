@@ -13,12 +13,12 @@ use Rattle.folds.specs.Below.{tally, sum_of}
 use Rattle.folds.proofs.Below.{tally-ext, sum-ext}
 use Rattle.float.specs.Constants.{half}
 use Rattle.offsets.specs.declared.Offset.{Offset}
-use Rattle.offsets.specs.Offsets.{offset, own, isWithin2, isNear, place_of, offset_of, places}
-use Rattle.offsets.proofs.Places.{each-within-2, within-u, within-v, offset_near, offset-place, place-offset, places-long, places-at}
+use Rattle.offsets.specs.Offsets.{offset, own, isWithin2, isNear, place_of, offset_of}
+use Rattle.offsets.proofs.Places.{each-within-2, within-u, within-v, offset_near, offset-place}
 use Rattle.view.specs.View.{View, rank_at}
 use Rattle.patches.specs.Patches.{survives}
 use Rattle.patches.specs.Search.{NearPlaces}
-use Rattle.predict.specs.Predict.{opposite, is_forward, sideAt, isPair, midpoint, pairCount, meanOf, prediction}
+use Rattle.predict.specs.Predict.{opposite, is_forward, isPair, midpoint, pairCount, meanOf, prediction}
 use Rattle.predict.specs.Fills.{kept_at, value_at, predictionAt, offsetsOf}
 use Rattle.predict.specs.Sums.{rank_of, pair_at, midpointAt, sumsTo, meanBy}
 

@@ -10,7 +10,6 @@ use Rattle.folds.specs.Below.{tally, sum_of}
 use Rattle.float.specs.Constants.{half}
 use Rattle.offsets.specs.declared.Offset.{Offset}
 use Rattle.offsets.specs.Offsets.{±0, offset, own}
-use Rattle.predict.specs.declared.PredictedPosition.{PredictedPosition}
 use Rattle.predict.specs.declared.Prediction.{Prediction}
 use Rattle.predict.specs.declared.Prediction.TheVariants.{NoPair, Pairs}
 

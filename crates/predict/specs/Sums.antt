@@ -9,7 +9,6 @@ use Rattle.view.specs.View.{View, maxPoints}
 use Rattle.patches.specs.Patches.{survives}
 use Rattle.patches.specs.Search.{NearPlaces}
 use Rattle.predict.specs.declared.Sums.{Sums}
-use Rattle.predict.specs.declared.PredictedPosition.{PredictedPosition}
 use Rattle.predict.specs.declared.Prediction.{Prediction}
 use Rattle.predict.specs.declared.Prediction.TheVariants.{NoPair, Pairs}
 

@@ -8,9 +8,9 @@ ghost use Rattle.folds.specs.Same.{same_list};
 ghost use Rattle.recorded.specs.Recorded.{Fits, filler, isRecorded, isFilled, sameRun, isText, differing};
 
 use kept::Answer;
-use libc::{STDIN_FILENO, STDOUT_FILENO};
 use runs::{NEW_SUMS, OLD_SUMS, Run};
 use sheet_fills::FillAnswer;
+use std::io::Read;
 use text::Written;
 use view::MAX_POINTS;
 
@@ -38,47 +38,48 @@ pub struct RecordedFills {
     pub fills: usize,
 }
 
-fn read_word() -> u32 {
+// Bytes that are missing are 0.
+fn read_word<R: Read>(input: &mut R) -> u32 {
     let mut bytes = [0u8; 4];
-    io::read_full(STDIN_FILENO, &mut bytes);
+    let _ = input.read_exact(&mut bytes);
     sheet_file::u32_at(&bytes, 0)
 }
 
-fn read_words(words: &mut [u32]) {
+fn read_words<R: Read>(input: &mut R, words: &mut [u32]) {
     let mut i = 0;
     while i < words.len() {
-        words[i] = read_word();
+        words[i] = read_word(input);
         i += 1;
     }
 }
 
-pub fn read_number() -> usize {
-    read_word() as usize
+pub fn read_number<R: Read>(input: &mut R) -> usize {
+    read_word(input) as usize
 }
 
-pub fn read_answer() -> RecordedAnswer {
+pub fn read_answer<R: Read>(input: &mut R) -> RecordedAnswer {
     RecordedAnswer {
-        number: read_number(),
-        points: read_number(),
-        components: read_number(),
-        rounds: read_number(),
+        number: read_number(input),
+        points: read_number(input),
+        components: read_number(input),
+        rounds: read_number(input),
     }
 }
 
-pub fn read_filled() -> RecordedFills {
+pub fn read_filled<R: Read>(input: &mut R) -> RecordedFills {
     RecordedFills {
-        number: read_number(),
-        fills: read_number(),
+        number: read_number(input),
+        fills: read_number(input),
     }
 }
 
 // The record of a run.
-pub fn read_run() -> Run {
+pub fn read_run<R: Read>(input: &mut R) -> Run {
     let mut old_sums = [0u32; OLD_SUMS];
     let mut new_sums = [0u32; NEW_SUMS];
-    read_words(&mut old_sums);
-    let sheets = read_word();
-    read_words(&mut new_sums);
+    read_words(input, &mut old_sums);
+    let sheets = read_word(input);
+    read_words(input, &mut new_sums);
     Run {
         old_sums,
         sheets,
@@ -87,13 +88,13 @@ pub fn read_run() -> Run {
 }
 
 // Reads `size` bytes to the start of the buffer; false where there is no room or there are fewer.
-pub fn read_part(buffer: &mut [u8], size: usize) -> bool
+pub fn read_part<R: Read>(input: &mut R, buffer: &mut [u8], size: usize) -> bool
     ensures { Fits result size (length buffer.old) }
 {
     if buffer.len() < size {
         return false;
     }
-    io::read_full(STDIN_FILENO, &mut buffer[..size]) == size
+    input.read_exact(&mut buffer[..size]).is_ok()
 }
 
 // What stands in a buffer before the call.
@@ -109,12 +110,12 @@ pub fn fill(buffer: &mut [u8])
 
 // What must stand in it after the call: so many rows or fills of `size` bytes each, which are read, and beyond them what stood there; false as
 // above.
-pub fn read_entries(buffer: &mut [u8], size: u8, count: usize) -> bool {
+pub fn read_entries<R: Read>(input: &mut R, buffer: &mut [u8], size: u8, count: usize) -> bool {
     fill(buffer);
     if MAX_POINTS < count {
         return false;
     }
-    read_part(buffer, size as usize * count)
+    read_part(input, buffer, size as usize * count)
 }
 
 // ---- what came against what is recorded
@@ -203,22 +204,17 @@ pub fn is_text(written: Written, out: &[u8], recorded: &[u8], size: usize) -> bo
 // ---- the lines
 
 // The line of a case that differs; how many differ, 0 or 1.
-pub fn print_case(case: usize, agrees: bool) -> usize
+pub fn print_case<R: Print>(rt: &R, case: usize, agrees: bool) -> usize
     ensures { result ≡ differing agrees }
 {
     if agrees {
         return 0;
     }
-    io::write_all(STDOUT_FILENO, b"differs: ");
-    io::print_decimal(STDOUT_FILENO, case as u64);
-    io::write_all(STDOUT_FILENO, b"\n");
+    let _ = println!(rt; "differs: {case}");
     1
 }
 
 // The closing line.
-pub fn print_counts(count: usize, differ: usize) {
-    io::print_decimal(STDOUT_FILENO, count as u64);
-    io::write_all(STDOUT_FILENO, b" files, ");
-    io::print_decimal(STDOUT_FILENO, differ as u64);
-    io::write_all(STDOUT_FILENO, b" differ\n");
+pub fn print_counts<R: Print>(rt: &R, count: usize, differ: usize) {
+    let _ = println!(rt; "{count} files, {differ} differ");
 }

@@ -5,6 +5,7 @@
 
 use recorded::{LONGEST, ROOM, RecordedAnswer};
 use runs::Run;
+use std::io::Read;
 
 // The call answers as recorded, leaves the expected bytes in the buffer and beyond it, and hands back the record as recorded.
 fn is_kept(
@@ -29,19 +30,19 @@ fn is_kept(
 }
 
 // Reads one case and replays it.
-fn replay() -> bool {
-    let size = recorded::read_number();
-    let room = recorded::read_number();
-    let before = recorded::read_run();
-    let answer = recorded::read_answer();
-    let after = recorded::read_run();
+fn replay<R: Read>(input: &mut R) -> bool {
+    let size = recorded::read_number(input);
+    let room = recorded::read_number(input);
+    let before = recorded::read_run(input);
+    let answer = recorded::read_answer(input);
+    let after = recorded::read_run(input);
     let mut file = [0u8; LONGEST];
-    if !recorded::read_part(&mut file, size) {
+    if !recorded::read_part(input, &mut file, size) {
         return false;
     }
     let mut rows = [0u8; ROOM];
     let mut expected = [0u8; ROOM];
-    let read = recorded::read_entries(&mut expected, 28, answer.points);
+    let read = recorded::read_entries(input, &mut expected, 28, answer.points);
     let kept = is_kept(
         &file[..size],
         room,
@@ -54,13 +55,14 @@ fn replay() -> bool {
     read & kept
 }
 
-fn main() {
-    let count = recorded::read_number();
+fn main(rt: HostRuntime) {
+    let mut input = rt.stdin();
+    let count = recorded::read_number(&mut input);
     let mut differ: usize = 0;
     let mut i: usize = 0;
     while i < count {
         i += 1;
-        differ += recorded::print_case(i, replay());
+        differ += recorded::print_case(&rt, i, replay(&mut input));
     }
-    recorded::print_counts(count, differ);
+    recorded::print_counts(&rt, count, differ);
 }

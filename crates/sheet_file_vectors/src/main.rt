@@ -3,8 +3,8 @@
 // must write was made by `harness vectors sheet_file`.
 #![tactic(auto)]
 
-use libc::{STDIN_FILENO, STDOUT_FILENO};
 use sheet_file::Fraction;
+use std::io::Read;
 use view::{Floats, MAX_POINTS, Words};
 
 // The longest file: tag 3 and tag 4 with 65,535 bytes of data each, and all else.
@@ -36,7 +36,7 @@ fn with_fraction(h: u64, fraction: Fraction) -> u64 {
     }
 }
 
-fn write_line(file: &[u8], room: usize) {
+fn write_line<R: Print>(rt: &R, file: &[u8], room: usize) {
     let sheet = ruling::read(file, room);
     let settings = sheet.settings;
     let fraction = settings.score_frac;
@@ -48,20 +48,17 @@ fn write_line(file: &[u8], room: usize) {
     let y = table.y;
     let strength = table.strength;
     let points = digest(&keys, &idx, &x, &y, &strength, n);
-    io::print_decimal(STDOUT_FILENO, table.number as u64);
-    io::write_all(STDOUT_FILENO, b" ");
-    io::print_decimal(STDOUT_FILENO, n as u64);
-    io::write_all(STDOUT_FILENO, b" ");
-    io::print_hex(STDOUT_FILENO, with_fraction(points, fraction), 16);
-    io::write_all(STDOUT_FILENO, b"\n");
+    let number = table.number;
+    let all = with_fraction(points, fraction);
+    let _ = println!(rt; "{number} {n} {all:016x}");
 }
 
 // Reads one case and writes its line; false where there is none.
-fn replay(file: &mut [u8]) -> bool {
+fn replay<R: Read, W: Print>(input: &mut R, rt: &W, file: &mut [u8]) -> bool {
     if file.len() < 8 {
         return false;
     }
-    if io::read_full(STDIN_FILENO, &mut file[..8]) < 8 {
+    if input.read_exact(&mut file[..8]).is_err() {
         return false;
     }
     let length = sheet_file::u32_at(file, 0) as usize;
@@ -69,18 +66,19 @@ fn replay(file: &mut [u8]) -> bool {
     if file.len() < length {
         return false;
     }
-    if io::read_full(STDIN_FILENO, &mut file[..length]) < length {
+    if input.read_exact(&mut file[..length]).is_err() {
         return false;
     }
-    write_line(&file[..length], room);
+    write_line(rt, &file[..length], room);
     true
 }
 
-fn main() {
+fn main(rt: HostRuntime) {
+    let mut input = rt.stdin();
     let mut file = [0u8; LONGEST];
     let mut left: usize = 10000;
     while 0 < left {
-        if !replay(&mut file) {
+        if !replay(&mut input, &rt, &mut file) {
             return;
         }
         left -= 1;

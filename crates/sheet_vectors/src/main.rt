@@ -6,6 +6,7 @@
 use listing::LISTING_SIZE;
 use map_lines::MAP_SIZE;
 use recorded::{LONGEST, ROOM, RecordedAnswer, RecordedFills};
+use std::io::Read;
 
 // The call answers as recorded, and leaves the expected bytes in the buffer and beyond it.
 fn is_kept(
@@ -23,18 +24,18 @@ fn is_kept(
     recorded::is_recorded(came, answer) & check::same(rows, expected)
 }
 
-fn is_listed(file: &[u8], size: usize) -> bool {
+fn is_listed<R: Read>(input: &mut R, file: &[u8], size: usize) -> bool {
     let mut listing = [0u8; LISTING_SIZE];
     let mut out = [0u8; LISTING_SIZE];
-    let read = recorded::read_part(&mut listing, size);
+    let read = recorded::read_part(input, &mut listing, size);
     let written = sheet_listing::list_sheet(file, &mut out);
     read & recorded::is_text(written, &out, &listing, size)
 }
 
-fn is_drawn(file: &[u8], size: usize) -> bool {
+fn is_drawn<R: Read>(input: &mut R, file: &[u8], size: usize) -> bool {
     let mut map = [0u8; MAP_SIZE];
     let mut out = [0u8; MAP_SIZE];
-    let read = recorded::read_part(&mut map, size);
+    let read = recorded::read_part(input, &mut map, size);
     let written = sheet_map::draw_sheet(file, &mut out);
     read & recorded::is_text(written, &out, &map, size)
 }
@@ -56,7 +57,8 @@ fn is_filled(
 }
 
 // Reads what is recorded of the file, after the numbers, and replays it.
-fn agrees(
+fn agrees<R: Read>(
+    input: &mut R,
     file: &[u8],
     room: usize,
     answer: RecordedAnswer,
@@ -66,37 +68,38 @@ fn agrees(
 ) -> bool {
     let mut came = [0u8; ROOM];
     let mut expected = [0u8; ROOM];
-    let rows_read = recorded::read_entries(&mut expected, 28, answer.points);
+    let rows_read = recorded::read_entries(input, &mut expected, 28, answer.points);
     let kept = is_kept(file, room, answer, &mut came, &expected);
-    let listed = is_listed(file, listing_size);
-    let drawn = is_drawn(file, map_size);
-    let fills_read = recorded::read_entries(&mut expected, 20, fills.fills);
+    let listed = is_listed(input, file, listing_size);
+    let drawn = is_drawn(input, file, map_size);
+    let fills_read = recorded::read_entries(input, &mut expected, 20, fills.fills);
     let filled = is_filled(file, room, fills, &mut came, &expected);
     rows_read & kept & listed & drawn & fills_read & filled
 }
 
 // Reads one case and replays it.
-fn replay() -> bool {
-    let size = recorded::read_number();
-    let room = recorded::read_number();
-    let answer = recorded::read_answer();
-    let listing_size = recorded::read_number();
-    let map_size = recorded::read_number();
-    let fills = recorded::read_filled();
+fn replay<R: Read>(input: &mut R) -> bool {
+    let size = recorded::read_number(input);
+    let room = recorded::read_number(input);
+    let answer = recorded::read_answer(input);
+    let listing_size = recorded::read_number(input);
+    let map_size = recorded::read_number(input);
+    let fills = recorded::read_filled(input);
     let mut file = [0u8; LONGEST];
-    if !recorded::read_part(&mut file, size) {
+    if !recorded::read_part(input, &mut file, size) {
         return false;
     }
-    agrees(&file[..size], room, answer, listing_size, map_size, fills)
+    agrees(input, &file[..size], room, answer, listing_size, map_size, fills)
 }
 
-fn main() {
-    let count = recorded::read_number();
+fn main(rt: HostRuntime) {
+    let mut input = rt.stdin();
+    let count = recorded::read_number(&mut input);
     let mut differ: usize = 0;
     let mut i: usize = 0;
     while i < count {
         i += 1;
-        differ += recorded::print_case(i, replay());
+        differ += recorded::print_case(&rt, i, replay(&mut input));
     }
-    recorded::print_counts(count, differ);
+    recorded::print_counts(&rt, count, differ);
 }

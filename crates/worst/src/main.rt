@@ -2,20 +2,33 @@
 // standard error.
 #![tactic(auto)]
 
+use std::env::{Env, FillError};
 use worst_sheet::WORST_SIZE;
 
-fn print_sheet(argument: &[u8]) {
+fn print_sheet<R: Print + Eprint>(rt: &R, argument: &[u8]) {
     let mut out = [0u8; WORST_SIZE];
     let written = worst_sheet::write_worst(argument, &mut out);
-    standard_output::print(written, &out, b"worst: writing standard output");
+    standard_output::print(rt, written, &out, "worst: writing standard output");
 }
 
-// Of an argument that is longer than the array, which is no n, 0 bytes are read.
-fn main() {
-    if os::arg_count() != 2 {
+// Whether there is no argument i.
+fn is_missing<R: Env>(rt: &R, i: usize) -> bool {
+    let mut first = [0u8; 1];
+    match rt.arg(i, &mut first) {
+        Err(FillError::NotPresent) => true,
+        Err(FillError::TooLong) => false,
+        Ok(_) => false,
+    }
+}
+
+// An argument that is longer than the array is no n.
+fn main(rt: HostRuntime) {
+    if !is_missing(&rt, 2) {
         return;
     }
     let mut argument = [0u8; 20];
-    let size = os::arg(1, &mut argument);
-    print_sheet(&argument[..size]);
+    match rt.arg(1, &mut argument) {
+        Ok(size) => print_sheet(&rt, &argument[..size]),
+        Err(_) => {}
+    }
 }

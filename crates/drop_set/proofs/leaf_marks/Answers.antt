@@ -18,7 +18,7 @@ returns-in-Missing c xs ys =
 pub returns-in-Outside : goal.returns-in-Outside
 returns-in-Outside c xs ys =
     let a = c.args in
-    c.no_leaves-2.ensures ∙ unpeeled a.s (viewAt a.n a.ranks.now xs ys) a.strength.now a.marks.now (rw c.in-Outside.is) c.requires.ranked.few
+    c.no_leaves-in-Outside.ensures ∙ unpeeled a.s (viewAt a.n a.ranks.now xs ys) a.strength.now a.marks.now (rw c.in-Outside.is) c.requires.ranked.few
 
 pub returns-in-Given : goal.returns-in-Given
 returns-in-Given c xs ys =

@@ -1,0 +1,15 @@
+use Rattle.view.specs.View.{viewAt}
+use Rattle.blame.specs.Marks.{evidenceBy, blames}
+use Rattle.folds.proofs.Below.{some-none}
+use Rattle.folds.proofs.Marked.{marked-none, marked_more}
+use mathlib.Core.List.{[]}
+use native.Mathlib.Omega.{arith}
+use Rattle.blame.proofs.mark_all_blamed.Goals as goal
+
+pub loop-k-init : goal.loop-k-init
+loop-k-init c =
+    (omega arith, marked-none _ _ (λ m. some-none _))
+
+pub loop-k-preserved : goal.loop-k-preserved
+loop-k-preserved c =
+    let a = c.args in (omega arith, marked_more (blames (viewAt a.n a.ranks.now [] []) (evidenceBy a.flags.now a.over.now [] [])) c.loop-k.k c.loop-k.invariant.1 c.mark_blamed.ensures)

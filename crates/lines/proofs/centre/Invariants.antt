@@ -1,0 +1,14 @@
+use Rattle.lines.specs.Fit.{value_at}
+use Rattle.folds.specs.Lists.{over}
+use Rattle.folds.specs.Arith.{◌⊕◌, zeroF}
+use lib.Ieee.{Float}
+use lib.ListN.{take}
+use mathlib.Core.Path.{◌≡◌}
+use Prim.Native.Nat.{ℕ, ◌≤◌, ◌-◌}
+use Rattle.lines.proofs.centre.Given as goal
+
+abbrev pub invariant-loop-i : goal.invariant-loop-i
+invariant-loop-i l = (l.i ≤ l.c) × (l.cx ≡ over (λ (s : Float) (j : ℕ). s ⊕ value_at l.x j) zeroF (take l.i l.l)) × (l.cy ≡ over (λ (s : Float) (j : ℕ). s ⊕ value_at l.y j) zeroF (take l.i l.l))
+
+abbrev pub decreases-loop-i : goal.decreases-loop-i
+decreases-loop-i l = l.c - l.i
