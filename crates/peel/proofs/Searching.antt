@@ -16,7 +16,7 @@ use Rattle.folds.specs.Below.{tally}
 use Rattle.folds.proofs.Below.{tally-le, and_left, and_right, and_both}
 use Rattle.view.specs.View.{maxPoints}
 use Rattle.marks.specs.Marks.{is_set}
-use Rattle.peel.specs.Work.{isPoint, index_at, leafAt, Fits, pointHas, Work, Searched, Removed}
+use Rattle.peel.specs.Work.{isPoint, index_at, leafAt, Fits, pointHas, Work, Searched}
 use Rattle.folds.proofs.Counting.{either, tally-grows, tally-below}
 
 module _ {ranks state marks queue : List ℕ} {tail : ℕ} (w : Work ranks state marks queue tail) where
@@ -38,13 +38,6 @@ module _ {ranks state marks queue : List ℕ} {tail : ℕ} (w : Work ranks state
     listed = λ k e. inl e;
     met = m;
   }
-
-  -- rank k is no end, or has its mark
-  pub searched-not : {sides : List ℕ} (k : ℕ) → leafAt ranks state sides k ≡ false → Searched ranks state sides (λ (j : ℕ). j ≡ k) marks queue tail marks queue tail
-  searched-not {sides} k e = searched-none (λ (j : ℕ). j ≡ k) (λ j d f. absurd (true≢false (sym f ∙ ap (leafAt ranks state sides) d ∙ e)))
-
-  pub searched-old : {sides : List ℕ} (k : ℕ) → get_or marks k 0 ≡ 1 → Searched ranks state sides (λ (j : ℕ). j ≡ k) marks queue tail marks queue tail
-  searched-old k e = searched-none (λ (j : ℕ). j ≡ k) (λ j d f. ap (λ (m : ℕ). get_or marks m 0) d ∙ e)
 
 -- ---- the ranks of the index at place b are put, from the last one down: those from c on are
 
@@ -184,35 +177,3 @@ module _ {ranks state sides : List ℕ} {M : ℕ → Type 0} {a q : List ℕ} {t
         (g.listed k e);
     met = λ k m e. ⊎_elim (λ (o : M k). g.kept k (f.met k o e)) (λ (o : N k). g.met k o e) (cases k m);
   }
-
-  -- of fewer ranks
-  pub searched-as : ((k : ℕ) → Met k → M k) → Searched ranks state sides M a q t a' q' t' → Searched ranks state sides Met a q t a' q' t'
-  searched-as cases f = record {
-    work = f.work;
-    kept = f.kept;
-    longer = f.longer;
-    front = f.front;
-    ending = f.ending;
-    listed = f.listed;
-    met = λ k m. f.met k (cases k m);
-  }
-
--- ---- the ranks on the queue are not live any more
-
-pub removed-none : {queue : List ℕ} {from : ℕ} {state : List ℕ} → Removed queue from from state state
-removed-none = record { entries = λ p g h. absurd (omega arith); rest = λ k. inl refl }
-
-pub removed-more : {queue : List ℕ} {from p : ℕ} {state state' : List ℕ} {x : ℕ} → from ≤ p → x ≡ get_or queue p 0 → x < length state' → Removed queue from p state state' → Removed queue from (p + 1) state (set state' x 1)
-removed-more {queue} {from} {p} {state} {state'} {x} g e h r = record {
-  entries = λ q l m. elim (ℕ_discrete (get_or queue q 0) x) [
-    | yes d ↦ rw (d, get_or-set_same state' x 1 0 h)
-    | no f ↦ get_or-set_other state' x (get_or queue q 0) 1 0 f ∙ ⊎_elim
-        (λ (d : q ≡ p). absurd (f (ap (λ (i : ℕ). get_or queue i 0) d ∙ sym e)))
-        (λ (d : q < p). r.entries q l d)
-        (eq-or-lt_of_le (omega arith))
-  ];
-  rest = λ m. elim (ℕ_discrete m x) [
-    | yes d ↦ inr (p, g, omega arith, sym e ∙ sym d)
-    | no f ↦ ⊎_elim (λ o. inl (get_or-set_other state' x m 1 0 f ∙ o)) (λ w. inr (w.0, w.1, omega (arith, w.2), w.3)) (r.rest m)
-  ];
-}

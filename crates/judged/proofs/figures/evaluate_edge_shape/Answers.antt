@@ -9,7 +9,7 @@ loop-k-init c = (omega arith, blank-filled _ c.requires.1)
 
 pub figures_at-f-requires : goal.figures_at-f-requires
 figures_at-f-requires c =
-    (c.requires.0, rw c.index_of.ensures (c.requires.0.ranked.indices c.loop-k.k c.loop-k-test.true))
+    let h = c.requires.0.ranked.indices c.loop-k.k c.loop-k-test.true in (c.requires.0, omega (arith, h, c.index_of.ensures))
 
 pub loop-k-preserved : goal.loop-k-preserved
 loop-k-preserved c =
