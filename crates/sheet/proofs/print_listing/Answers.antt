@@ -6,4 +6,4 @@ use Rattle.sheet.proofs.print_listing.Goals as goal
 
 pub print-requires : goal.print-requires
 print-requires g c =
-    printable c.list_sheet-written.ensures (whole c.args.file.now _ _ _ (λ i. (c.shared_slice_known.given i).fits) (omega arith) c.list_sheet-written.ensures) (omega arith)
+    printable c.list_sheet-written.ensures (whole c.args.file.now _ _ _ (λ i. (c.type_inv.file i).fits) (omega arith) c.list_sheet-written.ensures) (omega arith)
