@@ -12,8 +12,6 @@ use Rattle.cells.specs.Cell.{Cell}
 use Rattle.cells.proofs.Edges.{cell_at}
 use Rattle.judged.specs.Shown.{shownAt}
 use Rattle.judged.specs.Judged.{Judged}
-use Rattle.predict.specs.declared.PredictedPosition.{PredictedPosition}
-use Rattle.predict.specs.declared.Prediction.{Prediction}
 use Rattle.predict.specs.declared.Prediction.TheVariants.{NoPair, Pairs}
 use Rattle.text.specs.Text.{bytes, each, digits, decimal, whole, hex}
 use Rattle.listing.specs.Listing.{cellText, marksText, residualText, shownText, lineText, headText, tallyText, positionText, fillText, fillLine, listingOf}

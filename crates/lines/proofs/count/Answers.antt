@@ -9,11 +9,12 @@ pub loop-i-init : goal.loop-i-init
 loop-i-init c =
     (omega arith, scattered-none _ _ _ _ _)
 
+-- each count has room for one more
 pub overflow_add-flags : goal.overflow_add-flags
 overflow_add-flags c =
     let m = c.index_of-m.result in
     let place : c.index_of-m.result < maxPoints = omega (arith, c.index_of-m.ensures, c.requires.0.few, c.requires.0.indices c.loop-i.i (omega arith)) in
-    omega (arith, counted-le _ _ _ c.loop-i.i m c.loop-i.flags (omega (arith, place, c.requires.1)) c.loop-i.invariant.1, c.requires.2 m (place), c.requires.0.few)
+    omega (arith, counted-le _ _ _ c.loop-i.i m c.loop-i.flags (omega (arith, place, c.requires.1)) c.loop-i.invariant.1, c.requires.2 m place, c.requires.0.few)
 
 pub loop-i-preserved-then-mark-k-eq1 : goal.loop-i-preserved-then-mark-k-eq1
 loop-i-preserved-then-mark-k-eq1 c =

@@ -23,6 +23,7 @@ members-c-requires c =
     let from_is : c.wide-from.result ≡ first (isOn line c.loop-number.number) 0 a.n = c.wide-from.ensures ∙ c.loop-number.invariant.1.heads c.loop-number.number (omega (arith, c.requires)) in
     (c.requires.few, chain-onward a.n line c.loop-number.invariant.1, rw from_is (first-le (isOn line c.loop-number.number) 0 a.n (omega arith)), c.loop-number.invariant.2)
 
+-- `from_is`: the first rank of the line; `gathered`: its members
 pub loop-number-preserved : goal.loop-number-preserved
 loop-number-preserved c =
     let a = c.args in

@@ -11,6 +11,7 @@ pub loop-k-init : goal.loop-k-init
 loop-k-init c =
     (c.requires.2, omega arith, c.requires.3, λ p h e. (rw e at (gathered-to p 0 c.args.n {l = c.args.out.now} (omega arith) (gathered_none p _)), λ l. rw e at (first_holds p 0 c.args.n (rw e l))))
 
+-- `link`: where the link leads
 pub loop-k-preserved : goal.loop-k-preserved
 loop-k-preserved c =
     let link : (c.loop-k.k < c.wide-k.result) × (c.wide-k.result ≤ c.args.n) = rw c.wide-k.ensures (c.requires.1 c.loop-k.k c.loop-k-test.true) in (
