@@ -1,11 +1,10 @@
 -- The two cases of the ruling, as the code meets them. Assumes nothing.
-use Rattle.std.proofs.Common.{◌≡◌, ℕ, ◌*◌, ◌/◌, ◌≤◌, Bool, true, false, cond, ltb, List, [], ◌++◌, length, drop, sym, refl, ap, ◌∙◌, arith, ltb-false}
+use Rattle.std.proofs.Common.{◌≡◌, ℕ, ◌*◌, ◌/◌, ◌≤◌, Bool, true, false, cond, ltb, List, length, refl, ap, ◌∙◌, arith, ltb-false}
 use Rattle.view.specs.View.{maxPoints, viewAt}
 use Rattle.cells.specs.Cell.{Cell, cellsAt, cells_of}
 use Rattle.cells.proofs.Keys.{cells_are}
 use Rattle.grid.specs.Tables.{ranksOf}
 use Rattle.sheet_file.specs.Bytes.{Bytes}
-use Rattle.ruling.specs.Ruling.{rulingOf, accepted}
 use Rattle.ruling.specs.Sheet.{Ruled}
 use Rattle.ruling.specs.declared.Sheet.{Sheet}
 use Rattle.ruling.proofs.Standing.{accepted-order}
@@ -18,7 +17,7 @@ use Rattle.judging.proofs.Sheets.{AcceptedSheet, accepted-sheet, refused-sheet, 
 use Rattle.kept.proofs.Cases.{rows_fit}
 use Rattle.text.specs.Stored.{Stored}
 use Rattle.sheet_fills.specs.Bytes.{fillSize, fillsBytes, droppedCount}
-use Rattle.sheet_fills.specs.Answer.{asRows, fillRuling, fillAnswerBy, fillsBy, fillAnswerOf, fillsAfter}
+use Rattle.sheet_fills.specs.Answer.{asRows, fillRuling, fillAnswerOf, fillsAfter}
 use Rattle.sheet_fills.specs.declared.FillAnswer.{FillAnswer}
 use Rattle.sheet_fills.specs.declared.FillAnswer.TheVariants.{Refused, Filled}
 use Rattle.sheet_fills.proofs.Laws.{bytes-long, bytes-few, fits_whole}

@@ -1,5 +1,5 @@
 -- The bytes of fills: how many there are, and where they stand in the buffer. Assumes nothing.
-use Rattle.std.proofs.Common.{◌≡◌, ℕ, zero, suc, ◌+◌, ◌-◌, ◌*◌, ◌/◌, ◌%◌, ◌^◌, ◌<◌, ◌≤◌, Bool, true, false, cond, not, eqb, leb, List, [], ◌++◌, length, get_or, take, drop, pos, ◌-ℤ◌, sym, refl, ap, ◌∙◌, arith, length-append, take_all, w32, of_z, le-ltb, lt-ltb, le-leb, leb-true}
+use Rattle.std.proofs.Common.{◌≡◌, ℕ, zero, suc, ◌+◌, ◌-◌, ◌*◌, ◌%◌, ◌^◌, ◌<◌, ◌≤◌, Bool, true, false, cond, not, eqb, leb, List, [], ◌++◌, length, get_or, drop, pos, ◌-ℤ◌, sym, refl, ap, ◌∙◌, arith, length-append, take_all, w32, of_z, le-ltb, lt-ltb, le-leb}
 use Prim.{Dec, yes, no}
 use native.Mathlib.Decide.{dec_lt}
 use Rattle.folds.specs.Below.{tally}
@@ -8,12 +8,10 @@ use Rattle.cells.specs.Points.{bias}
 use Rattle.cells.specs.Cell.{Cell}
 use Rattle.predict.specs.declared.Prediction.{Prediction}
 use Rattle.predict.specs.declared.Prediction.TheVariants.{NoPair, Pairs}
-use Rattle.text.specs.Answer.{written_of}
 use Rattle.text.specs.Stored.{Stored}
 use Rattle.text.specs.Text.{each}
-use Rattle.text.specs.declared.Written.{Written}
 use Rattle.text.specs.declared.Written.TheVariants.{Whole, NoRoom}
-use Rattle.text.proofs.Stores.{each_none, each_more, shows, stored-length}
+use Rattle.text.proofs.Stores.{each_none, each_more, shows}
 use Rattle.sheet_fills.specs.Bytes.{fillSize, predictionBytes, fillBytes, bytesFor, fillsBytes, droppedCount}
 
 -- ---- a cell number as i32

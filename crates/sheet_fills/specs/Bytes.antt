@@ -1,6 +1,6 @@
 -- The fills of a sheet as bytes: "for each dropped cell .. the position .. with its number of pairs, or say that no pair exists". Assumes
 -- nothing.
-use Rattle.std.specs.Prelude.{ℕ, Bool, cond, not, List, [], ◌++◌, ℤ, ◌==◌, slice_index, slice_index_or}
+use Rattle.std.specs.Prelude.{ℕ, cond, not, List, [], ◌++◌, ℤ, ◌==◌, slice_index, slice_index_or}
 use Rattle.std.specs.Float.{binary32}
 use Rattle.std.specs.Float.Ieee.{to_bits}
 use Rattle.std.specs.Int.{w32}
@@ -8,7 +8,6 @@ use Rattle.std.proofs.Common.{of_z}
 use Rattle.folds.specs.Below.{tally}
 use Rattle.cells.specs.Cell.{Cell}
 use Rattle.sheet_file.specs.Bytes.{littleEndian}
-use Rattle.predict.specs.declared.PredictedPosition.{PredictedPosition}
 use Rattle.predict.specs.declared.Prediction.{Prediction}
 use Rattle.predict.specs.declared.Prediction.TheVariants.{NoPair, Pairs}
 use Rattle.text.specs.Text.{each}
