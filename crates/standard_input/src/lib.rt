@@ -3,7 +3,8 @@
 
 ghost use Rattle.std.specs.Prelude.{length};
 ghost use Rattle.std.specs.Io.{ReadsAtMost};
-ghost use Rattle.standard_input.specs.Input.{Within};
+ghost use Rattle.std.specs.Io.KnownBytes.{ReadConsumes};
+ghost use Rattle.standard_input.specs.Input.{Within, Holds};
 
 use std::io;
 use std::io::{ErrorKind, Read};
@@ -20,7 +21,8 @@ pub enum Input {
 // One read, tried again where a signal interrupted it: how many bytes came, 0 at the end of the input.
 // A proved loop has to end, so this one counts its turns, up to a number that no run uses up.
 fn read_some<R: Read>(reader: &mut R, part: &mut [u8]) -> io::Result<usize>
-    ensures { ReadsAtMost result part.new }
+    ensures bound { ReadsAtMost result part.new }
+    ensures bytes { ReadConsumes (R.remaining reader.old) (R.remaining reader.new) result part.new }
 {
     for _ in 0..u64::MAX {
         match reader.read(part) {
@@ -37,7 +39,8 @@ fn read_some<R: Read>(reader: &mut R, part: &mut [u8]) -> io::Result<usize>
 
 // Fills the buffer from standard input, to its end or the input's.
 pub fn read_file<R: Read>(reader: &mut R, file: &mut [u8]) -> Input
-    ensures { Within (length file.old) result }
+    ensures within { Within (length file.old) result }
+    ensures bytes { Holds (R.remaining reader.old) (R.remaining reader.new) file.new result }
 {
     let mut at: usize = 0;
     while at < file.len() {
