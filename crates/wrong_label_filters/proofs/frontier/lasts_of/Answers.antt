@@ -20,7 +20,7 @@ loop-k-preserved c =
     let a = c.args in (
       omega arith,
       lasts-more (lineStart (viewAt a.n a.ranks.now [] []) a.way) l.k _ _ c.line_of.ensures c.as_rank.ensures
-      (inside a.n a.ranks.now a.way l.k c.requires c.loop-k-test.true c.line_of.ensures) l.invariant.1,
+          (inside a.n a.ranks.now a.way l.k c.requires c.loop-k-test.true c.line_of.ensures) l.invariant.1,
     )
 
 pub returns : goal.returns

@@ -7,8 +7,7 @@ returns-then-n-e c = (marked-none _ _ (λ m. rw (← c.side_of.ensures.0, ← c.
 
 pub returns-then-verdict : goal.returns-then-verdict
 returns-then-verdict c =
-    let v = c.fails_at-verdict.ensures in
-    (
+    let v = c.fails_at-verdict.ensures in (
       marked-as _ _ (λ m l. rw (← c.side_of.ensures.0, ← c.rank_at-e.ensures, lt-ltb _ _ c.if-n-e.false, ← v.0, c.if-verdict.true)) (marked-then _ _ (marked-one _ _) (marked-one _ _)),
       v.1,
     )
