@@ -9,16 +9,16 @@ use Prim.Native.Nat.{ℕ, ◌<◌}
 use native.Mathlib.Omega.{arith}
 use borrow.Author.Tests.{eqb-true, ne_eqb, ltb-true, lt-leb}
 use lib.Dec.{eqb, ltb}
-use Rattle.folds.specs.Among.{anyIn}
+use Rattle.folds.specs.Among.{any_in}
 use Rattle.folds.specs.Below.{some}
 use Rattle.folds.proofs.Below.{some-yes, some_at, or-false, and-false, and_right, both_ways, or-right-first}
 use Rattle.folds.specs.Lists.{over}
 use Rattle.folds.specs.Scattered.{counts}
 use Rattle.view.specs.View.{View}
-use Rattle.local_h.specs.Base.{memberAt, base_of}
+use Rattle.local_h.specs.Base.{member_at, base_of}
 use Rattle.local_h.specs.declared.Base.{Base}
 use Rattle.blame.specs.declared.Worst.{Worst}
-use Rattle.blame.specs.Marks.{Evidence, rule1, rule2, rule3, rule4, worseOf, noOne, worstOf, blamed, isVisited, isMarked}
+use Rattle.blame.specs.Marks.{Evidence, rule1, rule2, rule3, rule4, worse_of, no_one, worst_of, blamed, is_visited, is_marked}
 
 -- one turn: k, if it passes q and is not marked, marks its key
 abbrev pub visit : (ℕ → ℕ) → (ℕ → Bool) → (ℕ → Bool) → ℕ → ℕ → Bool
@@ -35,36 +35,36 @@ module _ (key : ℕ → ℕ) (q : ℕ → Bool) (n : ℕ) (apart : (j k : ℕ) �
   Fresh s = (k : ℕ) → k < n → q k ≡ true → s k ≡ false
 
   -- what the turns of numbers below n leave, in any order
-  walked : (l : List ℕ) → ((k : ℕ) → Memᴰ k l → k < n) → (s : ℕ → Bool) → Fresh s → (m : ℕ) → over (visit key q) s l m ≡ s m || anyIn (counts key q m) l
+  walked : (l : List ℕ) → ((k : ℕ) → Memᴰ k l → k < n) → (s : ℕ → Bool) → Fresh s → (m : ℕ) → over (visit key q) s l m ≡ s m || any_in (counts key q m) l
   unfolding over
   walked [] below s fresh m = sym (or-false (s m))
   walked (a ∷ l) below s fresh m = go (q a) refl (walked l (λ k d. below k (Memᴰ.tail d)))
     where
-      go : (b : Bool) → q a ≡ b → ((t : ℕ → Bool) → Fresh t → (m : ℕ) → over (visit key q) t l m ≡ t m || anyIn (counts key q m) l) → over (visit key q) (visit key q s a) l m ≡ s m || anyIn (counts key q m) (a ∷ l)
-      go true e h = rw (e, fresh a (below a (Memᴰ.head refl)) e) (h (λ j. s j || eqb (key a) j) (λ k g d. rw (fresh k g d) (apart a k g d)) m ∙ regroup (s m) (eqb (key a) m) (anyIn (counts key q m) l))
+      go : (b : Bool) → q a ≡ b → ((t : ℕ → Bool) → Fresh t → (m : ℕ) → over (visit key q) t l m ≡ t m || any_in (counts key q m) l) → over (visit key q) (visit key q s a) l m ≡ s m || any_in (counts key q m) (a ∷ l)
+      go true e h = rw (e, fresh a (below a (Memᴰ.head refl)) e) (h (λ j. s j || eqb (key a) j) (λ k g d. rw (fresh k g d) (apart a k g d)) m ∙ regroup (s m) (eqb (key a) m) (any_in (counts key q m) l))
       go false e h = rw (e, and-false (eqb (key a) m)) (h s fresh m)
 
-any-yes : (t : ℕ → Bool) (l : List ℕ) (k : ℕ) → Memᴰ k l → t k ≡ true → anyIn t l ≡ true
+any-yes : (t : ℕ → Bool) (l : List ℕ) (k : ℕ) → Memᴰ k l → t k ≡ true → any_in t l ≡ true
 any-yes t [] k d e = absurd (Memᴰ.not-nil d)
 any-yes t (a ∷ l) k d e = go (t a) refl (any-yes t l k) (Memᴰ.cases_cons d)
   where
-    go : (b : Bool) → t a ≡ b → (Memᴰ k l → t k ≡ true → anyIn t l ≡ true) → (k ≡ a) ⊎ Memᴰ k l → b || anyIn t l ≡ true
+    go : (b : Bool) → t a ≡ b → (Memᴰ k l → t k ≡ true → any_in t l ≡ true) → (k ≡ a) ⊎ Memᴰ k l → b || any_in t l ≡ true
     go true f r w = refl
     go false f r (inl w) = absurd (true≢false (sym e ∙ ap t w ∙ f))
     go false f r (inr w) = r w e
 
-any_at : (t : ℕ → Bool) (l : List ℕ) → anyIn t l ≡ true → (k : ℕ) × Memᴰ k l × (t k ≡ true)
+any_at : (t : ℕ → Bool) (l : List ℕ) → any_in t l ≡ true → (k : ℕ) × Memᴰ k l × (t k ≡ true)
 any_at t [] e = absurd (false≢true e)
 any_at t (a ∷ l) e = go (t a) refl e (any_at t l)
   where
-    go : (b : Bool) → t a ≡ b → b || anyIn t l ≡ true → (anyIn t l ≡ true → (k : ℕ) × Memᴰ k l × (t k ≡ true)) → (k : ℕ) × Memᴰ k (a ∷ l) × (t k ≡ true)
+    go : (b : Bool) → t a ≡ b → b || any_in t l ≡ true → (any_in t l ≡ true → (k : ℕ) × Memᴰ k l × (t k ≡ true)) → (k : ℕ) × Memᴰ k (a ∷ l) × (t k ≡ true)
     go true f h r = (a, Memᴰ.head refl, f)
     go false f h r = let w = r h in (w.0, Memᴰ.tail w.1, w.2)
 
 -- a list of numbers below n that has each with t
-any_some : (t : ℕ → Bool) (l : List ℕ) (n : ℕ) → ((k : ℕ) → Memᴰ k l → k < n) → ((k : ℕ) → k < n → t k ≡ true → Memᴰ k l) → anyIn t l ≡ some t n
+any_some : (t : ℕ → Bool) (l : List ℕ) (n : ℕ) → ((k : ℕ) → Memᴰ k l → k < n) → ((k : ℕ) → k < n → t k ≡ true → Memᴰ k l) → any_in t l ≡ some t n
 any_some t l n below all =
-    both_ways (anyIn t l) (some t n)
+    both_ways (any_in t l) (some t n)
     (λ e. let w = any_at t l e in some-yes t n w.0 (below w.0 w.1) w.2)
     (λ e. let w = some_at t n e in any-yes t l w.0 (all w.0 w.1 w.2) w.2)
 
@@ -73,31 +73,31 @@ any_some t l n below all =
 Flagged : View → (ℕ → ℕ) → Worst → Type 0
 Flagged w flags worst = ((worst.at ≡ w.count) × (worst.flags ≡ 0)) ⊎ ((worst.flags ≡ flags worst.at) × (0 < worst.flags))
 
-worse-flagged : (w : View) (flags : ℕ → ℕ) (k p : ℕ) (worst : Worst) → Flagged w flags worst → Flagged w flags (worseOf w flags k worst p)
-unfolding Flagged worseOf
+worse-flagged : (w : View) (flags : ℕ → ℕ) (k p : ℕ) (worst : Worst) → Flagged w flags worst → Flagged w flags (worse_of w flags k worst p)
+unfolding Flagged worse_of
 worse-flagged w flags k p worst h = go (ltb p 24) (ltb worst.flags (flags m)) refl
   where
     m : ℕ
-    m = w.byIdx (memberAt w k p)
+    m = w.by_idx (member_at w k p)
 
     go : (a b : Bool) → ltb worst.flags (flags m) ≡ b → Flagged w flags (cond (a && b) (record { at = m; flags = flags m }) worst)
     go true true e = inr (refl, omega (arith, ltb-true worst.flags (flags m) e))
     go true false e = h
     go false b e = h
 
-worst-flagged : (w : View) (flags : ℕ → ℕ) (k : ℕ) (b : Base) → Flagged w flags (worstOf w flags k b)
-unfolding worstOf Flagged
+worst-flagged : (w : View) (flags : ℕ → ℕ) (k : ℕ) (b : Base) → Flagged w flags (worst_of w flags k b)
+unfolding worst_of Flagged
 worst-flagged w flags k b =
-    worse-flagged w flags k b.d _ (worse-flagged w flags k b.c _ (worse-flagged w flags k b.b _ (worse-flagged w flags k b.a (noOne w flags) (inl (refl, refl)))))
+    worse-flagged w flags k b.d _ (worse-flagged w flags k b.c _ (worse-flagged w flags k b.b _ (worse-flagged w flags k b.a (no_one w flags) (inl (refl, refl)))))
 
 -- a corner that rule 3 looks at is blamed by none
-blamed-apart : (w : View) (e : Evidence) (j k : ℕ) → k < w.count → isVisited w e k ≡ true → eqb (blamed w e.flags j) k ≡ false
+blamed-apart : (w : View) (e : Evidence) (j k : ℕ) → k < w.count → is_visited w e k ≡ true → eqb (blamed w e.flags j) k ≡ false
 unfolding Flagged blamed
 blamed-apart w e j k l v =
-    let z = eqb-true (e.flags k) 0 (and_right (e.over k) (eqb (e.flags k) 0) (and_right (eqb (w.byIdx k) k) (e.over k && eqb (e.flags k) 0) v)) in
+    let z = eqb-true (e.flags k) 0 (and_right (e.over k) (eqb (e.flags k) 0) (and_right (eqb (w.by_idx k) k) (e.over k && eqb (e.flags k) 0) v)) in
     ne_eqb (blamed w e.flags j) k (λ d. go d z (worst-flagged w e.flags j (base_of w j)))
   where
-    go : blamed w e.flags j ≡ k → e.flags k ≡ 0 → Flagged w e.flags (worstOf w e.flags j (base_of w j)) → ⊥
+    go : blamed w e.flags j ≡ k → e.flags k ≡ 0 → Flagged w e.flags (worst_of w e.flags j (base_of w j)) → ⊥
     go d z (inl h) = omega (arith, sym d ∙ h.0)
     go d z (inr h) = omega (arith, z, h.0, h.1, ap (λ (x : ℕ). e.flags x) d)
 
@@ -105,18 +105,18 @@ blamed-apart w e j k l v =
 abbrev marked12 : Evidence → ℕ → Bool
 marked12 e m = rule1 e m || rule2 e m
 
-fresh : (w : View) (e : Evidence) (k : ℕ) → k < w.count → isVisited w e k ≡ true → marked12 e k ≡ false
+fresh : (w : View) (e : Evidence) (k : ℕ) → k < w.count → is_visited w e k ≡ true → marked12 e k ≡ false
 fresh w e k l v =
-    let z = eqb-true (e.flags k) 0 (and_right (e.over k) (eqb (e.flags k) 0) (and_right (eqb (w.byIdx k) k) (e.over k && eqb (e.flags k) 0) v)) in
+    let z = eqb-true (e.flags k) 0 (and_right (e.over k) (eqb (e.flags k) 0) (and_right (eqb (w.by_idx k) k) (e.over k && eqb (e.flags k) 0) v)) in
     rw (lt-leb 2 (e.flags k) (omega arith), lt-leb 1 (e.flags k) (omega arith)) (and-false (e.high k))
 
 -- "(3) in index order, .. not yet marked": after rules 1 and 2, the corners of any listing of ranks that has each corner rule 3 looks at,
 -- one after the other and each only if it is not marked yet, leave with rule 4 the marks of the definition.
-pub in_order : (w : View) (e : Evidence) (l : List ℕ) → ((k : ℕ) → Memᴰ k l → k < w.count) → ((k : ℕ) → k < w.count → isVisited w e k ≡ true → Memᴰ k l)
-    → (m : ℕ) → over (visit (blamed w e.flags) (isVisited w e)) (marked12 e) l m || rule4 e m ≡ isMarked w e m
-unfolding isMarked
+pub in_order : (w : View) (e : Evidence) (l : List ℕ) → ((k : ℕ) → Memᴰ k l → k < w.count) → ((k : ℕ) → k < w.count → is_visited w e k ≡ true → Memᴰ k l)
+    → (m : ℕ) → over (visit (blamed w e.flags) (is_visited w e)) (marked12 e) l m || rule4 e m ≡ is_marked w e m
+unfolding is_marked
 in_order w e l below all m =
     ap (λ (b : Bool). b || rule4 e m)
-    (walked (blamed w e.flags) (isVisited w e) w.count (blamed-apart w e) l below (marked12 e) (fresh w e) m
-    ∙ ap (λ (b : Bool). marked12 e m || b) (any_some (counts (blamed w e.flags) (isVisited w e) m) l w.count below (λ k h c. all k h (and_right (eqb (blamed w e.flags k) m) (isVisited w e k) c))))
+    (walked (blamed w e.flags) (is_visited w e) w.count (blamed-apart w e) l below (marked12 e) (fresh w e) m
+    ∙ ap (λ (b : Bool). marked12 e m || b) (any_some (counts (blamed w e.flags) (is_visited w e) m) l w.count below (λ k h c. all k h (and_right (eqb (blamed w e.flags k) m) (is_visited w e k) c))))
     ∙ or-right-first (rule1 e m) (rule2 e m) (rule3 w e m) (rule4 e m)

@@ -1,12 +1,12 @@
 -- Which indices the rules 1 to 4 mark. What is known of an index stands at the last of its ranks, its place. Assumes nothing.
 use Rattle.std.specs.Prelude.{Bool, cond, ◌&&◌, ◌||◌, List, ℕ, eqb, ltb, leb, get_or}
-use Rattle.folds.specs.Below.{first, firstIn, some}
+use Rattle.folds.specs.Below.{first, first_in, some}
 use Rattle.folds.specs.Column.{column}
 use Rattle.folds.specs.Marked.{bit}
 use Rattle.folds.specs.Scattered.{counts}
 use Rattle.marks.specs.Marks.{is_set}
-use Rattle.view.specs.View.{View, maxPoints}
-use Rattle.local_h.specs.Base.{memberAt, onLine, isOther, isServing, base_of}
+use Rattle.view.specs.View.{View, max_points}
+use Rattle.local_h.specs.Base.{member_at, on_line, is_other, is_serving, base_of}
 use Rattle.local_h.specs.declared.Base.{Base}
 use Rattle.blame.specs.declared.Worst.{Worst}
 
@@ -18,8 +18,8 @@ pub record Evidence : Type 0 where
   pub high : ℕ → Bool
   pub deviates : ℕ → Bool
 
-abbrev pub evidenceBy : List ℕ → List ℕ → List ℕ → List ℕ → Evidence
-evidenceBy flags over high deviates =
+abbrev pub evidence_by : List ℕ → List ℕ → List ℕ → List ℕ → Evidence
+evidence_by flags over high deviates =
     record { flags = λ (m : ℕ). get_or flags m 0; over = is_set over; high = is_set high; deviates = is_set deviates }
 
 -- "(1) two line flags"
@@ -35,50 +35,50 @@ abbrev pub rule4 : Evidence → ℕ → Bool
 rule4 e m = e.deviates m && leb 1 (e.flags m)
 
 -- the rules that look at an index alone
-abbrev pub isOutlier : Evidence → ℕ → Bool
-isOutlier e m = rule1 e m || (rule2 e m || rule4 e m)
+abbrev pub is_outlier : Evidence → ℕ → Bool
+is_outlier e m = rule1 e m || (rule2 e m || rule4 e m)
 
 -- ---- "(3) in index order, residual over tolerance, no line flag, not yet marked: its base member with most flags, at least one, first
 -- of equals". That the order and "not yet marked" do not show is a theorem of proofs/InOrder.antt.
 
 module _ (w : View) (flags : ℕ → ℕ) where
   -- w and the base member at place p of the order round k: the one with more flags, the first of equals; a place of 24 or more is none
-  unfoldable pub worseOf : ℕ → Worst → ℕ → Worst
-  worseOf k worst p =
-      let m = w.byIdx (memberAt w k p) in
+  unfoldable pub worse_of : ℕ → Worst → ℕ → Worst
+  worse_of k worst p =
+      let m = w.by_idx (member_at w k p) in
       cond (ltb p 24 && ltb worst.flags (flags m)) (record { at = m; flags = flags m }) worst
 
   -- no one, at first
-  abbrev pub noOne : Worst
-  noOne = record { at = w.count; flags = 0 }
+  abbrev pub no_one : Worst
+  no_one = record { at = w.count; flags = 0 }
 
-  unfoldable pub worstOf : ℕ → Base → Worst
-  unfolding worseOf
-  worstOf k b = worseOf k (worseOf k (worseOf k (worseOf k noOne b.a) b.b) b.c) b.d
+  unfoldable pub worst_of : ℕ → Base → Worst
+  unfolding worse_of
+  worst_of k b = worse_of k (worse_of k (worse_of k (worse_of k no_one b.a) b.b) b.c) b.d
 
   -- the place of the index that corner k blames, or the count where it blames none
   unfoldable pub blamed : ℕ → ℕ
-  unfolding worstOf base_of isOther isServing onLine first firstIn
-  blamed k = (worstOf k (base_of w k)).at
+  unfolding worst_of base_of is_other is_serving on_line first first_in
+  blamed k = (worst_of k (base_of w k)).at
 
 -- rule 3 looks at rank k: the winning entry of an index whose residual is over the tolerance, with no line flag
-abbrev pub isVisited : View → Evidence → ℕ → Bool
-isVisited w e k = eqb (w.byIdx k) k && (e.over k && eqb (e.flags k) 0)
+abbrev pub is_visited : View → Evidence → ℕ → Bool
+is_visited w e k = eqb (w.by_idx k) k && (e.over k && eqb (e.flags k) 0)
 
 -- corner k blames the index at place m
 unfoldable pub blames : View → Evidence → ℕ → ℕ → Bool
 unfolding blamed
-blames w e k m = isVisited w e k && (ltb (blamed w e.flags k) w.count && eqb (blamed w e.flags k) m)
+blames w e k m = is_visited w e k && (ltb (blamed w e.flags k) w.count && eqb (blamed w e.flags k) m)
 
 abbrev pub rule3 : View → Evidence → ℕ → Bool
-rule3 w e m = some (counts (blamed w e.flags) (isVisited w e) m) w.count
+rule3 w e m = some (counts (blamed w e.flags) (is_visited w e) m) w.count
 
 -- the index at place m is marked
-unfoldable pub isMarked : View → Evidence → ℕ → Bool
+unfoldable pub is_marked : View → Evidence → ℕ → Bool
 unfolding blamed some
-isMarked w e m = rule1 e m || (rule2 e m || (rule3 w e m || rule4 e m))
+is_marked w e m = rule1 e m || (rule2 e m || (rule3 w e m || rule4 e m))
 
 -- at each rank 1 if its index is marked, else 0
-unfoldable pub blameMarks : View → Evidence → List ℕ
-unfolding isMarked column
-blameMarks w e = column maxPoints 0 w.count (λ (k : ℕ). bit (isMarked w e (w.byIdx k)))
+unfoldable pub blame_marks : View → Evidence → List ℕ
+unfolding is_marked column
+blame_marks w e = column max_points 0 w.count (λ (k : ℕ). bit (is_marked w e (w.by_idx k)))

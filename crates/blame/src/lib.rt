@@ -5,9 +5,9 @@ ghost use Rattle.std.specs.Prelude.{◌≡◌, List, [], ℕ, ◌≤◌, ◌<◌
 ghost use Rattle.folds.specs.Column.{column};
 ghost use Rattle.folds.specs.Below.{some};
 ghost use Rattle.folds.specs.Marked.{bit, Marked};
-ghost use Rattle.view.specs.View.{maxPoints, viewAt, Ranked};
-ghost use Rattle.local_h.specs.Base.{memberAt};
-ghost use Rattle.blame.specs.Marks.{evidenceBy, isOutlier, worseOf, blamed, isVisited, blames, blameMarks};
+ghost use Rattle.view.specs.View.{max_points, view_at, Ranked};
+ghost use Rattle.local_h.specs.Base.{member_at};
+ghost use Rattle.blame.specs.Marks.{evidence_by, is_outlier, worse_of, blamed, is_visited, blames, blame_marks};
 
 use view::{MAX_POINTS, Places, Ranks};
 
@@ -20,8 +20,8 @@ struct Worst {
 
 // The worse of w and the base member at place p of the order round rank k.
 fn worse(ranks: &Ranks, flags: &Places, n: usize, k: usize, worst: Worst, p: usize) -> Worst
-    requires { Ranked n ranks.now × (k < n) × (p < 24 → memberAt (viewAt n ranks.now [] []) k p < n) }
-    ensures { result ≡ worseOf (viewAt n ranks.now [] []) (λ (m : ℕ). get_or flags.now m 0) k worst p }
+    requires { Ranked n ranks.now × (k < n) × (p < 24 → member_at (view_at n ranks.now [] []) k p < n) }
+    ensures { result ≡ worse_of (view_at n ranks.now [] []) (λ (m : ℕ). get_or flags.now m 0) k worst p }
 {
     if p < 24 {
         let m = view::index_of(ranks, local_h::member(ranks, k, p));
@@ -37,7 +37,7 @@ fn worse(ranks: &Ranks, flags: &Places, n: usize, k: usize, worst: Worst, p: usi
 // The place of the index that corner k blames, or n.
 fn blame(ranks: &Ranks, flags: &Places, n: usize, k: usize) -> usize
     requires { Ranked n ranks.now × (k < n) }
-    ensures { result ≡ blamed (viewAt n ranks.now [] []) (λ (m : ℕ). get_or flags.now m 0) k }
+    ensures { result ≡ blamed (view_at n ranks.now [] []) (λ (m : ℕ). get_or flags.now m 0) k }
 {
     let b = local_h::pick_local_h_base(ranks, n, k);
     let none = Worst { at: n, flags: 0 };
@@ -50,8 +50,8 @@ fn blame(ranks: &Ranks, flags: &Places, n: usize, k: usize) -> usize
 
 // Whether rule 3 looks at rank k.
 fn is_visited(ranks: &Ranks, flags: &Places, over: &view::Marks, k: usize) -> bool
-    requires { k < maxPoints }
-    ensures { result ≡ isVisited (viewAt 0 ranks.now [] []) (evidenceBy flags.now over.now [] []) k }
+    requires { k < max_points }
+    ensures { result ≡ is_visited (view_at 0 ranks.now [] []) (evidence_by flags.now over.now [] []) k }
 {
     if view::index_of(ranks, k) == k {
         if over[k] == 1 {
@@ -63,8 +63,8 @@ fn is_visited(ranks: &Ranks, flags: &Places, over: &view::Marks, k: usize) -> bo
 
 // 1 for an index that rule 1, 2 or 4 marks, else 0.
 fn outlier(flags: &Places, high: &view::Marks, deviates: &view::Marks, m: usize) -> u8
-    requires { m < maxPoints }
-    ensures { result ≡ bit (isOutlier (evidenceBy flags.now [] high.now deviates.now) m) }
+    requires { m < max_points }
+    ensures { result ≡ bit (is_outlier (evidence_by flags.now [] high.now deviates.now) m) }
 {
     let f = flags[m];
     if f == 0 {
@@ -81,8 +81,8 @@ fn outlier(flags: &Places, high: &view::Marks, deviates: &view::Marks, m: usize)
 
 // 1 for each index that rule 1, 2 or 4 marks, else 0.
 fn outliers(flags: &Places, high: &view::Marks, deviates: &view::Marks, n: usize) -> view::Marks
-    requires { n ≤ maxPoints }
-    ensures { result ≡ column maxPoints 0 n (λ (m : ℕ). bit (isOutlier (evidenceBy flags.now [] high.now deviates.now) m)) }
+    requires { n ≤ max_points }
+    ensures { result ≡ column max_points 0 n (λ (m : ℕ). bit (is_outlier (evidence_by flags.now [] high.now deviates.now) m)) }
 {
     let mut out = [0u8; MAX_POINTS];
     let mut m: usize = 0;
@@ -103,7 +103,7 @@ fn mark_blamed(
     out: &mut view::Marks,
 )
     requires { Ranked n ranks.now × (k < n) }
-    ensures { Marked (blames (viewAt n ranks.now [] []) (evidenceBy flags.now over.now [] []) k) out.old out.new }
+    ensures { Marked (blames (view_at n ranks.now [] []) (evidence_by flags.now over.now [] []) k) out.old out.new }
 {
     if is_visited(ranks, flags, over, k) {
         marks::set_if(true, blame(ranks, flags, n, k), n, out);
@@ -119,7 +119,7 @@ fn mark_all_blamed(
     out: &mut view::Marks,
 )
     requires { Ranked n ranks.now }
-    ensures { Marked (λ (m : ℕ). some (λ (k : ℕ). blames (viewAt n ranks.now [] []) (evidenceBy flags.now over.now [] []) k m) n) out.old out.new }
+    ensures { Marked (λ (m : ℕ). some (λ (k : ℕ). blames (view_at n ranks.now [] []) (evidence_by flags.now over.now [] []) k m) n) out.old out.new }
 {
     let mut k: usize = 0;
     while k < n {
@@ -131,7 +131,7 @@ fn mark_all_blamed(
 // At each rank the mark at the place of its index.
 fn spread(ranks: &Ranks, mark: &view::Marks, n: usize) -> view::Marks
     requires { Ranked n ranks.now }
-    ensures { result ≡ column maxPoints 0 n (λ (k : ℕ). get_or mark.now ((viewAt n ranks.now [] []).byIdx k) 0) }
+    ensures { result ≡ column max_points 0 n (λ (k : ℕ). get_or mark.now ((view_at n ranks.now [] []).by_idx k) 0) }
 {
     let mut out = [0u8; MAX_POINTS];
     let mut k: usize = 0;
@@ -152,7 +152,7 @@ pub fn marks(
     n: usize,
 ) -> view::Marks
     requires { Ranked n ranks.now }
-    ensures { (xs ys : List Float) → result ≡ blameMarks (viewAt n ranks.now xs ys) (evidenceBy flags.now over.now high.now deviates.now) }
+    ensures { (xs ys : List Float) → result ≡ blame_marks (view_at n ranks.now xs ys) (evidence_by flags.now over.now high.now deviates.now) }
 {
     let mut held = outliers(flags, high, deviates, n);
     mark_all_blamed(ranks, flags, over, n, &mut held);

@@ -8,13 +8,13 @@ use Rattle.cells.specs.Cell.{within, agree}
 use Rattle.cells.proofs.Edges.{agree_same, agree-true}
 
 -- a whole number as a difference: how far up it leads, and how far down
-abbrev pub upOf : ℤ → ℕ
-upOf (pos d) = d
-upOf (negsuc d) = 0
+abbrev pub up_of : ℤ → ℕ
+up_of (pos d) = d
+up_of (negsuc d) = 0
 
-abbrev pub downOf : ℤ → ℕ
-downOf (pos d) = 0
-downOf (negsuc d) = suc d
+abbrev pub down_of : ℤ → ℕ
+down_of (pos d) = 0
+down_of (negsuc d) = suc d
 
 -- z plus the bias, for z not further down than that
 abbrev pub lift : ℤ → ℕ
@@ -34,21 +34,21 @@ lowest = bias - 8000
 abbrev pub highest : ℕ
 highest = bias + 8000
 
-abbrev pub betweenEnds : ℕ → Bool
-betweenEnds b = leb lowest b && leb b highest
+abbrev pub between_ends : ℕ → Bool
+between_ends b = leb lowest b && leb b highest
 
-pub ends-hold : (b : ℕ) → betweenEnds b ≡ true → (lowest ≤ b) × (b ≤ highest)
+pub ends-hold : (b : ℕ) → between_ends b ≡ true → (lowest ≤ b) × (b ≤ highest)
 ends-hold b e = (leb-true lowest b (and_left (leb lowest b) (leb b highest) e), leb-true b highest (and_right (leb lowest b) (leb b highest) e))
 
-pub ends-are : (b : ℕ) → lowest ≤ b → b ≤ highest → betweenEnds b ≡ true
+pub ends-are : (b : ℕ) → lowest ≤ b → b ≤ highest → between_ends b ≡ true
 ends-are b l m = and_both (leb lowest b) (leb b highest) (le-leb lowest b l) (le-leb b highest m)
 
-pub within-lift : (z : ℤ) → within z ≡ betweenEnds (lift z)
+pub within-lift : (z : ℤ) → within z ≡ between_ends (lift z)
 within-lift (pos n) =
-    both_ways (within (pos n)) (betweenEnds (lift (pos n))) (λ e. ends-are (n + bias) (omega arith) (omega (arith, leb-true n 8000 e)))
+    both_ways (within (pos n)) (between_ends (lift (pos n))) (λ e. ends-are (n + bias) (omega arith) (omega (arith, leb-true n 8000 e)))
     (λ e. le-leb n 8000 (omega (arith, ends-hold (n + bias) e)))
 within-lift (negsuc n) =
-    both_ways (within (negsuc n)) (betweenEnds (lift (negsuc n)))
+    both_ways (within (negsuc n)) (between_ends (lift (negsuc n)))
     (λ e. let l = leb-true n 7999 (and_left (leb n 7999) true e) in ends-are (bias - suc n) (omega arith) (omega arith))
     (λ e. and_both (leb n 7999) true (le-leb n 7999 (omega (arith, ends-hold (bias - suc n) e))) refl)
 
@@ -104,23 +104,23 @@ pub part-lift : (a : ℕ) → lift (pos a -ℤ pos bias) ≡ a
 part-lift a = omega (arith, sub-lift a bias (part-liftable a))
 
 -- z + a
-pub add-lift : (z a : ℤ) → Liftable z → Liftable (z +ℤ a) → lift (z +ℤ a) + downOf a ≡ lift z + upOf a
+pub add-lift : (z a : ℤ) → Liftable z → Liftable (z +ℤ a) → lift (z +ℤ a) + down_of a ≡ lift z + up_of a
 add-lift (pos n) (pos d) p q = omega arith
 add-lift (pos n) (negsuc d) p q = omega (arith, sub-lift n (suc d) q)
 add-lift (negsuc n) (pos d) p q = omega (arith, sub-lift d (suc n) q)
 add-lift (negsuc n) (negsuc d) p q = omega arith
 
-add-liftable : (z a : ℤ) → within z ≡ true → downOf a ≤ lowest → Liftable (z +ℤ a)
+add-liftable : (z a : ℤ) → within z ≡ true → down_of a ≤ lowest → Liftable (z +ℤ a)
 add-liftable (pos n) (pos d) e h = tt
 add-liftable (pos n) (negsuc d) e h = sub-liftable n (suc d) (omega arith)
 add-liftable (negsuc n) (pos d) e h = sub-liftable d (suc n) (omega (arith, liftable (negsuc n) e))
 add-liftable (negsuc n) (negsuc d) e h = omega (arith, lift-range (negsuc n) e)
 
 -- e - 2
-less_two : (e : ℕ) → (upOf (pos e -ℤ pos 2) + 2 ≡ e + downOf (pos e -ℤ pos 2)) × (downOf (pos e -ℤ pos 2) ≤ 2)
+less_two : (e : ℕ) → (up_of (pos e -ℤ pos 2) + 2 ≡ e + down_of (pos e -ℤ pos 2)) × (down_of (pos e -ℤ pos 2) ≤ 2)
 less_two e = go (ltb e 2) refl
   where
-    go : (t : Bool) → ltb e 2 ≡ t → (upOf (cond t (negsuc (2 - suc e)) (pos (e - 2))) + 2 ≡ e + downOf (cond t (negsuc (2 - suc e)) (pos (e - 2)))) × (downOf (cond t (negsuc (2 - suc e)) (pos (e - 2))) ≤ 2)
+    go : (t : Bool) → ltb e 2 ≡ t → (up_of (cond t (negsuc (2 - suc e)) (pos (e - 2))) + 2 ≡ e + down_of (cond t (negsuc (2 - suc e)) (pos (e - 2)))) × (down_of (cond t (negsuc (2 - suc e)) (pos (e - 2))) ≤ 2)
     go true h = (omega (arith, ltb-true e 2 h), omega (arith, ltb-true e 2 h))
     go false h = (omega (arith, ltb-false e 2 h), omega arith)
 

@@ -4,8 +4,8 @@ use mathlib.Core.Bool.{false≢true}
 use lib.IntN.{+ℤ_idr, +ℤ_assoc, +ℤ_comm, +ℤ-neg_ℤ_cancel}
 use Rattle.folds.proofs.Below.{some_at, some-yes, and_left, and_right, and_both, both_ways, or_left, or_right, or_cases}
 use Rattle.offsets.specs.declared.Offset.{Offset}
-use Rattle.offsets.specs.Offsets.{own, squareSides, offset_of}
-use Rattle.cells.specs.Cell.{Cell, moved, agree, differByOne, shareEdge, coincide, offsetBy, joinedBy}
+use Rattle.offsets.specs.Offsets.{own, square_sides, offset_of}
+use Rattle.cells.specs.Cell.{Cell, moved, agree, differ_by_one, share_edge, coincide, offset_by, joined_by}
 
 -- ---- whole numbers
 
@@ -47,10 +47,10 @@ swapped : (z a b : ℤ) → (z +ℤ a) +ℤ b ≡ (z +ℤ b) +ℤ a
 swapped z a b = +ℤ_assoc z a b ∙ ap (λ (w : ℤ). z +ℤ w) (+ℤ_comm a b) ∙ sym (+ℤ_assoc z b a)
 
 -- cells moved alike stand to each other as before
-pub offset-moved : (a b : ℤ) (o : Offset) (c e : Cell) → coincide (moved a b e) (offsetBy o (moved a b c)) ≡ coincide e (offsetBy o c)
+pub offset-moved : (a b : ℤ) (o : Offset) (c e : Cell) → coincide (moved a b e) (offset_by o (moved a b c)) ≡ coincide e (offset_by o c)
 offset-moved a b o c e =
-    let f : offsetBy o (moved a b c) ≡ moved a b (offsetBy o c) = same-cell (swapped c.u a _) (swapped c.v b _) in
-    ap (coincide (moved a b e)) f ∙ rw (agree-moved e.u (offsetBy o c).u a, agree-moved e.v (offsetBy o c).v b)
+    let f : offset_by o (moved a b c) ≡ moved a b (offset_by o c) = same-cell (swapped c.u a _) (swapped c.v b _) in
+    ap (coincide (moved a b e)) f ∙ rw (agree-moved e.u (offset_by o c).u a, agree-moved e.v (offset_by o c).v b)
 
 back : (z : ℤ) (e : ℕ) → e < 5 → (z +ℤ (pos e -ℤ pos 2)) +ℤ (pos (4 - e) -ℤ pos 2) ≡ z
 back z e h = +ℤ_assoc z (pos e -ℤ pos 2) (pos (4 - e) -ℤ pos 2) ∙ ap (λ (w : ℤ). z +ℤ w) (opposite e h) ∙ +ℤ_idr z
@@ -64,7 +64,7 @@ back z e h = +ℤ_assoc z (pos e -ℤ pos 2) (pos (4 - e) -ℤ pos 2) ∙ ap (λ
     opposite (suc (suc (suc (suc (suc e))))) h = absurd (omega arith)
 
 -- the offset at place 24 - d leads back from the one at place d
-pub offset-back : (d : ℕ) (c : Cell) → d < 25 → offsetBy (offset_of (24 - d)) (offsetBy (offset_of d) c) ≡ c
+pub offset-back : (d : ℕ) (c : Cell) → d < 25 → offset_by (offset_of (24 - d)) (offset_by (offset_of d) c) ≡ c
 offset-back d c h =
     let a : (24 - d) / 5 ≡ 4 - d / 5 = omega arith in
     let b : (24 - d) % 5 ≡ 4 - d % 5 = omega arith in
@@ -73,11 +73,11 @@ offset-back d c h =
 -- ---- shared edges
 
 abbrev side : ℕ → Offset
-side i = get_or squareSides i own
+side i = get_or square_sides i own
 
 module _ (u v x y : ℤ) where
   abbrev Over : Offset → Type 0
-  Over o = cell_at x y ≡ offsetBy o (cell_at u v)
+  Over o = cell_at x y ≡ offset_by o (cell_at u v)
 
   by-u : (a : ℤ) → agree x (u +ℤ a) ≡ true → agree v y ≡ true → cell_at x y ≡ moved a (pos 0) (cell_at u v)
   by-u a e f = same-cell (agree-true x (u +ℤ a) e) (sym (agree-true v y f) ∙ sym (+ℤ_idr v))
@@ -85,8 +85,8 @@ module _ (u v x y : ℤ) where
   by-v : (b : ℤ) → agree u x ≡ true → agree y (v +ℤ b) ≡ true → cell_at x y ≡ moved (pos 0) b (cell_at u v)
   by-v b e f = same-cell (sym (agree-true u x e) ∙ sym (+ℤ_idr u)) (agree-true y (v +ℤ b) f)
 
-  side-of : shareEdge (cell_at u v) (cell_at x y) ≡ true → (i : ℕ) × (i < 4) × Over (side i)
-  side-of e = go (or_cases (differByOne u x && agree v y) (agree u x && differByOne v y) e)
+  side-of : share_edge (cell_at u v) (cell_at x y) ≡ true → (i : ℕ) × (i < 4) × Over (side i)
+  side-of e = go (or_cases (differ_by_one u x && agree v y) (agree u x && differ_by_one v y) e)
     where
       in-u : agree v y ≡ true → (agree x (u -ℤ pos 1) ≡ true) ⊎ (agree x (u +ℤ pos 1) ≡ true) → (i : ℕ) × (i < 4) × Over (side i)
       in-u f (inl e) = (2, omega arith, by-u (negsuc 0) e f)
@@ -96,9 +96,9 @@ module _ (u v x y : ℤ) where
       in-v f (inl e) = (3, omega arith, by-v (negsuc 0) f e)
       in-v f (inr e) = (1, omega arith, by-v (pos 1) f e)
 
-      go : (differByOne u x && agree v y ≡ true) ⊎ (agree u x && differByOne v y ≡ true) → (i : ℕ) × (i < 4) × Over (side i)
-      go (inl h) = in-u (and_right (differByOne u x) (agree v y) h) (or_cases (agree x (u -ℤ pos 1)) (agree x (u +ℤ pos 1)) (and_left (differByOne u x) (agree v y) h))
-      go (inr h) = in-v (and_left (agree u x) (differByOne v y) h) (or_cases (agree y (v -ℤ pos 1)) (agree y (v +ℤ pos 1)) (and_right (agree u x) (differByOne v y) h))
+      go : (differ_by_one u x && agree v y ≡ true) ⊎ (agree u x && differ_by_one v y ≡ true) → (i : ℕ) × (i < 4) × Over (side i)
+      go (inl h) = in-u (and_right (differ_by_one u x) (agree v y) h) (or_cases (agree x (u -ℤ pos 1)) (agree x (u +ℤ pos 1)) (and_left (differ_by_one u x) (agree v y) h))
+      go (inr h) = in-v (and_left (agree u x) (differ_by_one v y) h) (or_cases (agree y (v -ℤ pos 1)) (agree y (v +ℤ pos 1)) (and_right (agree u x) (differ_by_one v y) h))
 
   over-u : (a : ℤ) → cell_at x y ≡ moved a (pos 0) (cell_at u v) → (agree x (u +ℤ a) ≡ true) × (agree v y ≡ true)
   over-u a e =
@@ -112,13 +112,13 @@ module _ (u v x y : ℤ) where
       let g : y ≡ v +ℤ b = ap (λ (c : Cell). c.v) e in
       (agree_same u x (sym (f ∙ +ℤ_idr u)), agree_same y (v +ℤ b) g)
 
-  in-u-is : differByOne u x ≡ true → agree v y ≡ true → shareEdge (cell_at u v) (cell_at x y) ≡ true
-  in-u-is e f = or_left (differByOne u x && agree v y) (agree u x && differByOne v y) (and_both (differByOne u x) (agree v y) e f)
+  in-u-is : differ_by_one u x ≡ true → agree v y ≡ true → share_edge (cell_at u v) (cell_at x y) ≡ true
+  in-u-is e f = or_left (differ_by_one u x && agree v y) (agree u x && differ_by_one v y) (and_both (differ_by_one u x) (agree v y) e f)
 
-  in-v-is : agree u x ≡ true → differByOne v y ≡ true → shareEdge (cell_at u v) (cell_at x y) ≡ true
-  in-v-is e f = or_right (differByOne u x && agree v y) (agree u x && differByOne v y) (and_both (agree u x) (differByOne v y) e f)
+  in-v-is : agree u x ≡ true → differ_by_one v y ≡ true → share_edge (cell_at u v) (cell_at x y) ≡ true
+  in-v-is e f = or_right (differ_by_one u x && agree v y) (agree u x && differ_by_one v y) (and_both (agree u x) (differ_by_one v y) e f)
 
-  of-side : (i : ℕ) → i < 4 → Over (side i) → shareEdge (cell_at u v) (cell_at x y) ≡ true
+  of-side : (i : ℕ) → i < 4 → Over (side i) → share_edge (cell_at u v) (cell_at x y) ≡ true
   of-side zero h e = let w = over-u (pos 1) e in in-u-is (or_right (agree x (u -ℤ pos 1)) (agree x (u +ℤ pos 1)) w.0) w.1
   of-side (suc zero) h e = let w = over-v (pos 1) e in in-v-is w.0 (or_right (agree y (v -ℤ pos 1)) (agree y (v +ℤ pos 1)) w.1)
   of-side (suc (suc zero)) h e = let w = over-u (negsuc 0) e in in-u-is (or_left (agree x (u -ℤ pos 1)) (agree x (u +ℤ pos 1)) w.0) w.1
@@ -126,11 +126,11 @@ module _ (u v x y : ℤ) where
   of-side (suc (suc (suc (suc i)))) h e = absurd (omega arith)
 
 -- two cells are joined by the four offsets of the square lattice just where they share an edge
-pub joined-share : (c d : Cell) → joinedBy squareSides c d ≡ shareEdge c d
+pub joined-share : (c d : Cell) → joined_by square_sides c d ≡ share_edge c d
 joined-share c d =
-    both_ways (joinedBy squareSides c d) (shareEdge c d)
-    (λ e. let w = some_at leads 4 e in of-side c.u c.v d.u d.v w.0 w.1 (coincide-true d (offsetBy (side w.0) c) w.2))
-    (λ e. let w = side-of c.u c.v d.u d.v e in some-yes leads 4 w.0 w.1 (coincide-same d (offsetBy (side w.0) c) w.2))
+    both_ways (joined_by square_sides c d) (share_edge c d)
+    (λ e. let w = some_at leads 4 e in of-side c.u c.v d.u d.v w.0 w.1 (coincide-true d (offset_by (side w.0) c) w.2))
+    (λ e. let w = side-of c.u c.v d.u d.v e in some-yes leads 4 w.0 w.1 (coincide-same d (offset_by (side w.0) c) w.2))
   where
     leads : ℕ → Bool
-    leads i = coincide d (offsetBy (side i) c)
+    leads i = coincide d (offset_by (side i) c)

@@ -9,23 +9,23 @@ use Rattle.folds.specs.Lists.{list_of}
 use Rattle.folds.proofs.Lists.{list_at, list_over}
 use Rattle.folds.specs.Column.{column}
 use Rattle.folds.proofs.Column.{column-at, column-over}
-use Rattle.view.specs.View.{maxPoints}
+use Rattle.view.specs.View.{max_points}
 use Rattle.cells.specs.Points.{Point, nowhere, bias, stride, biased, key_of, keys_of}
-use Rattle.cells.specs.Cell.{Cell, signed, within, cell_of, InRange, CellInRange, before, moved, agree, cellOfKey, cellsAt, cells_of}
-use Rattle.cells.proofs.Coordinates.{upOf, downOf, lift, Liftable, lowest, highest, betweenEnds, ends-hold, ends-are, within-lift, lift-range, liftable, lift-one, lift-agree, lift-less, part-liftable, part-lift, add-lift}
+use Rattle.cells.specs.Cell.{Cell, signed, within, cell_of, InRange, CellInRange, before, moved, agree, cell_of_key, cells_at, cells_of}
+use Rattle.cells.proofs.Coordinates.{up_of, down_of, lift, Liftable, lowest, highest, between_ends, ends-hold, ends-are, within-lift, lift-range, liftable, lift-one, lift-agree, lift-less, part-liftable, part-lift, add-lift}
 use Rattle.cells.proofs.Edges.{same-cell}
 
 -- ---- from patterns
 
 -- u (or v) lies in −8,000 to 8,000 just where its pattern plus the bias is between the ends plus the bias
-pub range-is : (b : ℕ) → b < 2 ^ 32 → within (signed b) ≡ betweenEnds (biased b)
+pub range-is : (b : ℕ) → b < 2 ^ 32 → within (signed b) ≡ between_ends (biased b)
 range-is b h = go (ltb b (2 ^ 31)) refl
   where
-    go : (s : Bool) → ltb b (2 ^ 31) ≡ s → within (sel s (pos b) (negsuc (2 ^ 32 - suc b))) ≡ betweenEnds (biased b)
+    go : (s : Bool) → ltb b (2 ^ 31) ≡ s → within (sel s (pos b) (negsuc (2 ^ 32 - suc b))) ≡ between_ends (biased b)
     go true e = let l = ltb-true b (2 ^ 31) e in let m : biased b ≡ b + bias = omega arith in rw m (within-lift (pos b))
     go false e =
         let l = ltb-false b (2 ^ 31) e in
-        both_ways (within (negsuc (2 ^ 32 - suc b))) (betweenEnds (biased b))
+        both_ways (within (negsuc (2 ^ 32 - suc b))) (between_ends (biased b))
         (λ t. let r = lift-range (negsuc (2 ^ 32 - suc b)) t in ends-are (biased b) (omega arith) (omega arith))
         (λ t. let r = ends-hold (biased b) t in within-lift (negsuc (2 ^ 32 - suc b)) ∙ ends-are (bias - suc (2 ^ 32 - suc b)) (omega arith) (omega arith))
 
@@ -40,7 +40,7 @@ biased-is b h t = go (ltb b (2 ^ 31)) refl t
     go false e t = omega (arith, ltb-false b (2 ^ 31) e, lift-range (negsuc (2 ^ 32 - suc b)) t)
 
 -- the cell with a point's key is the point's
-pub key-cell : (p : Point) → InRange p → cellOfKey (key_of p) ≡ cell_of p
+pub key-cell : (p : Point) → InRange p → cell_of_key (key_of p) ≡ cell_of p
 key-cell p r =
     let u = biased-is p.u r.fits-u r.u in
     let v = biased-is p.v r.fits-v r.v in
@@ -51,14 +51,14 @@ key-cell p r =
 
 -- one key, one cell
 pub one_cell : (p q : Point) → InRange p → InRange q → key_of p ≡ key_of q → cell_of p ≡ cell_of q
-one_cell p q r s e = sym (key-cell p r) ∙ ap cellOfKey e ∙ key-cell q s
+one_cell p q r s e = sym (key-cell p r) ∙ ap cell_of_key e ∙ key-cell q s
 
 pub cell_at : (ps : List Point) (k : ℕ) → k < length ps → cells_of ps k ≡ cell_of (get_or ps k nowhere)
 unfolding cells_of
-cell_at ps k h = list_at (length ps) (λ (k : ℕ). cell_of (get_or ps k nowhere)) k (cellOfKey 0) h
+cell_at ps k h = list_at (length ps) (λ (k : ℕ). cell_of (get_or ps k nowhere)) k (cell_of_key 0) h
 
 -- an array of the keys of points gives their cells
-pub cells_are : (ps : List Point) → ((k : ℕ) → k < length ps → InRange (get_or ps k nowhere)) → cellsAt (keys_of ps) ≡ cells_of ps
+pub cells_are : (ps : List Point) → ((k : ℕ) → k < length ps → InRange (get_or ps k nowhere)) → cells_at (keys_of ps) ≡ cells_of ps
 unfolding keys_of cells_of
 cells_are ps inside = fun_ext (λ k. go k (dec_lt k (length ps)))
   where
@@ -68,27 +68,27 @@ cells_are ps inside = fun_ext (λ k. go k (dec_lt k (length ps)))
     cell : ℕ → Cell
     cell k = cell_of (get_or ps k nowhere)
 
-    go : (k : ℕ) → Dec (k < length ps) → cellOfKey (get_or (column maxPoints 0 (length ps) key) k 0) ≡ get_or (list_of (length ps) cell) k (cellOfKey 0)
-    go k (yes h) = rw (column-at maxPoints 0 (length ps) key k h, list_at (length ps) cell k (cellOfKey 0) h) (key-cell (get_or ps k nowhere) (inside k h))
-    go k (no x) = rw (column-over maxPoints 0 (length ps) key k (omega (arith, x)), list_over (length ps) cell k (cellOfKey 0) (omega (arith, x)))
+    go : (k : ℕ) → Dec (k < length ps) → cell_of_key (get_or (column max_points 0 (length ps) key) k 0) ≡ get_or (list_of (length ps) cell) k (cell_of_key 0)
+    go k (yes h) = rw (column-at max_points 0 (length ps) key k h, list_at (length ps) cell k (cell_of_key 0) h) (key-cell (get_or ps k nowhere) (inside k h))
+    go k (no x) = rw (column-over max_points 0 (length ps) key k (omega (arith, x)), list_over (length ps) cell k (cell_of_key 0) (omega (arith, x)))
 
 -- ---- the parts of keys
 
-pub same-u : (a b : ℕ) → agree (cellOfKey a).u (cellOfKey b).u ≡ eqb (a / stride) (b / stride)
-same-u a b = lift-agree (cellOfKey a).u (cellOfKey b).u (part-liftable (a / stride)) (part-liftable (b / stride)) ∙ rw (part-lift (a / stride), part-lift (b / stride))
+pub same-u : (a b : ℕ) → agree (cell_of_key a).u (cell_of_key b).u ≡ eqb (a / stride) (b / stride)
+same-u a b = lift-agree (cell_of_key a).u (cell_of_key b).u (part-liftable (a / stride)) (part-liftable (b / stride)) ∙ rw (part-lift (a / stride), part-lift (b / stride))
 
-pub same-v : (a b : ℕ) → agree (cellOfKey a).v (cellOfKey b).v ≡ eqb (a % stride) (b % stride)
-same-v a b = lift-agree (cellOfKey a).v (cellOfKey b).v (part-liftable (a % stride)) (part-liftable (b % stride)) ∙ rw (part-lift (a % stride), part-lift (b % stride))
+pub same-v : (a b : ℕ) → agree (cell_of_key a).v (cell_of_key b).v ≡ eqb (a % stride) (b % stride)
+same-v a b = lift-agree (cell_of_key a).v (cell_of_key b).v (part-liftable (a % stride)) (part-liftable (b % stride)) ∙ rw (part-lift (a % stride), part-lift (b % stride))
 
 -- the order of keys is the order of cells, by u, then v
-keys-order : (a b : ℕ) → ltb a b ≡ before (cellOfKey a) (cellOfKey b)
+keys-order : (a b : ℕ) → ltb a b ≡ before (cell_of_key a) (cell_of_key b)
 keys-order a b =
-    let liftable-u : (k : ℕ) → Liftable (cellOfKey k).u = λ k. part-liftable (k / stride) in
-    let liftable-v : (k : ℕ) → Liftable (cellOfKey k).v = λ k. part-liftable (k % stride) in
+    let liftable-u : (k : ℕ) → Liftable (cell_of_key k).u = λ k. part-liftable (k / stride) in
+    let liftable-v : (k : ℕ) → Liftable (cell_of_key k).v = λ k. part-liftable (k % stride) in
     rw (
-      lift-less (cellOfKey a).u (cellOfKey b).u (liftable-u a) (liftable-u b),
-      lift-less (cellOfKey b).u (cellOfKey a).u (liftable-u b) (liftable-u a),
-      lift-less (cellOfKey a).v (cellOfKey b).v (liftable-v a) (liftable-v b),
+      lift-less (cell_of_key a).u (cell_of_key b).u (liftable-u a) (liftable-u b),
+      lift-less (cell_of_key b).u (cell_of_key a).u (liftable-u b) (liftable-u a),
+      lift-less (cell_of_key a).v (cell_of_key b).v (liftable-v a) (liftable-v b),
       part-lift (a / stride),
       part-lift (b / stride),
       part-lift (a % stride),
@@ -103,18 +103,18 @@ keys-order a b =
     go (no x) (no y) (no z) = rw (le-ltb (a / stride) (b / stride) (omega arith), le-ltb (b / stride) (a / stride) (omega arith), le-ltb (a % stride) (b % stride) (omega arith)) (le-ltb a b (omega arith))
 
 pub key-order : (p q : Point) → InRange p → InRange q → ltb (key_of p) (key_of q) ≡ before (cell_of p) (cell_of q)
-key-order p q r s = keys-order (key_of p) (key_of q) ∙ ap (λ (c : Cell). before c (cellOfKey (key_of q))) (key-cell p r) ∙ ap (before (cell_of p)) (key-cell q s)
+key-order p q r s = keys-order (key_of p) (key_of q) ∙ ap (λ (c : Cell). before c (cell_of_key (key_of q))) (key-cell p r) ∙ ap (before (cell_of p)) (key-cell q s)
 
 -- ---- keys of cells in range
 
 -- the parts leave room for three cells each way
-pub parts-range : (key : ℕ) → CellInRange (cellOfKey key) → (lowest ≤ key / stride) × (key / stride ≤ highest) × (lowest ≤ key % stride) × (key % stride ≤ highest)
+pub parts-range : (key : ℕ) → CellInRange (cell_of_key key) → (lowest ≤ key / stride) × (key / stride ≤ highest) × (lowest ≤ key % stride) × (key % stride ≤ highest)
 parts-range key r =
-    let a = rw (part-lift (key / stride)) at (lift-range (cellOfKey key).u r.u) in
-    let b = rw (part-lift (key % stride)) at (lift-range (cellOfKey key).v r.v) in
+    let a = rw (part-lift (key / stride)) at (lift-range (cell_of_key key).u r.u) in
+    let b = rw (part-lift (key % stride)) at (lift-range (cell_of_key key).v r.v) in
     (a.0, a.1, b.0, b.1)
 
-pub small-key : (key : ℕ) → CellInRange (cellOfKey key) → key < 2 ^ 28
+pub small-key : (key : ℕ) → CellInRange (cell_of_key key) → key < 2 ^ 28
 small-key key r = omega (arith, parts-range key r)
 
 pub key-small : (p : Point) → InRange p → key_of p < 2 ^ 28
@@ -122,17 +122,17 @@ key-small p r = small-key (key_of p) (rw (key-cell p r) (record { u = r.u; v = r
 
 -- ---- a move of cells as a move of keys
 
-abbrev pub keyUp : ℤ → ℤ → ℕ
-keyUp a b = upOf a * stride + upOf b
+abbrev pub key_up : ℤ → ℤ → ℕ
+key_up a b = up_of a * stride + up_of b
 
-abbrev pub keyDown : ℤ → ℤ → ℕ
-keyDown a b = downOf a * stride + downOf b
+abbrev pub key_down : ℤ → ℤ → ℕ
+key_down a b = down_of a * stride + down_of b
 
 -- two numbers are the same before a move just where they are after it
 pub same_test : (i j k l up down : ℕ) → i + down ≡ k + up → j + down ≡ l + up → eqb i j ≡ eqb k l
 same_test i j k l up down e f = both_ways (eqb i j) (eqb k l) (λ t. eq-eqb k l (omega (arith, eqb-true i j t))) (λ t. eq-eqb i j (omega (arith, eqb-true k l t)))
 
-pub key-moved : (a b : ℤ) (p q : Point) → InRange p → InRange q → cell_of q ≡ moved a b (cell_of p) → key_of q + keyDown a b ≡ key_of p + keyUp a b
+pub key-moved : (a b : ℤ) (p q : Point) → InRange p → InRange q → cell_of q ≡ moved a b (cell_of p) → key_of q + key_down a b ≡ key_of p + key_up a b
 key-moved a b p q r s e =
     omega (
       arith,
@@ -144,5 +144,5 @@ key-moved a b p q r s e =
       biased-is q.v s.fits-v s.v,
     )
   where
-    by-lift : (z a x : ℤ) → Liftable z → Liftable x → x ≡ z +ℤ a → lift x + downOf a ≡ lift z + upOf a
+    by-lift : (z a x : ℤ) → Liftable z → Liftable x → x ≡ z +ℤ a → lift x + down_of a ≡ lift z + up_of a
     by-lift z a x p q e = rw (← e) at (add-lift z a p (rw e at q))

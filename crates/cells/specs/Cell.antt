@@ -51,12 +51,12 @@ agree (pos a) (negsuc b) = false
 agree (negsuc a) (pos b) = false
 agree (negsuc a) (negsuc b) = a == b
 
-abbrev pub differByOne : ℤ → ℤ → Bool
-differByOne a b = agree b (a -ℤ pos 1) || agree b (a +ℤ pos 1)
+abbrev pub differ_by_one : ℤ → ℤ → Bool
+differ_by_one a b = agree b (a -ℤ pos 1) || agree b (a +ℤ pos 1)
 
 -- "Two cells share an edge if they differ by one in u and agree in v, or the other way round."
-abbrev pub shareEdge : Cell → Cell → Bool
-shareEdge c d = (differByOne c.u d.u && agree c.v d.v) || (agree c.u d.u && differByOne c.v d.v)
+abbrev pub share_edge : Cell → Cell → Bool
+share_edge c d = (differ_by_one c.u d.u && agree c.v d.v) || (agree c.u d.u && differ_by_one c.v d.v)
 
 -- c and d are one cell
 abbrev pub coincide : Cell → Cell → Bool
@@ -65,24 +65,24 @@ coincide c d = agree c.u d.u && agree c.v d.v
 -- ---- offsets
 
 -- the cell at offset o
-abbrev pub offsetBy : Offset → Cell → Cell
-offsetBy o c = moved o.du o.dv c
+abbrev pub offset_by : Offset → Cell → Cell
+offset_by o c = moved o.du o.dv c
 
 -- one of the offsets of a list leads from c to d
-abbrev pub joinedBy : List Offset → Cell → Cell → Bool
-joinedBy sides c d = some (λ (i : ℕ). coincide d (offsetBy (slice_index_or sides i own) c)) (length sides)
+abbrev pub joined_by : List Offset → Cell → Cell → Bool
+joined_by sides c d = some (λ (i : ℕ). coincide d (offset_by (slice_index_or sides i own) c)) (length sides)
 
 -- ---- cells by rank
 
 -- the cell with this key
-abbrev pub cellOfKey : ℕ → Cell
-cellOfKey key = record { u = pos (key / stride) -ℤ pos bias; v = pos (key % stride) -ℤ pos bias }
+abbrev pub cell_of_key : ℕ → Cell
+cell_of_key key = record { u = pos (key / stride) -ℤ pos bias; v = pos (key % stride) -ℤ pos bias }
 
 -- the cells whose keys an array holds
-abbrev pub cellsAt : List ℕ → ℕ → Cell
-cellsAt keys k = cellOfKey (slice_index keys k)
+abbrev pub cells_at : List ℕ → ℕ → Cell
+cells_at keys k = cell_of_key (slice_index keys k)
 
--- the cells of the points ps; past their end the cell that cellsAt gives past the end of an array
+-- the cells of the points ps; past their end the cell that cells_at gives past the end of an array
 unfoldable pub cells_of : List Point → ℕ → Cell
 unfolding list_of
-cells_of ps = let cells = list_of (length ps) (λ (k : ℕ). cell_of (slice_index_or ps k nowhere)) in λ (k : ℕ). slice_index_or cells k (cellOfKey 0)
+cells_of ps = let cells = list_of (length ps) (λ (k : ℕ). cell_of (slice_index_or ps k nowhere)) in λ (k : ℕ). slice_index_or cells k (cell_of_key 0)

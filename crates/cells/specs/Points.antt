@@ -3,7 +3,7 @@ use Rattle.std.specs.Prelude.{ℕ, ◌+◌, ◌*◌, ◌%◌, ◌^◌, List, len
 use Rattle.std.specs.Float.{nan}
 use Rattle.folds.specs.Arith.{f32}
 use Rattle.folds.specs.Column.{column}
-use Rattle.view.specs.View.{maxPoints}
+use Rattle.view.specs.View.{max_points}
 
 -- "each point is u i32, v i32, index u32, x f32, y f32"; "one strength f32 per point": the 32-bit patterns of these six
 pub record Point : Type 0 where
@@ -42,20 +42,20 @@ key_of p = key_at p.u p.v
 
 unfoldable pub keys_of : List Point → List ℕ
 unfolding column
-keys_of ps = column maxPoints 0 (length ps) (λ (k : ℕ). key_of (slice_index_or ps k nowhere))
+keys_of ps = column max_points 0 (length ps) (λ (k : ℕ). key_of (slice_index_or ps k nowhere))
 
-unfoldable pub indicesOf : List Point → List ℕ
+unfoldable pub indices_of : List Point → List ℕ
 unfolding column
-indicesOf ps = column maxPoints 0 (length ps) (λ (k : ℕ). (get_or ps k nowhere).index)
+indices_of ps = column max_points 0 (length ps) (λ (k : ℕ). (get_or ps k nowhere).index)
 
-unfoldable pub xsOf : List Point → List Float
+unfoldable pub xs_of : List Point → List Float
 unfolding column
-xsOf ps = column maxPoints nan (length ps) (λ (k : ℕ). f32 (get_or ps k nowhere).x)
+xs_of ps = column max_points nan (length ps) (λ (k : ℕ). f32 (get_or ps k nowhere).x)
 
 unfoldable pub ys_of : List Point → List Float
 unfolding column
-ys_of ps = column maxPoints nan (length ps) (λ (k : ℕ). f32 (get_or ps k nowhere).y)
+ys_of ps = column max_points nan (length ps) (λ (k : ℕ). f32 (get_or ps k nowhere).y)
 
-unfoldable pub strengthsOf : List Point → List Float
+unfoldable pub strengths_of : List Point → List Float
 unfolding column
-strengthsOf ps = column maxPoints nan (length ps) (λ (k : ℕ). f32 (get_or ps k nowhere).strength)
+strengths_of ps = column max_points nan (length ps) (λ (k : ℕ). f32 (get_or ps k nowhere).strength)

@@ -14,7 +14,7 @@ use lib.Ieee.{Float, nan, inf, fin, binary32, up, down, fits, lt, neg, add, sub,
 use lib.Ieee.Fits.{down_pos}
 use lib.Ieee.Scale.{round_same}
 use Rattle.float.proofs.Digits.{digits, in-units}
-use Rattle.median.specs.Keys.{Number, risingOf}
+use Rattle.median.specs.Keys.{Number, rising_of}
 use Rattle.median.proofs.KeyOrder.{key-order}
 
 -- how many 2 ^ -149 a finite f32 is away from 0
@@ -136,8 +136,8 @@ place-order (fin true m e) (fin true n d) p q =
     ∙ ltb_as (steps (fin true n d)) (steps (fin true m e)) (origin - steps (fin true m e)) (origin - steps (fin true n d)) (λ h. omega (arith, bounded true e m p.is-f32, bounded true d n q.is-f32)) (λ h. omega arith)
 
 -- keys that rise have places that rise
-pub rising-order : (x y : Float) → Number x → Number y → risingOf x ≤ risingOf y → place x ≤ place y
-rising-order x y p q h = ltb-false (place y) (place x) (sym (place-order y x q p) ∙ key-order y x q p ∙ le-ltb (risingOf y) (risingOf x) h)
+pub rising-order : (x y : Float) → Number x → Number y → rising_of x ≤ rising_of y → place x ≤ place y
+rising-order x y p q h = ltb-false (place y) (place x) (sym (place-order y x q p) ∙ key-order y x q p ∙ le-ltb (rising_of y) (rising_of x) h)
 
 -- ---- the difference
 

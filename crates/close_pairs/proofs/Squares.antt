@@ -13,12 +13,12 @@ use lib.Ieee.{Float, Format, nan, inf, fin, binary32, up, down, low, prec, emax,
 use lib.Ieee.Exact.{HasValue, round_exact}
 use lib.Ieee.Fits.{round_is, down_pos, mul-fits}
 use lib.Ieee.Order.{round_mono, le_of_values}
-use Rattle.folds.specs.Arith.{◌⊕◌, ◌⊖◌, ◌⊗◌, zeroF}
+use Rattle.folds.specs.Arith.{◌⊕◌, ◌⊖◌, ◌⊗◌, zero_f}
 use Rattle.folds.proofs.Below.{not-true}
-use Rattle.float.specs.Scalar.{absOf}
+use Rattle.float.specs.Scalar.{abs_of}
 use Rattle.float.proofs.Digits.{digits, exponent}
 use Rattle.float.proofs.Order.{plain, plain-cases, plain-pair, plain-round, plain-le-inf, plain-number, square-plain, sum-plain, lt-after, lt-or-eq, nothing-over, under}
-use Rattle.close_pairs.specs.Close.{squareOf}
+use Rattle.close_pairs.specs.Close.{square_of}
 use Rattle.median.specs.Keys.{Number}
 use Rattle.close_pairs.specs.Sweep.{OverSide}
 use Rattle.close_pairs.proofs.Places.{place, apart, sub_is}
@@ -277,8 +277,8 @@ under-second x y z h =
     let q = second_plain (x ⊗ x) y z p h in
     under-sum (y ⊗ y) (x ⊗ x) z q p (mul-fits binary32 y y) (rw (plus-turned (x ⊗ x) (y ⊗ y) p q) at h)
 
-square-abs : (x : Float) → absOf x ⊗ absOf x ≡ x ⊗ x
-unfolding absOf mul
+square-abs : (x : Float) → abs_of x ⊗ abs_of x ≡ x ⊗ x
+unfolding abs_of mul
 square-abs nan = refl
 square-abs (inf true) = refl
 square-abs (inf false) = refl
@@ -286,24 +286,24 @@ square-abs (fin true m e) = refl
 square-abs (fin false m e) = refl
 
 -- over the side in y: not close
-pub apart-in-y : (side limit dx dy : Float) → OverSide side limit → lt side (absOf dy) ≡ true → lt (squareOf dx dy) limit ≡ false
-unfolding squareOf
+pub apart-in-y : (side limit dx dy : Float) → OverSide side limit → lt side (abs_of dy) ≡ true → lt (square_of dx dy) limit ≡ false
+unfolding square_of
 apart-in-y side limit dx dy r h =
-    not-true (lt (dx ⊗ dx ⊕ dy ⊗ dy) limit) (λ u. true≢false (sym (under-second dx dy limit u) ∙ rw (← square-abs dy) (r (absOf dy) h)))
+    not-true (lt (dx ⊗ dx ⊕ dy ⊗ dy) limit) (λ u. true≢false (sym (under-second dx dy limit u) ∙ rw (← square-abs dy) (r (abs_of dy) h)))
 
 -- ---- nothing is under a limit of 0
 
-zero-least : (u : Float) → T (plain u) → T (le zeroF u)
+zero-least : (u : Float) → T (plain u) → T (le zero_f u)
 unfolding of_bits
 zero-least u p =
-    plain-cases (λ (a : Float). T (le zeroF a)) (unfold le in tt)
-    (λ m e. le_of_values zeroF (fin false m e) 0 1 (m * up e) (down e) (omega arith) (down_pos e) (refl, refl) (refl, refl) (rw (zero-mul (down e)) (omega arith))) u p
+    plain-cases (λ (a : Float). T (le zero_f a)) (unfold le in tt)
+    (λ m e. le_of_values zero_f (fin false m e) 0 1 (m * up e) (down e) (omega arith) (down_pos e) (refl, refl) (refl, refl) (rw (zero-mul (down e)) (omega arith))) u p
 
-pub none-close : (dx dy limit : Float) → lt zeroF limit ≡ false → lt (squareOf dx dy) limit ≡ false
-unfolding squareOf of_bits
+pub none-close : (dx dy limit : Float) → lt zero_f limit ≡ false → lt (square_of dx dy) limit ≡ false
+unfolding square_of of_bits
 none-close dx dy limit h =
     not-true (lt (dx ⊗ dx ⊕ dy ⊗ dy) limit)
     (λ u.
     let p = first_plain dx (dy ⊗ dy) limit u in
     let s = sum-plain (dx ⊗ dx) (dy ⊗ dy) p (second_plain (dx ⊗ dx) dy limit p u) in
-    true≢false (sym (lt-after zeroF (dx ⊗ dx ⊕ dy ⊗ dy) limit tt s (zero-least (dx ⊗ dx ⊕ dy ⊗ dy) s) u) ∙ h))
+    true≢false (sym (lt-after zero_f (dx ⊗ dx ⊕ dy ⊗ dy) limit tt s (zero-least (dx ⊗ dx ⊕ dy ⊗ dy) s) u) ∙ h))

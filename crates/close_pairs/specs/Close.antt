@@ -1,26 +1,26 @@
 -- "With a positive cell size, points closer than 0.2 cell sizes, compared as f32 squares, are both marked." Assumes nothing.
 use Rattle.std.specs.Prelude.{Bool, not, ◌&&◌, ℕ, eqb, Float}
 use Rattle.std.specs.Float.Ieee.{lt, add, sub, mul, of_bits}
-use Rattle.folds.specs.Arith.{◌⊕◌, ◌⊖◌, ◌⊗◌, zeroF}
+use Rattle.folds.specs.Arith.{◌⊕◌, ◌⊖◌, ◌⊗◌, zero_f}
 use Rattle.folds.specs.Below.{some}
-use Rattle.float.specs.Constants.{duplicateFraction}
+use Rattle.float.specs.Constants.{duplicate_fraction}
 use Rattle.view.specs.View.{View}
 
 -- the square of 0.2 cell sizes
-unfoldable pub limitOf : Float → Float
+unfoldable pub limit_of : Float → Float
 unfolding mul of_bits
-limitOf cell = (duplicateFraction ⊗ cell) ⊗ (duplicateFraction ⊗ cell)
+limit_of cell = (duplicate_fraction ⊗ cell) ⊗ (duplicate_fraction ⊗ cell)
 
-unfoldable pub squareOf : Float → Float → Float
+unfoldable pub square_of : Float → Float → Float
 unfolding add mul
-squareOf dx dy = dx ⊗ dx ⊕ dy ⊗ dy
+square_of dx dy = dx ⊗ dx ⊕ dy ⊗ dy
 
 -- ranks j and k are closer than the root of the limit
 unfoldable pub close : (ℕ → Float) → (ℕ → Float) → Float → ℕ → ℕ → Bool
-unfolding squareOf sub lt
-close x y limit j k = lt (squareOf (x j ⊖ x k) (y j ⊖ y k)) limit
+unfolding square_of sub lt
+close x y limit j k = lt (square_of (x j ⊖ x k) (y j ⊖ y k)) limit
 
 -- another point is close to rank k
-unfoldable pub closeMark : View → Float → ℕ → Bool
-unfolding some close limitOf lt of_bits
-closeMark w cell k = lt zeroF cell && some (λ j. not (eqb j k) && close w.x w.y (limitOf cell) j k) w.count
+unfoldable pub close_mark : View → Float → ℕ → Bool
+unfolding some close limit_of lt of_bits
+close_mark w cell k = lt zero_f cell && some (λ j. not (eqb j k) && close w.x w.y (limit_of cell) j k) w.count

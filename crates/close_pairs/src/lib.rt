@@ -5,24 +5,24 @@ ghost use Rattle.std.specs.Prelude.{◌≡◌, ◌&&◌, ◌||◌, List, ℕ, �
 ghost use Rattle.std.specs.Float.Ieee.{lt};
 ghost use Rattle.folds.specs.Below.{some};
 ghost use Rattle.folds.specs.Marked.{Marked};
-ghost use Rattle.view.specs.View.{maxPoints, viewAt, Finite};
-ghost use Rattle.sort.specs.Packed.{packedPlaces};
-ghost use Rattle.close_pairs.specs.Close.{squareOf, closeMark};
+ghost use Rattle.view.specs.View.{max_points, view_at, Finite};
+ghost use Rattle.sort.specs.Packed.{packed_places};
+ghost use Rattle.close_pairs.specs.Close.{square_of, close_mark};
 ghost use Rattle.close_pairs.specs.Ranks.{OrderedByX};
-ghost use Rattle.close_pairs.specs.Sweep.{sweepHits, OverSide, Sweepable};
+ghost use Rattle.close_pairs.specs.Sweep.{sweep_hits, OverSide, Sweepable};
 
 use float::constants::DUPLICATE_FRACTION;
 use view::{Floats, MAX_POINTS, Marks, Places};
 
 fn rank_of(w: u64) -> u16
-    ensures { result ≡ w % packedPlaces }
+    ensures { result ≡ w % packed_places }
 {
     (w % sort::PACKED_PLACES) as u16
 }
 
 // The ranks in the order of x.
 fn order_of(x: &Floats, n: usize) -> Places
-    requires { (n ≤ maxPoints) × Finite n x.now }
+    requires { (n ≤ max_points) × Finite n x.now }
     ensures { OrderedByX x.now n result }
 {
     let a = median::keys_in_order(x, n);
@@ -37,7 +37,7 @@ fn order_of(x: &Floats, n: usize) -> Places
 
 // Whether a and b are both marked already.
 fn both_marked(mark: &Marks, a: usize, b: usize) -> bool
-    requires { (a < maxPoints) × (b < maxPoints) }
+    requires { (a < max_points) × (b < max_points) }
     ensures { result ≡ eqb (get_or mark.now a 0) 1 && eqb (get_or mark.now b 0) 1 }
 {
     if mark[a] == 1 {
@@ -48,8 +48,8 @@ fn both_marked(mark: &Marks, a: usize, b: usize) -> bool
 
 // Marks a and b, which differ by dx and dy, if they are close. Where both are marked already, or too far apart in y, it multiplies nothing.
 fn mark_pair(dx: f32, dy: f32, side: f32, limit: f32, a: usize, b: usize, mark: &mut Marks)
-    requires { OverSide side limit × (a < maxPoints) × (b < maxPoints) }
-    ensures { Marked (λ (m : ℕ). lt (squareOf dx dy) limit && (eqb a m || eqb b m)) mark.old mark.new }
+    requires { OverSide side limit × (a < max_points) × (b < max_points) }
+    ensures { Marked (λ (m : ℕ). lt (square_of dx dy) limit && (eqb a m || eqb b m)) mark.old mark.new }
 {
     if both_marked(mark, a, b) {
         return;
@@ -76,7 +76,7 @@ fn sweep_from(
     mark: &mut Marks,
 )
     requires { Sweepable order.now x.now y.now limit n × OverSide side limit × (i < n) }
-    ensures { Marked (sweepHits order.now x.now y.now limit n i) mark.old mark.new }
+    ensures { Marked (sweep_hits order.now x.now y.now limit n i) mark.old mark.new }
 {
     let a = view::wide(order[i]);
     let mut j = i + 1;
@@ -94,7 +94,7 @@ fn sweep_from(
 // Marks the points of each pair that is closer than the root of the limit.
 fn sweep(order: &Places, x: &Floats, y: &Floats, side: f32, limit: f32, n: usize, mark: &mut Marks)
     requires { Sweepable order.now x.now y.now limit n × OverSide side limit }
-    ensures { Marked (λ (m : ℕ). some (λ (i : ℕ). sweepHits order.now x.now y.now limit n i m) n) mark.old mark.new }
+    ensures { Marked (λ (m : ℕ). some (λ (i : ℕ). sweep_hits order.now x.now y.now limit n i m) n) mark.old mark.new }
 {
     let mut i = 0;
     while i < n {
@@ -105,8 +105,8 @@ fn sweep(order: &Places, x: &Floats, y: &Floats, side: f32, limit: f32, n: usize
 
 // Marks the points that lie closer than 0.2 cell sizes to another. Where the square of that underflows to 0, none does.
 pub fn mark_close(x: &Floats, y: &Floats, cell: f32, n: usize, mark: &mut Marks)
-    requires { (n ≤ maxPoints) × Finite n x.now × Finite n y.now }
-    ensures { (ranks : List ℕ) → Marked (λ (m : ℕ). ltb m n && closeMark (viewAt n ranks x.now y.now) cell m) mark.old mark.new }
+    requires { (n ≤ max_points) × Finite n x.now × Finite n y.now }
+    ensures { (ranks : List ℕ) → Marked (λ (m : ℕ). ltb m n && close_mark (view_at n ranks x.now y.now) cell m) mark.old mark.new }
 {
     if 0.0 < cell {
         let side = DUPLICATE_FRACTION * cell;

@@ -9,32 +9,32 @@ use lib.Dec.{eqb, ltb}
 use lib.ListN.{get_or}
 use Rattle.folds.specs.Below.{fold, turn, tally}
 use Rattle.folds.proofs.Column.{column-ext}
-use Rattle.folds.specs.Scattered.{oneMore}
+use Rattle.folds.specs.Scattered.{one_more}
 use Rattle.folds.proofs.Scattered.{fold-tally}
-use Rattle.view.specs.View.{maxPoints}
+use Rattle.view.specs.View.{max_points}
 use Rattle.patches.proofs.Gathering.{AtLabels, labels-column}
-use Rattle.components.specs.Components.{sizesOf, largestAt}
+use Rattle.components.specs.Components.{sizes_of, largest_at}
 
-pub largest-none : (l : List ℕ) → largestAt l 0 ≡ 0
-unfolding largestAt
+pub largest-none : (l : List ℕ) → largest_at l 0 ≡ 0
+unfolding largest_at
 largest-none l = refl
 
-pub largest-more : (l : List ℕ) (i : ℕ) → largestAt l (i + 1) ≡ cond (ltb (get_or l (largestAt l i) 0) (get_or l i 0)) i (largestAt l i)
-unfolding largestAt
+pub largest-more : (l : List ℕ) (i : ℕ) → largest_at l (i + 1) ≡ cond (ltb (get_or l (largest_at l i) 0) (get_or l i 0)) i (largest_at l i)
+unfolding largest_at
 largest-more l i = rw (add-one i)
 
-pub largest-le : (l : List ℕ) (i : ℕ) → largestAt l i ≤ i
-unfolding largestAt
+pub largest-le : (l : List ℕ) (i : ℕ) → largest_at l i ≤ i
+unfolding largest_at
 largest-le l zero = omega arith
-largest-le l (suc i) = go (ltb (get_or l (largestAt l i) 0) (get_or l i 0)) (largest-le l i)
+largest-le l (suc i) = go (ltb (get_or l (largest_at l i) 0) (get_or l i 0)) (largest-le l i)
   where
-    go : (b : Bool) → largestAt l i ≤ i → cond b i (largestAt l i) ≤ suc i
+    go : (b : Bool) → largest_at l i ≤ i → cond b i (largest_at l i) ≤ suc i
     go true h = omega arith
     go false h = omega arith
 
-pub sizes-are : (labels : List ℕ) (n : ℕ) (a : List ℕ) → n ≤ maxPoints → AtLabels labels n oneMore n a → a ≡ sizesOf n labels
-unfolding sizesOf
+pub sizes-are : (labels : List ℕ) (n : ℕ) (a : List ℕ) → n ≤ max_points → AtLabels labels n one_more n a → a ≡ sizes_of n labels
+unfolding sizes_of
 sizes-are labels n a few t =
-    labels-column labels n oneMore a few t
-    ∙ column-ext maxPoints 0 n (λ (s : ℕ). fold (turn (λ (k : ℕ). eqb (get_or labels k 0) s) oneMore) 0 n) (λ (s : ℕ). tally (λ (k : ℕ). eqb (get_or labels k 0) s) n)
+    labels-column labels n one_more a few t
+    ∙ column-ext max_points 0 n (λ (s : ℕ). fold (turn (λ (k : ℕ). eqb (get_or labels k 0) s) one_more) 0 n) (λ (s : ℕ). tally (λ (k : ℕ). eqb (get_or labels k 0) s) n)
     (λ s h. omega (arith, fold-tally (λ (k : ℕ). eqb (get_or labels k 0) s) 0 n))

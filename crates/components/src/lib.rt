@@ -3,9 +3,9 @@
 
 ghost use Rattle.std.specs.Prelude.{◌≡◌, cond, not, ◌&&◌, List, ◌+◌, ◌≤◌, ◌<◌, eqb, ltb, Float};
 ghost use Rattle.folds.specs.Marked.{bit};
-ghost use Rattle.view.specs.View.{maxPoints, viewAt, Ranked};
+ghost use Rattle.view.specs.View.{max_points, view_at, Ranked};
 ghost use Rattle.patches.specs.Search.{NearPlaces};
-ghost use Rattle.components.specs.Components.{patchCount, sizesOf, largestAt, winnerOf, othersBy, filterOf};
+ghost use Rattle.components.specs.Components.{patch_count, sizes_of, largest_at, winner_of, others_by, filter_of};
 
 use view::{MAX_POINTS, Marks, Places, Ranks};
 
@@ -13,8 +13,8 @@ use view::{MAX_POINTS, Marks, Places, Ranks};
 
 // How many patches there are.
 fn count(label: &Places, n: usize) -> usize
-    requires { n ≤ maxPoints }
-    ensures { result ≡ patchCount n label.now }
+    requires { n ≤ max_points }
+    ensures { result ≡ patch_count n label.now }
 {
     let mut r: usize = 0;
     let mut i: usize = 0;
@@ -27,8 +27,8 @@ fn count(label: &Places, n: usize) -> usize
 
 // How many points each label has.
 fn sizes(label: &Places, n: usize) -> Places
-    requires { n ≤ maxPoints }
-    ensures { result ≡ sizesOf n label.now }
+    requires { n ≤ max_points }
+    ensures { result ≡ sizes_of n label.now }
 {
     let mut size = [0u16; MAX_POINTS];
     let mut i: usize = 0;
@@ -54,8 +54,8 @@ fn better(a: u16, b: u16, r: usize, i: usize) -> usize
 
 // The first place of the largest number.
 fn largest(size: &Places, n: usize) -> usize
-    requires { n ≤ maxPoints }
-    ensures { result ≡ largestAt size.now n }
+    requires { n ≤ max_points }
+    ensures { result ≡ largest_at size.now n }
 {
     let mut r: usize = 0;
     let mut i: usize = 0;
@@ -68,8 +68,8 @@ fn largest(size: &Places, n: usize) -> usize
 
 // The label of the patch that is kept: most points, and of equals the one with the smaller least cell.
 fn winner(label: &Places, n: usize) -> usize
-    requires { n ≤ maxPoints }
-    ensures { result ≡ winnerOf n label.now }
+    requires { n ≤ max_points }
+    ensures { result ≡ winner_of n label.now }
 {
     let size = sizes(label, n);
     largest(&size, n)
@@ -90,8 +90,8 @@ fn other(v: usize, n: usize, win: usize) -> u8
 
 // 1 for each rank that survives and is in another patch than the winner.
 fn others(label: &Places, n: usize, win: usize) -> Marks
-    requires { n ≤ maxPoints }
-    ensures { result ≡ othersBy n label.now win }
+    requires { n ≤ max_points }
+    ensures { result ≡ others_by n label.now win }
 {
     let mut out = [0u8; MAX_POINTS];
     let mut i: usize = 0;
@@ -119,7 +119,7 @@ pub fn largest_component_filter(
     n: usize,
 ) -> ComponentFilter
     requires { Ranked n ranks.now × NearPlaces sides.now }
-    ensures { (xs ys : List Float) → result ≡ filterOf (viewAt n ranks.now xs ys) sides.now dropped.now }
+    ensures { (xs ys : List Float) → result ≡ filter_of (view_at n ranks.now xs ys) sides.now dropped.now }
 {
     let label = patches::labels(ranks, dropped, sides, n);
     let win = winner(&label, n);

@@ -13,179 +13,179 @@ use Rattle.folds.specs.Column.{column}
 use Rattle.folds.proofs.Column.{filled, replicate-at}
 use Rattle.folds.specs.Marked.{bit}
 use Rattle.offsets.specs.Offsets.{places}
-use Rattle.view.specs.View.{View, maxPoints}
+use Rattle.view.specs.View.{View, max_points}
 use Rattle.cells.specs.Cell.{Cell}
 use Rattle.sheet_file.specs.declared.Fraction.TheVariants.{Given}
 use Rattle.sheet_file.specs.declared.Settings.{Settings}
 use Rattle.marks.specs.Filters.{validate, orientation, wrong, leaf, component}
 use Rattle.marks.specs.Marks.{is_set}
-use Rattle.marks.specs.Byte.{Marking, markedBy, markedByAll}
-use Rattle.marks.specs.Tally.{countsOf}
+use Rattle.marks.specs.Byte.{Marking, marked_by, marked_by_all}
+use Rattle.marks.specs.Tally.{counts_of}
 use Rattle.marks.proofs.Guards.{set_is}
 use Rattle.marks.proofs.Byte.{by-same, Agree, all_same}
-use Rattle.edge_shape.specs.Figures.{noFigures}
+use Rattle.edge_shape.specs.Figures.{no_figures}
 use Rattle.edge_shape.specs.declared.Figures.{Figures}
-use Rattle.validate.specs.Validate.{gateFigures, figuresOf, validateMark, validateMarks}
-use Rattle.validate.specs.Parts.{validatedOf}
-use Rattle.orientation.specs.Orientation.{orientationMark, orientationOf}
-use Rattle.wrong_label_filters.specs.WrongLabel.{wrongLabelMark, wrongLabelOf}
-use Rattle.strengths.specs.Weak.{weakOf}
-use Rattle.peel.specs.Peel.{roundsIn, peeledIn, peeledOf}
+use Rattle.validate.specs.Validate.{gate_figures, figures_of, validate_mark, validate_marks}
+use Rattle.validate.specs.Parts.{validated_of}
+use Rattle.orientation.specs.Orientation.{orientation_mark, orientation_of}
+use Rattle.wrong_label_filters.specs.WrongLabel.{wrong_label_mark, wrong_label_of}
+use Rattle.strengths.specs.Weak.{weak_of}
+use Rattle.peel.specs.Peel.{rounds_in, peeled_in, peeled_of}
 use Rattle.peel.specs.declared.Peeled.{Peeled}
 use Rattle.peel.proofs.Theorems.{none-weak}
-use Rattle.components.specs.Components.{filterOf, patchCount}
-use Rattle.patches.specs.Patches.{patchLabels}
+use Rattle.components.specs.Components.{filter_of, patch_count}
+use Rattle.patches.specs.Patches.{patch_labels}
 use Rattle.components.specs.declared.ComponentFilter.{ComponentFilter}
 use Rattle.judged.specs.declared.Measured.{Measured}
-use Rattle.judged.specs.Columns.{reasonFrom, figuresIn}
+use Rattle.judged.specs.Columns.{reason_from, figures_in}
 use Rattle.judged.proofs.Columns.{reason-read}
-use Rattle.judged.specs.Judged.{Judged, judgedFrom}
+use Rattle.judged.specs.Judged.{Judged, judged_from}
 use Rattle.drop_set.specs.declared.DropSet.{DropSet}
-use Rattle.drop_set.specs.Filters.{sidesOf, byPoints, wrongMark, pointFilters, weakBy, noLeaves, peelOf, componentMarked, peeledMarks, componentsIn, patchedOf, pointMarks, measuredOf, judgedOf}
+use Rattle.drop_set.specs.Filters.{sides_of, by_points, wrong_mark, point_filters, weak_by, no_leaves, peel_of, component_marked, peeled_marks, components_in, patched_of, point_marks, measured_of, judged_of}
 use Rattle.drop_set.specs.Given.{Joined}
 
 -- ---- the first step
 
 module _ (s : Settings) (w : View) where
   -- the wrong-label marks, with their switch
-  abbrev wrongMarks : List ℕ
-  wrongMarks = column maxPoints 0 w.count (λ (k : ℕ). bit (wrongMark s w k))
+  abbrev wrong_marks : List ℕ
+  wrong_marks = column max_points 0 w.count (λ (k : ℕ). bit (wrong_mark s w k))
 
-  pub wrong-on : {l : List ℕ} → s.apply_wrong_label_drops ≡ true → l ≡ wrongLabelOf w s.cell_size → l ≡ wrongMarks
-  unfolding wrongLabelOf
-  wrong-on on e = e ∙ sym (ap (λ (b : Bool). column maxPoints 0 w.count (λ (k : ℕ). bit (b && wrongLabelMark w s.cell_size k))) on)
+  pub wrong-on : {l : List ℕ} → s.apply_wrong_label_drops ≡ true → l ≡ wrong_label_of w s.cell_size → l ≡ wrong_marks
+  unfolding wrong_label_of
+  wrong-on on e = e ∙ sym (ap (λ (b : Bool). column max_points 0 w.count (λ (k : ℕ). bit (b && wrong_label_mark w s.cell_size k))) on)
 
-  pub wrong-off : s.apply_wrong_label_drops ≡ false → w.count ≤ maxPoints → replicate maxPoints 0 ≡ wrongMarks
+  pub wrong-off : s.apply_wrong_label_drops ≡ false → w.count ≤ max_points → replicate max_points 0 ≡ wrong_marks
   wrong-off off h =
-      filled w.count h (record { long = refl; done = λ k l. replicate-at maxPoints 0 k; left = λ k l. refl })
-      ∙ sym (ap (λ (b : Bool). column maxPoints 0 w.count (λ (k : ℕ). bit (b && wrongLabelMark w s.cell_size k))) off)
+      filled w.count h (record { long = refl; done = λ k l. replicate-at max_points 0 k; left = λ k l. refl })
+      ∙ sym (ap (λ (b : Bool). column max_points 0 w.count (λ (k : ℕ). bit (b && wrong_label_mark w s.cell_size k))) off)
 
   -- the filters by the arrays that hold their marks
-  abbrev byArrays : List ℕ → List ℕ → List ℕ → List Marking
-  byArrays v o r = byPoints validate (is_set v) ∷ byPoints orientation (is_set o) ∷ byPoints wrong (is_set r) ∷ []
+  abbrev by_arrays : List ℕ → List ℕ → List ℕ → List Marking
+  by_arrays v o r = by_points validate (is_set v) ∷ by_points orientation (is_set o) ∷ by_points wrong (is_set r) ∷ []
 
   -- the bytes of their marks
-  pub points-are : (cell : ℕ → Cell) {v o r m : List ℕ} → v ≡ validateMarks s w cell → o ≡ orientationOf w → r ≡ wrongMarks → m ≡ markedByAll w.count (byArrays v o r) [] → m ≡ pointMarks s w cell
-  unfolding pointMarks validateMarks orientationOf Agree
+  pub points-are : (cell : ℕ → Cell) {v o r m : List ℕ} → v ≡ validate_marks s w cell → o ≡ orientation_of w → r ≡ wrong_marks → m ≡ marked_by_all w.count (by_arrays v o r) [] → m ≡ point_marks s w cell
+  unfolding point_marks validate_marks orientation_of Agree
   points-are cell {v} {o} {r} ev eo er em =
       let n = w.count in
       em
-      ∙ all_same n (byArrays v o r) (pointFilters s w cell) []
-      ((refl, λ m. set_is maxPoints n (validateMark s w cell) v ev), ((refl, λ m. set_is maxPoints n (orientationMark w) o eo), ((refl, λ m. set_is maxPoints n (wrongMark s w) r er), tt)))
+      ∙ all_same n (by_arrays v o r) (point_filters s w cell) []
+      ((refl, λ m. set_is max_points n (validate_mark s w cell) v ev), ((refl, λ m. set_is max_points n (orientation_mark w) o eo), ((refl, λ m. set_is max_points n (wrong_mark s w) r er), tt)))
 
   -- the table has the edge reasons
-  pub reasons-read : (counts : List ℕ) (measures : List Float) → figuresIn counts measures ≡ gateFigures s.edge_shape w → w.count ≤ maxPoints
-      → (k : ℕ) → k < w.count → reasonFrom counts k ≡ (get_or (figuresOf s w) k noFigures).reason
-  unfolding figuresOf
+  pub reasons-read : (counts : List ℕ) (measures : List Float) → figures_in counts measures ≡ gate_figures s.edge_shape w → w.count ≤ max_points
+      → (k : ℕ) → k < w.count → reason_from counts k ≡ (get_or (figures_of s w) k no_figures).reason
+  unfolding figures_of
   reasons-read counts measures e h k l =
-      sym (reason-read counts measures k (omega arith)) ∙ ap (λ (f : List Figures). (get_or f k noFigures).reason) e
+      sym (reason-read counts measures k (omega arith)) ∙ ap (λ (f : List Figures). (get_or f k no_figures).reason) e
 
-  pub marks-of : (cell : ℕ → Cell) {v : Measured} → v ≡ validatedOf s w cell → v.marks ≡ validateMarks s w cell
-  unfolding validatedOf
+  pub marks-of : (cell : ℕ → Cell) {v : Measured} → v ≡ validated_of s w cell → v.marks ≡ validate_marks s w cell
+  unfolding validated_of
   marks-of cell e = ap (λ (x : Measured). x.marks) e
 
   -- as one step
-  measuredBy : List ℕ → Measured → Measured
-  measuredBy l x = record { marks = l; has = x.has; value = x.value; boundary = x.boundary }
+  measured_by : List ℕ → Measured → Measured
+  measured_by l x = record { marks = l; has = x.has; value = x.value; boundary = x.boundary }
 
-  by_parts : (cell : ℕ → Cell) → measuredBy (pointMarks s w cell) (validatedOf s w cell) ≡ measuredOf s w cell
-  unfolding measuredOf validatedOf measuredBy
+  by_parts : (cell : ℕ → Cell) → measured_by (point_marks s w cell) (validated_of s w cell) ≡ measured_of s w cell
+  unfolding measured_of validated_of measured_by
   by_parts cell = refl
 
-  pub measured-is : (cell : ℕ → Cell) {v : Measured} {m : List ℕ} → v ≡ validatedOf s w cell → m ≡ pointMarks s w cell
-      → ◌≡◌ {A = Measured} (record { marks = m; has = v.has; value = v.value; boundary = v.boundary }) (measuredOf s w cell)
-  unfolding measuredBy
-  measured-is cell {v} {m} e f = ap (measuredBy m) e ∙ ap (λ (l : List ℕ). measuredBy l (validatedOf s w cell)) f ∙ by_parts cell
+  pub measured-is : (cell : ℕ → Cell) {v : Measured} {m : List ℕ} → v ≡ validated_of s w cell → m ≡ point_marks s w cell
+      → ◌≡◌ {A = Measured} (record { marks = m; has = v.has; value = v.value; boundary = v.boundary }) (measured_of s w cell)
+  unfolding measured_by
+  measured-is cell {v} {m} e f = ap (measured_by m) e ∙ ap (λ (l : List ℕ). measured_by l (validated_of s w cell)) f ∙ by_parts cell
 
-  pub figures-are : {figures : List Figures} → figures ≡ gateFigures s.edge_shape w → figures ≡ figuresOf s w
-  unfolding figuresOf
+  pub figures-are : {figures : List Figures} → figures ≡ gate_figures s.edge_shape w → figures ≡ figures_of s w
+  unfolding figures_of
   figures-are e = e
 
   -- ---- the second step
 
   module _ (marks : List ℕ) where
-    pub joined-on : {sides : List ℕ} {r : ComponentFilter} → s.apply_largest_component ≡ true → sides ≡ places (sidesOf s) → r ≡ filterOf w sides marks → Joined s w marks r
-    unfolding componentsIn
+    pub joined-on : {sides : List ℕ} {r : ComponentFilter} → s.apply_largest_component ≡ true → sides ≡ places (sides_of s) → r ≡ filter_of w sides marks → Joined s w marks r
+    unfolding components_in
     joined-on {sides} {r} on es er =
-        let e : r ≡ filterOf w (places (sidesOf s)) marks = er ∙ ap (λ (l : List ℕ). filterOf w l marks) es in
+        let e : r ≡ filter_of w (places (sides_of s)) marks = er ∙ ap (λ (l : List ℕ). filter_of w l marks) es in
         record {
-          marked = λ k h. ap (λ (f : ComponentFilter). is_set f.marks k) e ∙ sym (ap (λ (b : Bool). b && is_set (filterOf w (places (sidesOf s)) marks).marks k) on);
-          counted = ap (λ (f : ComponentFilter). f.components_seen) e ∙ sym (ap (λ (b : Bool). cond b (filterOf w (places (sidesOf s)) marks).components_seen 0) on);
+          marked = λ k h. ap (λ (f : ComponentFilter). is_set f.marks k) e ∙ sym (ap (λ (b : Bool). b && is_set (filter_of w (places (sides_of s)) marks).marks k) on);
+          counted = ap (λ (f : ComponentFilter). f.components_seen) e ∙ sym (ap (λ (b : Bool). cond b (filter_of w (places (sides_of s)) marks).components_seen 0) on);
         }
 
-    pub joined-off : s.apply_largest_component ≡ false → Joined s w marks (record { marks = replicate maxPoints 0; components_seen = 0 })
-    unfolding componentsIn
+    pub joined-off : s.apply_largest_component ≡ false → Joined s w marks (record { marks = replicate max_points 0; components_seen = 0 })
+    unfolding components_in
     joined-off off = record {
-      marked = λ k h. ap (λ (x : ℕ). eqb x 1) (replicate-at maxPoints 0 k) ∙ sym (ap (λ (b : Bool). b && is_set (filterOf w (places (sidesOf s)) marks).marks k) off);
-      counted = sym (ap (λ (b : Bool). cond b (filterOf w (places (sidesOf s)) marks).components_seen 0) off);
+      marked = λ k h. ap (λ (x : ℕ). eqb x 1) (replicate-at max_points 0 k) ∙ sym (ap (λ (b : Bool). b && is_set (filter_of w (places (sides_of s)) marks).marks k) off);
+      counted = sym (ap (λ (b : Bool). cond b (filter_of w (places (sides_of s)) marks).components_seen 0) off);
     }
 
   -- no mark where none is weak
-  pub unpeeled : (strength : List Float) (marks : List ℕ) → weakBy s.score_frac w.count strength ≡ replicate maxPoints 0 → w.count ≤ maxPoints
-      → noLeaves ≡ peelOf s w strength marks
-  unpeeled strength marks e h = rw e (sym (none-weak w (places (sidesOf s)) marks (replicate maxPoints 0) h (λ k l. ap (λ (m : ℕ). eqb m 1) (replicate-at maxPoints 0 k))))
+  pub unpeeled : (strength : List Float) (marks : List ℕ) → weak_by s.score_frac w.count strength ≡ replicate max_points 0 → w.count ≤ max_points
+      → no_leaves ≡ peel_of s w strength marks
+  unpeeled strength marks e h = rw e (sym (none-weak w (places (sides_of s)) marks (replicate max_points 0) h (λ k l. ap (λ (m : ℕ). eqb m 1) (replicate-at max_points 0 k))))
 
-  pub peeled-by : (strength : List Float) (marks : List ℕ) {fraction : Float} {sides weak : List ℕ} {r : Peeled} → s.score_frac ≡ Given fraction → sides ≡ places (sidesOf s) → weak ≡ weakOf w.count strength fraction
-      → r ≡ peeledOf w sides marks weak → r ≡ peelOf s w strength marks
+  pub peeled-by : (strength : List Float) (marks : List ℕ) {fraction : Float} {sides weak : List ℕ} {r : Peeled} → s.score_frac ≡ Given fraction → sides ≡ places (sides_of s) → weak ≡ weak_of w.count strength fraction
+      → r ≡ peeled_of w sides marks weak → r ≡ peel_of s w strength marks
   peeled-by strength marks f es ew er = rw f (er ∙ rw (es, ew))
 
   -- the bytes that the component filter is given
-  left_is : (strength : List Float) (marks : List ℕ) → peeledMarks s w strength marks ≡ markedBy w.count leaf (is_set (peelOf s w strength marks).marks) marks
-  unfolding peeledMarks
+  left_is : (strength : List Float) (marks : List ℕ) → peeled_marks s w strength marks ≡ marked_by w.count leaf (is_set (peel_of s w strength marks).marks) marks
+  unfolding peeled_marks
   left_is strength marks = refl
 
   -- what is made of them
-  patchedBy : List ℕ → ℕ → DropSet
-  patchedBy left rounds =
-      let all = markedBy w.count component (componentMarked s w left) left in
-      record { marks = all; components = componentsIn s w left; rounds = rounds; tally = countsOf w all }
+  patched_by : List ℕ → ℕ → DropSet
+  patched_by left rounds =
+      let all = marked_by w.count component (component_marked s w left) left in
+      record { marks = all; components = components_in s w left; rounds = rounds; tally = counts_of w all }
 
-  patched-parts : (strength : List Float) (marks : List ℕ) → patchedBy (peeledMarks s w strength marks) (peelOf s w strength marks).rounds ≡ patchedOf s w strength marks
-  unfolding patchedOf patchedBy
+  patched-parts : (strength : List Float) (marks : List ℕ) → patched_by (peeled_marks s w strength marks) (peel_of s w strength marks).rounds ≡ patched_of s w strength marks
+  unfolding patched_of patched_by
   patched-parts strength marks = refl
 
-  pub patched-is : (strength : List Float) (marks : List ℕ) {p : Peeled} {l m t : List ℕ} {f : ComponentFilter} → p ≡ peelOf s w strength marks → l ≡ markedBy w.count leaf (is_set p.marks) marks
-      → Joined s w l f → m ≡ markedBy w.count component (is_set f.marks) l → t ≡ countsOf w m
-      → ◌≡◌ {A = DropSet} (record { marks = m; components = f.components_seen; rounds = p.rounds; tally = t }) (patchedOf s w strength marks)
-  unfolding patchedBy
+  pub patched-is : (strength : List Float) (marks : List ℕ) {p : Peeled} {l m t : List ℕ} {f : ComponentFilter} → p ≡ peel_of s w strength marks → l ≡ marked_by w.count leaf (is_set p.marks) marks
+      → Joined s w l f → m ≡ marked_by w.count component (is_set f.marks) l → t ≡ counts_of w m
+      → ◌≡◌ {A = DropSet} (record { marks = m; components = f.components_seen; rounds = p.rounds; tally = t }) (patched_of s w strength marks)
+  unfolding patched_by
   patched-is strength marks {p} {l} {m} {t} {f} a b j e h =
-      let left : l ≡ peeledMarks s w strength marks = b ∙ ap (λ (x : Peeled). markedBy w.count leaf (is_set x.marks) marks) a ∙ sym (left_is strength marks) in
-      let all : m ≡ markedBy w.count component (componentMarked s w l) l = e ∙ by-same w.count component (is_set f.marks) (componentMarked s w l) l j.marked in
+      let left : l ≡ peeled_marks s w strength marks = b ∙ ap (λ (x : Peeled). marked_by w.count leaf (is_set x.marks) marks) a ∙ sym (left_is strength marks) in
+      let all : m ≡ marked_by w.count component (component_marked s w l) l = e ∙ by-same w.count component (is_set f.marks) (component_marked s w l) l j.marked in
       rw (h, all, j.counted)
-      (ap (λ (x : List ℕ). patchedBy x p.rounds) left ∙ ap (λ (x : Peeled). patchedBy (peeledMarks s w strength marks) x.rounds) a ∙ patched-parts strength marks)
+      (ap (λ (x : List ℕ). patched_by x p.rounds) left ∙ ap (λ (x : Peeled). patched_by (peeled_marks s w strength marks) x.rounds) a ∙ patched-parts strength marks)
 
   -- ---- both
 
-  judgedBy : Measured → List Figures → DropSet → Judged
-  judgedBy m f d = record { marks = d.marks; components = d.components; rounds = d.rounds; tally = d.tally; has = m.has; value = m.value; figures = f; boundary = m.boundary }
+  judged_by : Measured → List Figures → DropSet → Judged
+  judged_by m f d = record { marks = d.marks; components = d.components; rounds = d.rounds; tally = d.tally; has = m.has; value = m.value; figures = f; boundary = m.boundary }
 
-  both-parts : (cell : ℕ → Cell) (strength : List Float) → judgedBy (measuredOf s w cell) (figuresOf s w) (patchedOf s w strength (measuredOf s w cell).marks) ≡ judgedOf s w cell strength
-  unfolding judgedOf judgedBy
+  both-parts : (cell : ℕ → Cell) (strength : List Float) → judged_by (measured_of s w cell) (figures_of s w) (patched_of s w strength (measured_of s w cell).marks) ≡ judged_of s w cell strength
+  unfolding judged_of judged_by
   both-parts cell strength = refl
 
-  pub judged-is : (cell : ℕ → Cell) (strength : List Float) (counts : List ℕ) (measures : List Float) (m : Measured) {d : DropSet} → m ≡ measuredOf s w cell → figuresIn counts measures ≡ figuresOf s w
-      → d ≡ patchedOf s w strength m.marks
-      → judgedFrom (record { marks = d.marks; components = d.components; rounds = d.rounds; tally = d.tally; has = m.has; value = m.value; boundary = m.boundary }) counts measures ≡ judgedOf s w cell strength
-  unfolding judgedBy judgedFrom
+  pub judged-is : (cell : ℕ → Cell) (strength : List Float) (counts : List ℕ) (measures : List Float) (m : Measured) {d : DropSet} → m ≡ measured_of s w cell → figures_in counts measures ≡ figures_of s w
+      → d ≡ patched_of s w strength m.marks
+      → judged_from (record { marks = d.marks; components = d.components; rounds = d.rounds; tally = d.tally; has = m.has; value = m.value; boundary = m.boundary }) counts measures ≡ judged_of s w cell strength
+  unfolding judged_by judged_from
   judged-is cell strength counts measures m e f g =
-      ap (judgedBy m (figuresIn counts measures)) g
-      ∙ ap (λ (x : List Figures). judgedBy m x (patchedOf s w strength m.marks)) f
-      ∙ ap (λ (x : Measured). judgedBy x (figuresOf s w) (patchedOf s w strength x.marks)) e
+      ap (judged_by m (figures_in counts measures)) g
+      ∙ ap (λ (x : List Figures). judged_by m x (patched_of s w strength m.marks)) f
+      ∙ ap (λ (x : Measured). judged_by x (figures_of s w) (patched_of s w strength x.marks)) e
       ∙ both-parts cell strength
 
 -- there are at most as many patches as points
-pub components-few : (s : Settings) (w : View) (marks : List ℕ) → componentsIn s w marks ≤ w.count
-unfolding componentsIn filterOf patchCount
+pub components-few : (s : Settings) (w : View) (marks : List ℕ) → components_in s w marks ≤ w.count
+unfolding components_in filter_of patch_count
 components-few s w marks = go s.apply_largest_component
   where
     labels : List ℕ
-    labels = patchLabels w (places (sidesOf s)) marks
+    labels = patch_labels w (places (sides_of s)) marks
 
     go : (b : Bool) → cond b (tally (λ (k : ℕ). eqb (get_or labels k 0) k) w.count) 0 ≤ w.count
     go true = tally-le (λ (k : ℕ). eqb (get_or labels k 0) k) w.count
     go false = omega arith
 
 -- nor more rounds
-pub rounds-few : (s : Settings) (w : View) (strength : List Float) (marks : List ℕ) → (peelOf s w strength marks).rounds ≤ w.count
-unfolding peeledIn roundsIn
+pub rounds-few : (s : Settings) (w : View) (strength : List Float) (marks : List ℕ) → (peel_of s w strength marks).rounds ≤ w.count
+unfolding peeled_in rounds_in
 rounds-few s w strength marks = first-le _ 0 w.count (omega arith)

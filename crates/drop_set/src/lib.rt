@@ -4,16 +4,16 @@
 ghost use Rattle.std.specs.Prelude.{◌≡◌, List, [], ◌∷◌, ℕ, ◌≤◌, Float};
 ghost use Rattle.folds.specs.Column.{column};
 ghost use Rattle.folds.specs.Marked.{bit};
-ghost use Rattle.view.specs.View.{viewAt, maxPoints, Ranked};
-ghost use Rattle.cells.specs.Cell.{cellsAt};
+ghost use Rattle.view.specs.View.{view_at, max_points, Ranked};
+ghost use Rattle.cells.specs.Cell.{cells_at};
 ghost use Rattle.marks.specs.Filters.{validate as Validate, orientation as Orientation, wrong as Wrong};
 ghost use Rattle.marks.specs.Marks.{is_set};
-ghost use Rattle.marks.specs.Byte.{markedByAll};
+ghost use Rattle.marks.specs.Byte.{marked_by_all};
 ghost use Rattle.wrong_label_filters.specs.EdgesReady.{EdgesReady};
-ghost use Rattle.judged.specs.Columns.{Blank, figuresIn};
-ghost use Rattle.validate.specs.Validate.{figuresOf};
+ghost use Rattle.judged.specs.Columns.{Blank, figures_in};
+ghost use Rattle.validate.specs.Validate.{figures_of};
 ghost use Rattle.drop_set.specs.Given.{Celled, Weighed, Joined};
-ghost use Rattle.drop_set.specs.Filters.{byPoints, wrongMark, noLeaves, peelOf, patchedOf, measuredOf};
+ghost use Rattle.drop_set.specs.Filters.{by_points, wrong_mark, no_leaves, peel_of, patched_of, measured_of};
 
 use components::ComponentFilter;
 use edges::{EDGES_SIZE, Edges};
@@ -36,7 +36,7 @@ pub struct DropSet {
 // The wrong-label marks; none with the switch off.
 fn wrong_marks(s: Settings, ranks: &Ranks, x: &Floats, y: &Floats, edges: &Edges, n: usize) -> Marks
     requires { EdgesReady n ranks.now x.now y.now edges.now }
-    ensures { result ≡ column maxPoints 0 n (λ (k : ℕ). bit (wrongMark s (viewAt n ranks.now x.now y.now) k)) }
+    ensures { result ≡ column max_points 0 n (λ (k : ℕ). bit (wrong_mark s (view_at n ranks.now x.now y.now) k)) }
 {
     if s.apply_wrong_label_drops {
         return wrong_label_filters::topological_wrong_label_drops(
@@ -53,8 +53,8 @@ fn wrong_marks(s: Settings, ranks: &Ranks, x: &Floats, y: &Floats, edges: &Edges
 
 // The bytes of the three marks of each point.
 fn point_marks(validate: &Marks, orientation: &Marks, wrong: &Marks, n: usize) -> Marks
-    requires { n ≤ maxPoints }
-    ensures { result ≡ markedByAll n (byPoints Validate (is_set validate.now) ∷ byPoints Orientation (is_set orientation.now) ∷ byPoints Wrong (is_set wrong.now) ∷ []) [] }
+    requires { n ≤ max_points }
+    ensures { result ≡ marked_by_all n (by_points Validate (is_set validate.now) ∷ by_points Orientation (is_set orientation.now) ∷ by_points Wrong (is_set wrong.now) ∷ []) [] }
 {
     let none = [0u8; MAX_POINTS];
     let first = marks::marked_by(&none, validate, filters::VALIDATE, n);
@@ -74,8 +74,8 @@ pub fn measure(
     measures: &mut FigureMeasures,
 ) -> Measured
     requires { Celled n ranks.now keys.now x.now y.now × Blank counts.old measures.old }
-    ensures findings { result ≡ measuredOf s (viewAt n ranks.now x.now y.now) (cellsAt keys.now) }
-    ensures figures { figuresIn counts.new measures.new ≡ figuresOf s (viewAt n ranks.now x.now y.now) }
+    ensures findings { result ≡ measured_of s (view_at n ranks.now x.now y.now) (cells_at keys.now) }
+    ensures figures { figures_in counts.new measures.new ≡ figures_of s (view_at n ranks.now x.now y.now) }
 {
     let none = edges::no_edge();
     let mut edges = [none; EDGES_SIZE];
@@ -94,7 +94,7 @@ pub fn measure(
 // The component marks and count among the points whose byte is 0; none with the switch off.
 fn component_marks(s: Settings, ranks: &Ranks, marks: &Marks, n: usize) -> ComponentFilter
     requires { Ranked n ranks.now }
-    ensures { (xs ys : List Float) → Joined s (viewAt n ranks.now xs ys) marks.now result }
+    ensures { (xs ys : List Float) → Joined s (view_at n ranks.now xs ys) marks.now result }
 {
     if s.apply_largest_component {
         let sides = patches::square_sides();
@@ -108,7 +108,7 @@ fn component_marks(s: Settings, ranks: &Ranks, marks: &Marks, n: usize) -> Compo
 
 // No weak ends, and no rounds.
 fn no_leaves() -> Peeled
-    ensures { result ≡ noLeaves }
+    ensures { result ≡ no_leaves }
 {
     Peeled {
         marks: [0; MAX_POINTS],
@@ -119,7 +119,7 @@ fn no_leaves() -> Peeled
 // The weak ends of what the marks leave, and the rounds; none without tag 4.
 fn leaf_marks(s: Settings, ranks: &Ranks, strength: &Floats, marks: &Marks, n: usize) -> Peeled
     requires { Weighed n ranks.now strength.now }
-    ensures { (xs ys : List Float) → result ≡ peelOf s (viewAt n ranks.now xs ys) strength.now marks.now }
+    ensures { (xs ys : List Float) → result ≡ peel_of s (view_at n ranks.now xs ys) strength.now marks.now }
 {
     let fraction = s.score_frac;
     match fraction {
@@ -142,7 +142,7 @@ pub fn drop_patches(
     n: usize,
 ) -> DropSet
     requires { Weighed n ranks.now strength.now }
-    ensures { (xs ys : List Float) → result ≡ patchedOf s (viewAt n ranks.now xs ys) strength.now marks.now }
+    ensures { (xs ys : List Float) → result ≡ patched_of s (view_at n ranks.now xs ys) strength.now marks.now }
 {
     let peeled = leaf_marks(s, ranks, strength, marks, n);
     let leaf = peeled.marks;

@@ -9,14 +9,14 @@ use borrow.Author.Tests.{ltb-true, ltb-false}
 use Rattle.folds.specs.Arith.{◌⊕◌, ◌⊖◌, ◌⊗◌, ◌⊘◌}
 use Rattle.folds.proofs.Below.{and_left, and_right, and-false, or-false, or-none}
 use Rattle.float.specs.Constants.{epsilon}
-use Rattle.float.specs.Scalar.{clampOf, max_of, minOf}
+use Rattle.float.specs.Scalar.{clamp_of, max_of, min_of}
 use Rattle.float.proofs.Order.{plain}
 use Rattle.float.proofs.Least.{under-least, over-largest}
 use Rattle.float.proofs.Within.{Within, within-finite, within-number, sub_within, mul-within, add-within, norm-plain, over-epsilon, product-above, number-over, clamp-number}
 use Rattle.offsets.specs.declared.Offset.{Offset}
-use Rattle.offsets.specs.Offsets.{own, nextU, prevU, nextV, prevV, prevUV}
-use Rattle.view.specs.View.{View, rank_at, present, degreeAt}
-use Rattle.edges.specs.Edges.{edgeBy, edge_at}
+use Rattle.offsets.specs.Offsets.{own, next_u, prev_u, next_v, prev_v, prev_uv}
+use Rattle.view.specs.View.{View, rank_at, present, degree_at}
+use Rattle.edges.specs.Edges.{edge_by, edge_at}
 use Rattle.sheet_file.specs.Limit.{outside}
 use Rattle.sheet_file.specs.declared.EdgeShapeParams.{EdgeShapeParams}
 use Rattle.edge_shape.specs.declared.Side.{Side}
@@ -25,31 +25,31 @@ use Rattle.edge_shape.specs.declared.Measure.TheVariants.{Absent, Held}
 use Rattle.edge_shape.specs.declared.CellShape.{CellShape}
 use Rattle.edge_shape.specs.declared.CellShape.TheVariants.{Incomplete, Complete}
 use Rattle.edge_shape.specs.declared.Reason.TheVariants.{NoReason, LowCardinalDegree, BadContinuation, NoValidAdjacentCell}
-use Rattle.edge_shape.specs.Figures.{sideAt, compared, noted, continuationAt, shape_at, notedCell, continuationFails, figuresBy, figuresAt}
-use Rattle.edge_shape.specs.Continuations.{cosineUnder, ratioOver, badContinuation, reasonByEach, reasonAt, cosineIsNan, cellIsNan}
+use Rattle.edge_shape.specs.Figures.{side_at, compared, noted, continuation_at, shape_at, noted_cell, continuation_fails, figures_by, figures_at}
+use Rattle.edge_shape.specs.Continuations.{cosine_under, ratio_over, bad_continuation, reason_by_each, reason_at, cosine_is_nan, cell_is_nan}
 use Rattle.edge_shape.proofs.Laws.{continuation-step, cell-step, figures-step, reason-step}
 
 -- ---- the least cosine and the largest ratio of two
 
-pub least-cosine : (l : Float) (m p : Measure) → cosineIsNan m ≡ false → cosineIsNan p ≡ false → cosineUnder l (noted m p) ≡ cosineUnder l m || cosineUnder l p
+pub least-cosine : (l : Float) (m p : Measure) → cosine_is_nan m ≡ false → cosine_is_nan p ≡ false → cosine_under l (noted m p) ≡ cosine_under l m || cosine_under l p
 unfolding noted
-least-cosine l m Absent f g = sym (or-false (cosineUnder l m))
+least-cosine l m Absent f g = sym (or-false (cosine_under l m))
 least-cosine l Absent (Held c r) f g = refl
 least-cosine l (Held b q) (Held c r) f g = under-least b c l f g
 
-pub largest-ratio : (l : Float) (m p : Measure) → ratioOver l (noted m p) ≡ ratioOver l m || ratioOver l p
+pub largest-ratio : (l : Float) (m p : Measure) → ratio_over l (noted m p) ≡ ratio_over l m || ratio_over l p
 unfolding noted
-largest-ratio l m Absent = sym (or-false (ratioOver l m))
+largest-ratio l m Absent = sym (or-false (ratio_over l m))
 largest-ratio l Absent (Held c r) = refl
 largest-ratio l (Held b q) (Held c r) = over-largest l q r
 
-fails-is : (g : EdgeShapeParams) (degree valid : ℕ) (m : Measure) → continuationFails g degree valid m
-    ≡ cosineUnder g.continuation_cos_min m || ((leb degree 3 || leb valid 2) && ratioOver g.continuation_length_ratio_max m)
+fails-is : (g : EdgeShapeParams) (degree valid : ℕ) (m : Measure) → continuation_fails g degree valid m
+    ≡ cosine_under g.continuation_cos_min m || ((leb degree 3 || leb valid 2) && ratio_over g.continuation_length_ratio_max m)
 fails-is g degree valid Absent = sym (and-false (leb degree 3 || leb valid 2))
 fails-is g degree valid (Held c r) = refl
 
-pub fails-by-each : (g : EdgeShapeParams) (degree valid : ℕ) (m p : Measure) → cosineIsNan m ≡ false → cosineIsNan p ≡ false
-    → continuationFails g degree valid (noted m p) ≡ badContinuation g degree valid m p
+pub fails-by-each : (g : EdgeShapeParams) (degree valid : ℕ) (m p : Measure) → cosine_is_nan m ≡ false → cosine_is_nan p ≡ false
+    → continuation_fails g degree valid (noted m p) ≡ bad_continuation g degree valid m p
 fails-by-each g degree valid m p f h =
     fails-is g degree valid (noted m p) ∙ rw (least-cosine g.continuation_cos_min m p f h, largest-ratio g.continuation_length_ratio_max m p)
 
@@ -61,7 +61,7 @@ record Sound (s : Side) : Type 0 where
   pub dy : Within 15 s.dy
   pub len : T (plain s.len)
 
-compared-number : (a b : Side) → Sound a → Sound b → cosineIsNan (compared a b) ≡ false
+compared-number : (a b : Side) → Sound a → Sound b → cosine_is_nan (compared a b) ≡ false
 unfolding compared
 compared-number a b p q = go (le a.len epsilon) (le b.len epsilon) refl refl
   where
@@ -72,7 +72,7 @@ compared-number a b p q = go (le a.len epsilon) (le b.len epsilon) refl refl
         (mul-within 15 15 a.dy b.dy (ltb-true 30 128 refl) p.dy q.dy)
 
     go : (t u : Bool) → le a.len epsilon ≡ t → le b.len epsilon ≡ u
-        → cosineIsNan (cond (t || u) Absent (Held (clampOf ((a.dx ⊗ b.dx ⊕ a.dy ⊗ b.dy) ⊘ (a.len ⊗ b.len))) (max_of a.len b.len ⊘ minOf a.len b.len))) ≡ false
+        → cosine_is_nan (cond (t || u) Absent (Held (clamp_of ((a.dx ⊗ b.dx ⊕ a.dy ⊗ b.dy) ⊘ (a.len ⊗ b.len))) (max_of a.len b.len ⊘ min_of a.len b.len))) ≡ false
     go true u f g = refl
     go false true f g = refl
     go false false f g =
@@ -80,7 +80,7 @@ compared-number a b p q = go (le a.len epsilon) (le b.len epsilon) refl refl
         (number-over (a.dx ⊗ b.dx ⊕ a.dy ⊗ b.dy) (a.len ⊗ b.len) (within-finite 31 (a.dx ⊗ b.dx ⊕ a.dy ⊗ b.dy) top)
         (product-above a.len b.len p.len q.len (over-epsilon a.len p.len f) (over-epsilon b.len q.len g)))
 
-noted-number : (m p : Measure) → cosineIsNan m ≡ false → cosineIsNan p ≡ false → cosineIsNan (noted m p) ≡ false
+noted-number : (m p : Measure) → cosine_is_nan m ≡ false → cosine_is_nan p ≡ false → cosine_is_nan (noted m p) ≡ false
 unfolding noted
 noted-number m Absent f g = f
 noted-number Absent (Held c r) f g = g
@@ -90,10 +90,10 @@ noted-number (Held b q) (Held c r) f g = go (lt c b)
     go true = g
     go false = f
 
-cell-noted : (m : Measure) (c : CellShape) → cosineIsNan m ≡ false → cellIsNan c ≡ false → cosineIsNan (notedCell m c) ≡ false
-unfolding notedCell
+cell-noted : (m : Measure) (c : CellShape) → cosine_is_nan m ≡ false → cell_is_nan c ≡ false → cosine_is_nan (noted_cell m c) ≡ false
+unfolding noted_cell
 cell-noted m Incomplete f g = f
-cell-noted m (Complete a b) f g = let h = or-none (cosineIsNan a) (cosineIsNan b) g in noted-number (noted m a) b (noted-number m a f h.0) h.1
+cell-noted m (Complete a b) f g = let h = or-none (cosine_is_nan a) (cosine_is_nan b) g in noted-number (noted m a) b (noted-number m a f h.0) h.1
 
 where-so : {A : Type 0} (P : A → Type 0) (t : Bool) {x y : A} → (t ≡ true → P x) → P y → P (cond t x y)
 where-so P true f g = f refl
@@ -102,18 +102,18 @@ where-so P false f g = g
 -- ---- the figures, from four cells
 
 module _ (g : EdgeShapeParams) (degree : ℕ) where
-  least-of : (m : Measure) (a b c d : CellShape) → cellIsNan a ≡ false → cellIsNan b ≡ false → cellIsNan c ≡ false → cellIsNan d ≡ false
-      → cosineIsNan (figuresBy g degree m a b c d).cells ≡ false
-  unfolding figuresBy
+  least-of : (m : Measure) (a b c d : CellShape) → cell_is_nan a ≡ false → cell_is_nan b ≡ false → cell_is_nan c ≡ false → cell_is_nan d ≡ false
+      → cosine_is_nan (figures_by g degree m a b c d).cells ≡ false
+  unfolding figures_by
   least-of m a b c d p q r s =
-      cell-noted (notedCell (notedCell (notedCell Absent a) b) c) d
-      (cell-noted (notedCell (notedCell Absent a) b) c (cell-noted (notedCell Absent a) b (cell-noted Absent a refl p) q) r) s
+      cell-noted (noted_cell (noted_cell (noted_cell Absent a) b) c) d
+      (cell-noted (noted_cell (noted_cell Absent a) b) c (cell-noted (noted_cell Absent a) b (cell-noted Absent a refl p) q) r) s
 
-  reason-of : (u v : Measure) (a b c d : CellShape) → cosineIsNan u ≡ false → cosineIsNan v ≡ false
-      → let f = figuresBy g degree (noted u v) a b c d in f.reason ≡ reasonByEach g f.degree f.adjacent f.valid u v
-  unfolding figuresBy
+  reason-of : (u v : Measure) (a b c d : CellShape) → cosine_is_nan u ≡ false → cosine_is_nan v ≡ false
+      → let f = figures_by g degree (noted u v) a b c d in f.reason ≡ reason_by_each g f.degree f.adjacent f.valid u v
+  unfolding figures_by
   reason-of u v a b c d p q =
-      let f = figuresBy g degree (noted u v) a b c d in
+      let f = figures_by g degree (noted u v) a b c d in
       reason-step g degree f.adjacent f.valid (noted u v)
       ∙ ap (λ (t : Bool). cond (ltb degree g.min_cardinal_degree) LowCardinalDegree (cond t BadContinuation (cond (ltb 0 f.adjacent && eqb f.valid 0) NoValidAdjacentCell NoReason)))
       (fails-by-each g degree f.valid u v p q)
@@ -128,13 +128,13 @@ pub record Inside (w : View) : Type 0 where
 -- no cosine of rank k is NaN, and the reason is that of document 01's words
 pub record Cosines (g : EdgeShapeParams) (w : View) (k : ℕ) : Type 0 where
   -- of the continuations along u and along v
-  pub along-u : cosineIsNan (continuationAt w prevU nextU k) ≡ false
-  pub along-v : cosineIsNan (continuationAt w prevV nextV k) ≡ false
+  pub along-u : cosine_is_nan (continuation_at w prev_u next_u k) ≡ false
+  pub along-v : cosine_is_nan (continuation_at w prev_v next_v k) ≡ false
   -- of any cell, and so the least that rank k has
-  pub cells : (t : ℕ) → cellIsNan (shape_at w t) ≡ false
-  pub least-cell : cosineIsNan (figuresAt g w k).cells ≡ false
+  pub cells : (t : ℕ) → cell_is_nan (shape_at w t) ≡ false
+  pub least-cell : cosine_is_nan (figures_at g w k).cells ≡ false
   -- "a continuation cosine under the least, or a continuation ratio over the largest where degree is at most 3 or valid cells at most 2"
-  pub reason : (figuresAt g w k).reason ≡ reasonAt g w k
+  pub reason : (figures_at g w k).reason ≡ reason_at g w k
 
 pub within-limit : (x : Float) → outside x ≡ false → Within 14 x
 within-limit nan h = absurd (true≢false h)
@@ -145,8 +145,8 @@ module _ (w : View) (inside : Inside w) where
   apart : (x : ℕ → Float) → ((k : ℕ) → k < w.count → outside (x k) ≡ false) → (a b : ℕ) → a < w.count → b < w.count → Within 15 (x b ⊖ x a)
   apart x f a b h k = sub_within 14 (x b) (x a) (ltb-true 15 128 refl) (within-limit (x b) (f b k)) (within-limit (x a) (f a h))
 
-  side-sound : (o : Offset) (a : ℕ) → a < w.count → present w a o ≡ true → Sound (sideAt w o a)
-  unfolding sideAt edge_at edgeBy
+  side-sound : (o : Offset) (a : ℕ) → a < w.count → present w a o ≡ true → Sound (side_at w o a)
+  unfolding side_at edge_at edge_by
   side-sound o a h e =
       let b = rank_at w a o in
       let k = ltb-true b w.count e in
@@ -154,26 +154,26 @@ module _ (w : View) (inside : Inside w) where
       let dy = apart w.y inside.y a b h k in
       record { dx = dx; dy = dy; len = rw e (norm-plain (w.x b ⊖ w.x a) (w.y b ⊖ w.y a) (within-number 15 (w.x b ⊖ w.x a) dx) (within-number 15 (w.y b ⊖ w.y a) dy)) }
 
-  pub continuation-number : (before after : Offset) (k : ℕ) → k < w.count → cosineIsNan (continuationAt w before after k) ≡ false
+  pub continuation-number : (before after : Offset) (k : ℕ) → k < w.count → cosine_is_nan (continuation_at w before after k) ≡ false
   continuation-number before after k h =
       rw (continuation-step w before after k)
-      (where-so (λ (m : Measure). cosineIsNan m ≡ false) (present w k before && (present w k after && present w (rank_at w k before) after))
+      (where-so (λ (m : Measure). cosine_is_nan m ≡ false) (present w k before && (present w k after && present w (rank_at w k before) after))
       (λ e.
       let b = and_left (present w k before) (present w k after && present w (rank_at w k before) after) e in
       let r = and_right (present w k before) (present w k after && present w (rank_at w k before) after) e in
-      compared-number (sideAt w after (rank_at w k before)) (sideAt w after k)
+      compared-number (side_at w after (rank_at w k before)) (side_at w after k)
       (side-sound after (rank_at w k before) (ltb-true (rank_at w k before) w.count b) (and_right (present w k after) (present w (rank_at w k before) after) r))
       (side-sound after k h (and_left (present w k after) (present w (rank_at w k before) after) r))) refl)
 
-  pub cell-number : (t : ℕ) → cellIsNan (shape_at w t) ≡ false
+  pub cell-number : (t : ℕ) → cell_is_nan (shape_at w t) ≡ false
   cell-number t =
       let here = ltb t w.count in
-      let right = present w t nextU in
-      let below = present w t nextV in
-      let across = present w (rank_at w t nextV) nextU in
-      let down = present w (rank_at w t nextU) nextV in
+      let right = present w t next_u in
+      let below = present w t next_v in
+      let across = present w (rank_at w t next_v) next_u in
+      let down = present w (rank_at w t next_u) next_v in
       rw (cell-step w t)
-      (where-so (λ (c : CellShape). cellIsNan c ≡ false) (here && (right && (below && (across && down))))
+      (where-so (λ (c : CellShape). cell_is_nan c ≡ false) (here && (right && (below && (across && down))))
       (λ e.
       let a = ltb-true t w.count (and_left here (right && (below && (across && down))) e) in
       let f = and_right here (right && (below && (across && down))) e in
@@ -182,24 +182,24 @@ module _ (w : View) (inside : Inside w) where
       let v = and_left below (across && down) g in
       let h = and_right below (across && down) g in
       rw (
-        compared-number (sideAt w nextU t) (sideAt w nextU (rank_at w t nextV)) (side-sound nextU t a u)
-            (side-sound nextU (rank_at w t nextV) (ltb-true (rank_at w t nextV) w.count v) (and_left across down h)),
-        compared-number (sideAt w nextV t) (sideAt w nextV (rank_at w t nextU)) (side-sound nextV t a v)
-            (side-sound nextV (rank_at w t nextU) (ltb-true (rank_at w t nextU) w.count u) (and_right across down h)),
+        compared-number (side_at w next_u t) (side_at w next_u (rank_at w t next_v)) (side-sound next_u t a u)
+            (side-sound next_u (rank_at w t next_v) (ltb-true (rank_at w t next_v) w.count v) (and_left across down h)),
+        compared-number (side_at w next_v t) (side_at w next_v (rank_at w t next_u)) (side-sound next_v t a v)
+            (side-sound next_v (rank_at w t next_u) (ltb-true (rank_at w t next_u) w.count u) (and_right across down h)),
       )) refl)
 
   -- what holds of the cosines of rank k, with any gate
   pub cosines : (g : EdgeShapeParams) (k : ℕ) → k < w.count → Cosines g w k
   cosines g k h =
-      let u = continuationAt w prevU nextU k in
-      let v = continuationAt w prevV nextV k in
+      let u = continuation_at w prev_u next_u k in
+      let v = continuation_at w prev_v next_v k in
       let cell : Offset → CellShape = λ o. shape_at w (rank_at w k o) in
-      let number : (o : Offset) → cellIsNan (cell o) ≡ false = λ o. cell-number (rank_at w k o) in
+      let number : (o : Offset) → cell_is_nan (cell o) ≡ false = λ o. cell-number (rank_at w k o) in
       record {
-        along-u = continuation-number prevU nextU k h;
-        along-v = continuation-number prevV nextV k h;
+        along-u = continuation-number prev_u next_u k h;
+        along-v = continuation-number prev_v next_v k h;
         cells = cell-number;
-        least-cell = rw (figures-step w g k) (least-of g (degreeAt w k) (noted u v) (cell own) (cell prevU) (cell prevUV) (cell prevV) (number own) (number prevU) (number prevUV) (number prevV));
+        least-cell = rw (figures-step w g k) (least-of g (degree_at w k) (noted u v) (cell own) (cell prev_u) (cell prev_uv) (cell prev_v) (number own) (number prev_u) (number prev_uv) (number prev_v));
         reason = rw (figures-step w g k)
-            (reason-of g (degreeAt w k) u v (cell own) (cell prevU) (cell prevUV) (cell prevV) (continuation-number prevU nextU k h) (continuation-number prevV nextV k h));
+            (reason-of g (degree_at w k) u v (cell own) (cell prev_u) (cell prev_uv) (cell prev_v) (continuation-number prev_u next_u k h) (continuation-number prev_v next_v k h));
       }

@@ -7,21 +7,21 @@ use lib.Dec.{eqb}
 use lib.ListN.{get_or}
 use lib.Ieee.{Float, nan, of_bits}
 use Rattle.folds.specs.Arith.{f32}
-use Rattle.float.specs.Constants.{zero, half, one, two, minusOne}
+use Rattle.float.specs.Constants.{zero, half, one, two, minus_one}
 use Rattle.offsets.specs.declared.Offset.{Offset}
-use Rattle.offsets.specs.Offsets.{nextU, prevU, nextV, prevV, place_of}
+use Rattle.offsets.specs.Offsets.{next_u, prev_u, next_v, prev_v, place_of}
 use Rattle.view.specs.View.{View}
 use Rattle.sheet_file.specs.declared.EdgeShapeParams.{EdgeShapeParams}
 use Rattle.edge_shape.specs.declared.Measure.{Measure}
 use Rattle.edge_shape.specs.declared.Measure.TheVariants.{Held}
 use Rattle.edge_shape.specs.declared.Reason.TheVariants.{BadContinuation}
-use Rattle.edge_shape.specs.Figures.{noted, continuationAt, continuationsAt, figuresAt}
-use Rattle.edge_shape.specs.Continuations.{cosineUnder, reasonByEach, cosineIsNan}
+use Rattle.edge_shape.specs.Figures.{noted, continuation_at, continuations_at, figures_at}
+use Rattle.edge_shape.specs.Continuations.{cosine_under, reason_by_each, cosine_is_nan}
 
 -- n points at the positions of two lists, of whose ranks only the near ones matter here
 abbrev sheet : ℕ → (ℕ → ℕ) → List Float → List Float → View
 sheet n near xs ys =
-    record { count = n; near = near; row = λ (k : ℕ). k; column = λ (k : ℕ). k; byIdx = λ (k : ℕ). k; x = λ (k : ℕ). get_or xs k nan; y = λ (k : ℕ). get_or ys k nan }
+    record { count = n; near = near; row = λ (k : ℕ). k; column = λ (k : ℕ). k; by_idx = λ (k : ℕ). k; x = λ (k : ℕ). get_or xs k nan; y = λ (k : ℕ). get_or ys k nan }
 
 -- where the table of ranks has the rank at offset o from rank k
 abbrev near : ℕ → Offset → ℕ
@@ -33,7 +33,7 @@ near k o = 25 * k + place_of o
 -- rank 2 the others lie at the offsets (-1,0), (0,-1), (0,1) and (1,0), and rank 2 lies at (1,0) from rank 0 and at (0,1) from rank 1.
 abbrev bent : View
 bent =
-    sheet 5 (λ (i : ℕ). cond (eqb i (near 2 prevU)) 0 (cond (eqb i (near 2 prevV)) 1 (cond (eqb i (near 2 nextV)) 3 (cond (eqb i (near 2 nextU)) 4 (cond (eqb i (near 0 nextU)) 2 (cond (eqb i (near 1 nextV)) 2 5))))))
+    sheet 5 (λ (i : ℕ). cond (eqb i (near 2 prev_u)) 0 (cond (eqb i (near 2 prev_v)) 1 (cond (eqb i (near 2 next_v)) 3 (cond (eqb i (near 2 next_u)) 4 (cond (eqb i (near 0 next_u)) 2 (cond (eqb i (near 1 next_v)) 2 5))))))
     (f32 0xc2c8_0000 ∷ zero ∷ zero ∷ f32 0x42c8_0000 ∷ f32 0x42c8_0000 ∷ []) (zero ∷ f32 0xc2c8_0000 ∷ zero ∷ f32 0x42c8_0000 ∷ zero ∷ [])
 
 -- "Eight degrees, the Rust's default, becomes 16,613,942 / 2^24."
@@ -41,44 +41,44 @@ abbrev gate : EdgeShapeParams
 gate =
     record { min_cardinal_degree = 1; continuation_cos_min = f32 0x3f7d_8236; continuation_length_ratio_max = two; cell_opposite_cos_min = zero; cell_opposite_length_ratio_max = two }
 
-abbrev alongU : Measure
-alongU = continuationAt bent prevU nextU 2
+abbrev along_u : Measure
+along_u = continuation_at bent prev_u next_u 2
 
-abbrev alongV : Measure
-alongV = continuationAt bent prevV nextV 2
+abbrev along_v : Measure
+along_v = continuation_at bent prev_v next_v 2
 
 -- the cosine along v is under the least allowed, that along u is not; so the least of them is, and the reason is 2 either way
-pub one-under : (cosineUnder (f32 0x3f7d_8236) alongU ≡ false)
-    × (cosineUnder (f32 0x3f7d_8236) alongV ≡ true)
-    × (cosineUnder (f32 0x3f7d_8236) (continuationsAt bent 2) ≡ true)
-    × ((figuresAt gate bent 2).reason ≡ BadContinuation)
-    × (reasonByEach gate 4 0 0 alongU alongV ≡ BadContinuation)
-unfolding figuresAt of_bits
+pub one-under : (cosine_under (f32 0x3f7d_8236) along_u ≡ false)
+    × (cosine_under (f32 0x3f7d_8236) along_v ≡ true)
+    × (cosine_under (f32 0x3f7d_8236) (continuations_at bent 2) ≡ true)
+    × ((figures_at gate bent 2).reason ≡ BadContinuation)
+    × (reason_by_each gate 4 0 0 along_u along_v ≡ BadContinuation)
+unfolding figures_at of_bits
 one-under = (refl, refl, refl, refl, refl)
 
 -- ---- three cells of a row
 
 abbrev three : List Float → List Float → View
-three xs ys = sheet 3 (λ (i : ℕ). cond (eqb i (near 1 prevU)) 0 (cond (eqb i (near 1 nextU)) 2 (cond (eqb i (near 0 nextU)) 1 3))) xs ys
+three xs ys = sheet 3 (λ (i : ℕ). cond (eqb i (near 1 prev_u)) 0 (cond (eqb i (near 1 next_u)) 2 (cond (eqb i (near 0 next_u)) 1 3))) xs ys
 
 -- at (0,-5), (-0,0) and (5,-0) the cosine is -0, which is not under +0, and is under 1/2
-abbrev minusZero : View
-minusZero = three (zero ∷ f32 0x8000_0000 ∷ f32 0x40a0_0000 ∷ []) (f32 0xc0a0_0000 ∷ zero ∷ f32 0x8000_0000 ∷ [])
+abbrev minus_zero : View
+minus_zero = three (zero ∷ f32 0x8000_0000 ∷ f32 0x40a0_0000 ∷ []) (f32 0xc0a0_0000 ∷ zero ∷ f32 0x8000_0000 ∷ [])
 
-pub minus-zero : (continuationsAt minusZero 1 ≡ Held (f32 0x8000_0000) one)
-    × (cosineUnder zero (continuationsAt minusZero 1) ≡ false)
-    × (cosineUnder half (continuationsAt minusZero 1) ≡ true)
-unfolding continuationsAt of_bits
+pub minus-zero : (continuations_at minus_zero 1 ≡ Held (f32 0x8000_0000) one)
+    × (cosine_under zero (continuations_at minus_zero 1) ≡ false)
+    × (cosine_under half (continuations_at minus_zero 1) ≡ true)
+unfolding continuations_at of_bits
 minus-zero = (refl, refl, refl)
 
 -- ---- what the condition is for
 
 -- finite positions alone do not keep a cosine from being NaN: at x = 0, 2 ^ 127 and 0 again both lengths and their product are infinite
-pub too_far : cosineIsNan (continuationAt (three (zero ∷ f32 0x7f00_0000 ∷ zero ∷ []) (zero ∷ zero ∷ zero ∷ [])) prevU nextU 1) ≡ true
-unfolding continuationAt of_bits
+pub too_far : cosine_is_nan (continuation_at (three (zero ∷ f32 0x7f00_0000 ∷ zero ∷ []) (zero ∷ zero ∷ zero ∷ [])) prev_u next_u 1) ≡ true
+unfolding continuation_at of_bits
 too_far = refl
 
 -- and a NaN that is met first hides a cosine under the least
-pub hidden : (cosineUnder one (Held minusOne one) ≡ true) × (cosineUnder one (noted (Held nan one) (Held minusOne one)) ≡ false)
+pub hidden : (cosine_under one (Held minus_one one) ≡ true) × (cosine_under one (noted (Held nan one) (Held minus_one one)) ≡ false)
 unfolding noted of_bits
 hidden = (refl, refl)

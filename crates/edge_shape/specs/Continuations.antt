@@ -3,7 +3,7 @@
 -- ratio is the same where no cosine is NaN. Assumes nothing.
 use Rattle.std.specs.Prelude.{Bool, false, cond, ◌&&◌, ◌||◌, ℕ, eqb, ltb, leb, Float}
 use Rattle.std.specs.Float.Ieee.{lt, is_nan}
-use Rattle.offsets.specs.Offsets.{nextU, prevU, nextV, prevV}
+use Rattle.offsets.specs.Offsets.{next_u, prev_u, next_v, prev_v}
 use Rattle.view.specs.View.{View}
 use Rattle.sheet_file.specs.declared.EdgeShapeParams.{EdgeShapeParams}
 use Rattle.edge_shape.specs.declared.Measure.{Measure}
@@ -12,39 +12,39 @@ use Rattle.edge_shape.specs.declared.CellShape.{CellShape}
 use Rattle.edge_shape.specs.declared.CellShape.TheVariants.{Incomplete, Complete}
 use Rattle.edge_shape.specs.declared.Reason.{Reason}
 use Rattle.edge_shape.specs.declared.Reason.TheVariants.{NoReason, LowCardinalDegree, BadContinuation, NoValidAdjacentCell}
-use Rattle.edge_shape.specs.Figures.{continuationAt, figuresAt}
+use Rattle.edge_shape.specs.Figures.{continuation_at, figures_at}
 
-abbrev pub cosineUnder : Float → Measure → Bool
-cosineUnder l Absent = false
-cosineUnder l (Held c r) = lt c l
+abbrev pub cosine_under : Float → Measure → Bool
+cosine_under l Absent = false
+cosine_under l (Held c r) = lt c l
 
-abbrev pub ratioOver : Float → Measure → Bool
-ratioOver l Absent = false
-ratioOver l (Held c r) = lt l r
+abbrev pub ratio_over : Float → Measure → Bool
+ratio_over l Absent = false
+ratio_over l (Held c r) = lt l r
 
-abbrev pub badContinuation : EdgeShapeParams → ℕ → ℕ → Measure → Measure → Bool
-badContinuation g degree valid u v =
-    (cosineUnder g.continuation_cos_min u || cosineUnder g.continuation_cos_min v)
-    || ((leb degree 3 || leb valid 2) && (ratioOver g.continuation_length_ratio_max u || ratioOver g.continuation_length_ratio_max v))
+abbrev pub bad_continuation : EdgeShapeParams → ℕ → ℕ → Measure → Measure → Bool
+bad_continuation g degree valid u v =
+    (cosine_under g.continuation_cos_min u || cosine_under g.continuation_cos_min v)
+    || ((leb degree 3 || leb valid 2) && (ratio_over g.continuation_length_ratio_max u || ratio_over g.continuation_length_ratio_max v))
 
 -- "an edge reason, the first that holds": with the two continuations in place of their least cosine and largest ratio
-abbrev pub reasonByEach : EdgeShapeParams → ℕ → ℕ → ℕ → Measure → Measure → Reason
-reasonByEach g degree adjacent valid u v =
+abbrev pub reason_by_each : EdgeShapeParams → ℕ → ℕ → ℕ → Measure → Measure → Reason
+reason_by_each g degree adjacent valid u v =
     cond (ltb degree g.min_cardinal_degree) LowCardinalDegree
-    (cond (badContinuation g degree valid u v) BadContinuation (cond (ltb 0 adjacent && eqb valid 0) NoValidAdjacentCell NoReason))
+    (cond (bad_continuation g degree valid u v) BadContinuation (cond (ltb 0 adjacent && eqb valid 0) NoValidAdjacentCell NoReason))
 
 -- of rank k
-abbrev pub reasonAt : EdgeShapeParams → View → ℕ → Reason
-reasonAt g w k =
-    let f = figuresAt g w k in
-    reasonByEach g f.degree f.adjacent f.valid (continuationAt w prevU nextU k) (continuationAt w prevV nextV k)
+abbrev pub reason_at : EdgeShapeParams → View → ℕ → Reason
+reason_at g w k =
+    let f = figures_at g w k in
+    reason_by_each g f.degree f.adjacent f.valid (continuation_at w prev_u next_u k) (continuation_at w prev_v next_v k)
 
 -- ---- a cosine that is NaN
 
-abbrev pub cosineIsNan : Measure → Bool
-cosineIsNan Absent = false
-cosineIsNan (Held c r) = is_nan c
+abbrev pub cosine_is_nan : Measure → Bool
+cosine_is_nan Absent = false
+cosine_is_nan (Held c r) = is_nan c
 
-abbrev pub cellIsNan : CellShape → Bool
-cellIsNan Incomplete = false
-cellIsNan (Complete a b) = cosineIsNan a || cosineIsNan b
+abbrev pub cell_is_nan : CellShape → Bool
+cell_is_nan Incomplete = false
+cell_is_nan (Complete a b) = cosine_is_nan a || cosine_is_nan b

@@ -3,11 +3,11 @@
 
 ghost use Rattle.std.specs.Prelude.{◌≡◌, true, cond, [], ◌≤◌, ◌<◌};
 ghost use Rattle.std.specs.Float.Ieee.{lt};
-ghost use Rattle.offsets.specs.Offsets.{isNear};
-ghost use Rattle.view.specs.View.{viewAt, maxPoints};
-ghost use Rattle.edges.specs.Edges.{side, backSide};
-ghost use Rattle.edge_shape.specs.Figures.{compared, noted, continuationAt, shape_at, withinGate, continuationFails, isAdjacent, isValid, notedCell, reasonOf, reasonNumber, figuresBy, figuresAt};
-ghost use Rattle.edge_shape.specs.Given.{WithEdges, rankFrom, sideBy, OneOrNone};
+ghost use Rattle.offsets.specs.Offsets.{is_near};
+ghost use Rattle.view.specs.View.{view_at, max_points};
+ghost use Rattle.edges.specs.Edges.{side, back_side};
+ghost use Rattle.edge_shape.specs.Figures.{compared, noted, continuation_at, shape_at, within_gate, continuation_fails, is_adjacent, is_valid, noted_cell, reason_of, reason_number, figures_by, figures_at};
+ghost use Rattle.edge_shape.specs.Given.{WithEdges, rank_from, side_by, OneOrNone};
 
 use edges::Edges;
 use offsets::{NEXT_U, NEXT_V, OWN, Offset, PREV_U, PREV_UV, PREV_V};
@@ -89,8 +89,8 @@ fn note(m: Measure, p: Measure) -> Measure
 
 // The edge from rank a to rank b, one of the way's edges.
 fn side_at(x: &Floats, y: &Floats, edges: &Edges, way: usize, a: usize, b: usize) -> Side
-    requires { (way < 2) × (a < maxPoints) × (b < maxPoints) }
-    ensures { result ≡ sideBy (viewAt 0 [] x.now y.now) edges.now way a b }
+    requires { (way < 2) × (a < max_points) × (b < max_points) }
+    ensures { result ≡ side_by (view_at 0 [] x.now y.now) edges.now way a b }
 {
     Side {
         dx: x[b] - x[a],
@@ -101,8 +101,8 @@ fn side_at(x: &Floats, y: &Floats, edges: &Edges, way: usize, a: usize, b: usize
 
 // The rank at offset o from rank a; none where there is no a.
 fn onward(ranks: &Ranks, n: usize, a: usize, o: Offset) -> usize
-    requires { (n ≤ maxPoints) × (isNear o ≡ true) }
-    ensures { result ≡ rankFrom (viewAt n ranks.now [] []) a o }
+    requires { (n ≤ max_points) × (is_near o ≡ true) }
+    ensures { result ≡ rank_from (view_at n ranks.now [] []) a o }
 {
     if n <= a {
         return n;
@@ -121,7 +121,7 @@ fn continuation_at(
     k: usize,
 ) -> Measure
     requires { WithEdges n ranks.now x.now y.now edges.now × (way < 2) × (k < n) }
-    ensures { result ≡ continuationAt (viewAt n ranks.now x.now y.now) (backSide way) (side way) k }
+    ensures { result ≡ continuation_at (view_at n ranks.now x.now y.now) (back_side way) (side way) k }
 {
     let after = edges::side_of(way);
     let b = view::rank_at(ranks, k, edges::back_of(way));
@@ -142,7 +142,7 @@ fn continuation_at(
 // The cell whose least corner is rank t.
 fn cell_at(ranks: &Ranks, x: &Floats, y: &Floats, edges: &Edges, n: usize, t: usize) -> CellShape
     requires { WithEdges n ranks.now x.now y.now edges.now }
-    ensures { result ≡ shape_at (viewAt n ranks.now x.now y.now) t }
+    ensures { result ≡ shape_at (view_at n ranks.now x.now y.now) t }
 {
     let right = onward(ranks, n, t, NEXT_U);
     let below = onward(ranks, n, t, NEXT_V);
@@ -168,7 +168,7 @@ fn cell_at(ranks: &Ranks, x: &Floats, y: &Floats, edges: &Edges, n: usize, t: us
 
 // Whether a pair of opposite sides is within the gate.
 fn is_within(g: EdgeShapeParams, m: Measure) -> bool
-    ensures { result ≡ withinGate g m }
+    ensures { result ≡ within_gate g m }
 {
     match m {
         Measure::Absent => false,
@@ -186,7 +186,7 @@ fn is_within(g: EdgeShapeParams, m: Measure) -> bool
 
 // 1 for a complete cell, else 0.
 fn adjacent_count(c: CellShape) -> u8
-    ensures { OneOrNone (isAdjacent c) result }
+    ensures { OneOrNone (is_adjacent c) result }
 {
     match c {
         CellShape::Incomplete => 0,
@@ -196,7 +196,7 @@ fn adjacent_count(c: CellShape) -> u8
 
 // 1 for a valid cell, else 0.
 fn valid_count(g: EdgeShapeParams, c: CellShape) -> u8
-    ensures { OneOrNone (isValid g c) result }
+    ensures { OneOrNone (is_valid g c) result }
 {
     match c {
         CellShape::Incomplete => 0,
@@ -213,7 +213,7 @@ fn valid_count(g: EdgeShapeParams, c: CellShape) -> u8
 }
 
 fn note_cell(m: Measure, c: CellShape) -> Measure
-    ensures { result ≡ notedCell m c }
+    ensures { result ≡ noted_cell m c }
 {
     match c {
         CellShape::Incomplete => m,
@@ -223,7 +223,7 @@ fn note_cell(m: Measure, c: CellShape) -> Measure
 
 // Whether a continuation fails the gate.
 fn continuation_fails(g: EdgeShapeParams, degree: u8, valid: u8, m: Measure) -> bool
-    ensures { result ≡ continuationFails g degree valid m }
+    ensures { result ≡ continuation_fails g degree valid m }
 {
     match m {
         Measure::Absent => false,
@@ -243,7 +243,7 @@ fn continuation_fails(g: EdgeShapeParams, degree: u8, valid: u8, m: Measure) -> 
 }
 
 fn first_reason(g: EdgeShapeParams, degree: u8, adjacent: u8, valid: u8, m: Measure) -> Reason
-    ensures { result ≡ reasonOf g degree adjacent valid m }
+    ensures { result ≡ reason_of g degree adjacent valid m }
 {
     if degree < g.min_cardinal_degree {
         return Reason::LowCardinalDegree;
@@ -262,7 +262,7 @@ fn first_reason(g: EdgeShapeParams, degree: u8, adjacent: u8, valid: u8, m: Meas
 
 // "0 none, 1 low-cardinal-degree, 2 bad-continuation, 3 no-valid-adjacent-cell."
 pub fn reason_number(r: Reason) -> u8
-    ensures { result ≡ reasonNumber r }
+    ensures { result ≡ reason_number r }
 {
     match r {
         Reason::NoReason => 0,
@@ -281,7 +281,7 @@ fn figures_by(
     c: CellShape,
     d: CellShape,
 ) -> Figures
-    ensures { result ≡ figuresBy g degree m a b c d }
+    ensures { result ≡ figures_by g degree m a b c d }
 {
     let adjacent = adjacent_count(a) + adjacent_count(b) + adjacent_count(c) + adjacent_count(d);
     let valid = valid_count(g, a) + valid_count(g, b) + valid_count(g, c) + valid_count(g, d);
@@ -308,7 +308,7 @@ pub fn figures_at(
     k: usize,
 ) -> Figures
     requires { WithEdges n ranks.now x.now y.now edges.now × (k < n) }
-    ensures { result ≡ figuresAt g (viewAt n ranks.now x.now y.now) k }
+    ensures { result ≡ figures_at g (view_at n ranks.now x.now y.now) k }
 {
     let degree = view::degree_at(ranks, n, k);
     let along_u = continuation_at(ranks, x, y, edges, n, 0, k);

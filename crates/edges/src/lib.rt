@@ -3,9 +3,9 @@
 
 ghost use Rattle.std.specs.Prelude.{◌≡◌, true, ◌+◌, ◌*◌, ◌≤◌, ◌<◌, get_or, replicate};
 ghost use Rattle.std.specs.Float.{nan};
-ghost use Rattle.offsets.specs.Offsets.{isNear};
-ghost use Rattle.view.specs.View.{maxPoints, viewAt};
-ghost use Rattle.edges.specs.Edges.{edgesSize, side, backSide, edge_at, edgesOf, edgePlace, FilledTo};
+ghost use Rattle.offsets.specs.Offsets.{is_near};
+ghost use Rattle.view.specs.View.{max_points, view_at};
+ghost use Rattle.edges.specs.Edges.{edges_size, side, back_side, edge_at, edges_of, edge_place, FilledTo};
 
 use offsets::{NEXT_U, NEXT_V, Offset, PREV_U, PREV_V};
 use view::{Floats, MAX_POINTS, Ranks};
@@ -25,22 +25,22 @@ pub struct Edge {
 
 // The offset that the edges of a way lead over: way 0 is along u, 1 along v.
 pub fn side_of(way: usize) -> Offset
-    ensures { (result ≡ side way) × (isNear result ≡ true) }
+    ensures { (result ≡ side way) × (is_near result ≡ true) }
 {
     if way == 0 { NEXT_U } else { NEXT_V }
 }
 
 // The offset that leads back along a way.
 pub fn back_of(way: usize) -> Offset
-    ensures { (result ≡ backSide way) × (isNear result ≡ true) }
+    ensures { (result ≡ back_side way) × (is_near result ≡ true) }
 {
     if way == 0 { PREV_U } else { PREV_V }
 }
 
 // The way's edge that starts at rank k: zeros where it leads to no point.
 fn edge_at(ranks: &Ranks, x: &Floats, y: &Floats, n: usize, way: usize, k: usize) -> Edge
-    requires { (n ≤ maxPoints) × (k < n) }
-    ensures { result ≡ edge_at (viewAt n ranks.now x.now y.now) (side way) k }
+    requires { (n ≤ max_points) × (k < n) }
+    ensures { result ≡ edge_at (view_at n ranks.now x.now y.now) (side way) k }
 {
     let j = view::rank_at(ranks, k, side_of(way));
     if n <= j {
@@ -62,16 +62,16 @@ fn edge_at(ranks: &Ranks, x: &Floats, y: &Floats, n: usize, way: usize, k: usize
 
 // Where the table has the way's edge that starts at rank k.
 fn place(way: usize, k: usize) -> usize
-    requires { (way < 2) × (k < maxPoints) }
-    ensures { (result ≡ edgePlace way 0 k) × (result + 2 < edgesSize) }
+    requires { (way < 2) × (k < max_points) }
+    ensures { (result ≡ edge_place way 0 k) × (result + 2 < edges_size) }
 {
     3 * (MAX_POINTS * way + k)
 }
 
 // Fills in the edges of a way.
 fn fill_way(ranks: &Ranks, x: &Floats, y: &Floats, n: usize, table: &mut Edges, way: usize)
-    requires { (n ≤ maxPoints) × (way < 2) × FilledTo (viewAt n ranks.now x.now y.now) (edgePlace way 0 0) table.old }
-    ensures { FilledTo (viewAt n ranks.now x.now y.now) (edgePlace (way + 1) 0 0) table.new }
+    requires { (n ≤ max_points) × (way < 2) × FilledTo (view_at n ranks.now x.now y.now) (edge_place way 0 0) table.old }
+    ensures { FilledTo (view_at n ranks.now x.now y.now) (edge_place (way + 1) 0 0) table.new }
 {
     let mut k = 0;
     while k < n {
@@ -93,8 +93,8 @@ pub fn no_edge() -> f32
 
 // Fills an empty table with the edges of both ways.
 pub fn fill(ranks: &Ranks, x: &Floats, y: &Floats, n: usize, table: &mut Edges)
-    requires { (n ≤ maxPoints) × (table.old ≡ replicate edgesSize nan) }
-    ensures { table.new ≡ edgesOf (viewAt n ranks.now x.now y.now) }
+    requires { (n ≤ max_points) × (table.old ≡ replicate edges_size nan) }
+    ensures { table.new ≡ edges_of (view_at n ranks.now x.now y.now) }
 {
     fill_way(ranks, x, y, n, table, 0);
     fill_way(ranks, x, y, n, table, 1);
@@ -102,16 +102,16 @@ pub fn fill(ranks: &Ranks, x: &Floats, y: &Floats, n: usize, table: &mut Edges)
 
 // The length of the way's edge that starts at rank k.
 pub fn length(edges: &Edges, way: usize, k: usize) -> f32
-    requires { (way < 2) × (k < maxPoints) }
-    ensures { result ≡ get_or edges.now (edgePlace way 0 k) nan }
+    requires { (way < 2) × (k < max_points) }
+    ensures { result ≡ get_or edges.now (edge_place way 0 k) nan }
 {
     edges[place(way, k)]
 }
 
 // A part of its unit vector: 1 along x, 2 along y.
 pub fn unit(edges: &Edges, way: usize, part: usize, k: usize) -> f32
-    requires { (way < 2) × (part < 3) × (k < maxPoints) }
-    ensures { result ≡ get_or edges.now (edgePlace way part k) nan }
+    requires { (way < 2) × (part < 3) × (k < max_points) }
+    ensures { result ≡ get_or edges.now (edge_place way part k) nan }
 {
     edges[place(way, k) + part]
 }

@@ -13,45 +13,45 @@ use Rattle.cells.specs.Cell.{Cell, cell_of, coincide}
 use Rattle.cells.proofs.Edges.{coincide-true}
 use Rattle.grid.specs.Views.{view_of}
 use Rattle.sheet_file.specs.declared.Settings.{Settings}
-use Rattle.predict.specs.Fills.{fillsOf}
+use Rattle.predict.specs.Fills.{fills_of}
 use Rattle.predict.specs.declared.Prediction.{Prediction}
 use Rattle.predict.specs.declared.Prediction.TheVariants.{NoPair}
 use Rattle.predict.proofs.ByRank.{fills_same}
-use Rattle.drop_set.specs.Filters.{sidesOf}
-use Rattle.judging.specs.Judging.{judgedFor, fillsFor}
-use Rattle.promises.specs.Words.{marksIn, keptRank}
-use Rattle.promises.specs.Fills.{fillIn, droppedRank, Carried, KeptAlike}
-use Rattle.instances.specs.Files.{marksOf}
+use Rattle.drop_set.specs.Filters.{sides_of}
+use Rattle.judging.specs.Judging.{judged_for, fills_for}
+use Rattle.promises.specs.Words.{marks_in, kept_rank}
+use Rattle.promises.specs.Fills.{fill_in, dropped_rank, Carried, KeptAlike}
+use Rattle.instances.specs.Files.{marks_of}
 use Rattle.instances.proofs.Computed.{marks-are, kept-is}
 
 -- ---- from the marks
 
 -- the fill of rank k
-abbrev pub fillBy : Settings → List Point → List ℕ → ℕ → Prediction
-fillBy s ps m k = get_or (fillsOf (view_of ps) (sidesOf s) m) k NoPair
+abbrev pub fill_by : Settings → List Point → List ℕ → ℕ → Prediction
+fill_by s ps m k = get_or (fills_of (view_of ps) (sides_of s) m) k NoPair
 
-module _ (s : Settings) (ps : List Point) (m : List ℕ) (e : marksOf s ps ≡ m) where
-  seen : (k : ℕ) → k < (view_of ps).count → eqb (get_or (judgedFor s ps).marks k 0) 0 ≡ eqb (get_or m k 0) 0
+module _ (s : Settings) (ps : List Point) (m : List ℕ) (e : marks_of s ps ≡ m) where
+  seen : (k : ℕ) → k < (view_of ps).count → eqb (get_or (judged_for s ps).marks k 0) 0 ≡ eqb (get_or m k 0) 0
   unfolding view_of
   seen k h = ap (λ (b : ℕ). eqb b 0) (marks-are s ps m e k h)
 
-  fills-are : fillsFor s ps ≡ fillsOf (view_of ps) (sidesOf s) m
-  unfolding fillsFor
-  fills-are = fills_same (view_of ps) (sidesOf s) (judgedFor s ps).marks m seen
+  fills-are : fills_for s ps ≡ fills_of (view_of ps) (sides_of s) m
+  unfolding fills_for
+  fills-are = fills_same (view_of ps) (sides_of s) (judged_for s ps).marks m seen
 
-  pub fill-by : (k : ℕ) → fillIn s ps k ≡ fillBy s ps m k
+  pub fill-by : (k : ℕ) → fill_in s ps k ≡ fill_by s ps m k
   fill-by k = ap (λ (l : List Prediction). get_or l k NoPair) fills-are
 
-  pub dropped-by : (k : ℕ) → k < length ps → eqb (get_or m k 0) 0 ≡ false → droppedRank s ps k ≡ true
+  pub dropped-by : (k : ℕ) → k < length ps → eqb (get_or m k 0) 0 ≡ false → dropped_rank s ps k ≡ true
   dropped-by k h z =
-      let marked = eqb (marksIn s ps k) 0 in
+      let marked = eqb (marks_in s ps k) 0 in
       and_both (ltb k (length ps)) (not marked) (lt-ltb k (length ps) h) (ap not (ap (λ (b : ℕ). eqb b 0) (marks-are s ps m e k h) ∙ z))
 
 -- ---- kept points alike, by a test of all ranks
 
 -- of a list of points with these marks
-abbrev keptBy : List Point → List ℕ → ℕ → Bool
-keptBy ps m k = ltb k (length ps) && eqb (get_or m k 0) 0
+abbrev kept_by : List Point → List ℕ → ℕ → Bool
+kept_by ps m k = ltb k (length ps) && eqb (get_or m k 0) 0
 
 -- where the first test passes, the second does
 abbrev implies : Bool → Bool → Bool
@@ -75,35 +75,35 @@ module _ (move : Cell → Cell) where
         y = eqb-true q.y p.y (and_right (eqb q.x p.x) (eqb q.y p.y) rest);
       }
 
-  module _ (s t : Settings) (ps qs : List Point) (m l : List ℕ) (e : marksOf s ps ≡ m) (f : marksOf t qs ≡ l) where
+  module _ (s t : Settings) (ps qs : List Point) (m l : List ℕ) (e : marks_of s ps ≡ m) (f : marks_of t qs ≡ l) where
     -- each kept point of ps is carried to one of qs, and each of qs comes from one of ps
-    abbrev pub carriedOver : Bool
-    carriedOver = every (λ (j : ℕ). implies (keptBy ps m j) (some (λ (i : ℕ). keptBy qs l i && carries (get_or ps j nowhere) (get_or qs i nowhere)) (length qs))) (length ps)
+    abbrev pub carried_over : Bool
+    carried_over = every (λ (j : ℕ). implies (kept_by ps m j) (some (λ (i : ℕ). kept_by qs l i && carries (get_or ps j nowhere) (get_or qs i nowhere)) (length qs))) (length ps)
 
-    abbrev pub cameOver : Bool
-    cameOver = every (λ (i : ℕ). implies (keptBy qs l i) (some (λ (j : ℕ). keptBy ps m j && carries (get_or ps j nowhere) (get_or qs i nowhere)) (length ps))) (length qs)
+    abbrev pub came_over : Bool
+    came_over = every (λ (i : ℕ). implies (kept_by qs l i) (some (λ (j : ℕ). kept_by ps m j && carries (get_or ps j nowhere) (get_or qs i nowhere)) (length ps))) (length qs)
 
-    old : (j : ℕ) → keptRank s ps j ≡ keptBy ps m j
+    old : (j : ℕ) → kept_rank s ps j ≡ kept_by ps m j
     old j = ap (λ (K : ℕ → Bool). K j) (kept-is s ps m e)
 
-    new : (i : ℕ) → keptRank t qs i ≡ keptBy qs l i
+    new : (i : ℕ) → kept_rank t qs i ≡ kept_by qs l i
     new i = ap (λ (K : ℕ → Bool). K i) (kept-is t qs l f)
 
-    pub alike-by : carriedOver ≡ true → cameOver ≡ true → KeptAlike move s ps t qs
+    pub alike-by : carried_over ≡ true → came_over ≡ true → KeptAlike move s ps t qs
     alike-by a b = record { there = there; back = back }
       where
-        there : (j : ℕ) → keptRank s ps j ≡ true → (i : ℕ) × (keptRank t qs i ≡ true) × Carried move (get_or ps j nowhere) (get_or qs i nowhere)
+        there : (j : ℕ) → kept_rank s ps j ≡ true → (i : ℕ) × (kept_rank t qs i ≡ true) × Carried move (get_or ps j nowhere) (get_or qs i nowhere)
         there j k =
             let kept = sym (old j) ∙ k in
             let h = ltb-true j (length ps) (and_left (ltb j (length ps)) (eqb (get_or m j 0) 0) kept) in
-            let v = some_at (λ (i : ℕ). keptBy qs l i && carries (get_or ps j nowhere) (get_or qs i nowhere)) (length qs) (implied (keptBy ps m j) _ (every-at _ (length ps) a j h) kept) in
+            let v = some_at (λ (i : ℕ). kept_by qs l i && carries (get_or ps j nowhere) (get_or qs i nowhere)) (length qs) (implied (kept_by ps m j) _ (every-at _ (length ps) a j h) kept) in
             let c = carries (get_or ps j nowhere) (get_or qs v.0 nowhere) in
-            (v.0, new v.0 ∙ and_left (keptBy qs l v.0) c v.2, carried-by (get_or ps j nowhere) (get_or qs v.0 nowhere) (and_right (keptBy qs l v.0) c v.2))
+            (v.0, new v.0 ∙ and_left (kept_by qs l v.0) c v.2, carried-by (get_or ps j nowhere) (get_or qs v.0 nowhere) (and_right (kept_by qs l v.0) c v.2))
 
-        back : (i : ℕ) → keptRank t qs i ≡ true → (j : ℕ) × (keptRank s ps j ≡ true) × Carried move (get_or ps j nowhere) (get_or qs i nowhere)
+        back : (i : ℕ) → kept_rank t qs i ≡ true → (j : ℕ) × (kept_rank s ps j ≡ true) × Carried move (get_or ps j nowhere) (get_or qs i nowhere)
         back i k =
             let kept = sym (new i) ∙ k in
             let h = ltb-true i (length qs) (and_left (ltb i (length qs)) (eqb (get_or l i 0) 0) kept) in
-            let v = some_at (λ (j : ℕ). keptBy ps m j && carries (get_or ps j nowhere) (get_or qs i nowhere)) (length ps) (implied (keptBy qs l i) _ (every-at _ (length qs) b i h) kept) in
+            let v = some_at (λ (j : ℕ). kept_by ps m j && carries (get_or ps j nowhere) (get_or qs i nowhere)) (length ps) (implied (kept_by qs l i) _ (every-at _ (length qs) b i h) kept) in
             let c = carries (get_or ps v.0 nowhere) (get_or qs i nowhere) in
-            (v.0, old v.0 ∙ and_left (keptBy ps m v.0) c v.2, carried-by (get_or ps v.0 nowhere) (get_or qs i nowhere) (and_right (keptBy ps m v.0) c v.2))
+            (v.0, old v.0 ∙ and_left (kept_by ps m v.0) c v.2, carried-by (get_or ps v.0 nowhere) (get_or qs i nowhere) (and_right (kept_by ps m v.0) c v.2))

@@ -3,23 +3,23 @@
 use Rattle.std.specs.Prelude.{Bool, false, true, List, [], ◌∷◌, ◌++◌, ℕ}
 use Rattle.folds.specs.Arith.{f32}
 use Rattle.cells.specs.Points.{Point}
-use Rattle.sheet_file.specs.Bytes.{littleEndian}
+use Rattle.sheet_file.specs.Bytes.{little_endian}
 use Rattle.sheet_file.specs.Grammar.{field}
 use Rattle.sheet_file.specs.declared.EdgeGate.{EdgeGate}
 use Rattle.sheet_file.specs.declared.EdgeGate.TheVariants.{Off, On}
 use Rattle.sheet_file.specs.declared.Fraction.TheVariants.{Missing}
 use Rattle.sheet_file.specs.declared.Settings.{Settings}
-use Rattle.written_file.specs.File.{pointsBytes, unweighedFile}
+use Rattle.written_file.specs.File.{points_bytes, unweighed_file}
 use Rattle.predict.specs.declared.Prediction.{Prediction}
 use Rattle.predict.specs.declared.Prediction.TheVariants.{Pairs}
-use Rattle.edge_shape.specs.Figures.{indexFigures}
-use Rattle.judging.specs.Judging.{fillsFor}
+use Rattle.edge_shape.specs.Figures.{index_figures}
+use Rattle.judging.specs.Judging.{fills_for}
 use Rattle.stars.specs.Stars.{rules-compute}
-use Rattle.instances.specs.Files.{point, longSettings}
+use Rattle.instances.specs.Files.{point, long_settings}
 
 -- This name on an `unfolding` line opens every definition that marks and fills compute by.
 unfoldable pub fills-compute : Bool
-unfolding rules-compute indexFigures fillsFor
+unfolding rules-compute index_figures fills_for
 fills-compute = true
 
 -- a fill: the number of pairs, and the patterns of x and y
@@ -30,10 +30,10 @@ filled pairs x y = Pairs (record { x = f32 x; y = f32 y; n_axis_pairs = pairs })
 
 -- "Tag 2": minimum degree 0, least continuation cosine of this pattern, least cell cosine −1, both largest ratios 16384
 abbrev gate : ℕ → List ℕ
-gate cosine = field 2 (0 ∷ (littleEndian cosine ++ littleEndian 0x4680_0000 ++ littleEndian 0xBF80_0000 ++ littleEndian 0x4680_0000))
+gate cosine = field 2 (0 ∷ (little_endian cosine ++ little_endian 0x4680_0000 ++ little_endian 0xBF80_0000 ++ little_endian 0x4680_0000))
 
-abbrev gateOn : ℕ → EdgeGate
-gateOn cosine =
+abbrev gate_on : ℕ → EdgeGate
+gate_on cosine =
     On
     (record {
       min_cardinal_degree = 0;
@@ -44,8 +44,8 @@ gateOn cosine =
     })
 
 -- the largest-patch switch off, and the default tolerances
-abbrev pub rowSettings : Settings
-rowSettings = record {
+abbrev pub row_settings : Settings
+row_settings = record {
   cell_size = f32 0x4120_0000;
   line_tol_rel = f32 0x3E19_999A;
   line_min_members = 3;
@@ -54,7 +54,7 @@ rowSettings = record {
   step_deviation_thresh_rel = f32 0;
   apply_wrong_label_drops = true;
   apply_largest_component = false;
-  edge_shape = gateOn 0x3F00_0000;
+  edge_shape = gate_on 0x3F00_0000;
   score_frac = Missing;
 }
 
@@ -62,21 +62,21 @@ rowSettings = record {
 abbrev pub row : List Point
 row = point 0 0 1 0 0 ∷ point 1 0 2 0x4120_0000 0x4120_0000 ∷ point 2 0 3 0x41A0_0000 0 ∷ []
 
-abbrev pub rowFile : List ℕ
-rowFile = field 1 (longSettings 0x4120_0000 1 0) ++ (gate 0x3F00_0000 ++ field 3 (pointsBytes row))
+abbrev pub row_file : List ℕ
+row_file = field 1 (long_settings 0x4120_0000 1 0) ++ (gate 0x3F00_0000 ++ field 3 (points_bytes row))
 
 -- its first two points the other way round
-abbrev pub rowTurned : List ℕ
-rowTurned = field 1 (longSettings 0x4120_0000 1 0) ++ (gate 0x3F00_0000 ++ field 3 (pointsBytes (point 1 0 2 0x4120_0000 0x4120_0000 ∷ point 0 0 1 0 0 ∷ point 2 0 3 0x41A0_0000 0 ∷ [])))
+abbrev pub row_turned : List ℕ
+row_turned = field 1 (long_settings 0x4120_0000 1 0) ++ (gate 0x3F00_0000 ++ field 3 (points_bytes (point 1 0 2 0x4120_0000 0x4120_0000 ∷ point 0 0 1 0 0 ∷ point 2 0 3 0x41A0_0000 0 ∷ [])))
 
 -- moved by (−6, 7): 0xFFFFFFFA is −6
-abbrev pub rowMoved : List Point
-rowMoved = point 0xFFFF_FFFA 7 1 0 0 ∷ point 0xFFFF_FFFB 7 2 0x4120_0000 0x4120_0000 ∷ point 0xFFFF_FFFC 7 3 0x41A0_0000 0 ∷ []
+abbrev pub row_moved : List Point
+row_moved = point 0xFFFF_FFFA 7 1 0 0 ∷ point 0xFFFF_FFFB 7 2 0x4120_0000 0x4120_0000 ∷ point 0xFFFF_FFFC 7 3 0x41A0_0000 0 ∷ []
 
 -- ---- the same kept points: the middle at (10,−7), other indices, cell size 20, the wrong-label switch off and cosine 0.9
 
-abbrev pub otherSettings : Settings
-otherSettings = record {
+abbrev pub other_settings : Settings
+other_settings = record {
   cell_size = f32 0x41A0_0000;
   line_tol_rel = f32 0x3E19_999A;
   line_min_members = 3;
@@ -85,7 +85,7 @@ otherSettings = record {
   step_deviation_thresh_rel = f32 0;
   apply_wrong_label_drops = false;
   apply_largest_component = false;
-  edge_shape = gateOn 0x3F66_6666;
+  edge_shape = gate_on 0x3F66_6666;
   score_frac = Missing;
 }
 
@@ -93,14 +93,14 @@ abbrev pub other : List Point
 other = point 0 0 8 0 0 ∷ point 1 0 9 0x4120_0000 0xC0E0_0000 ∷ point 2 0 7 0x41A0_0000 0 ∷ []
 
 -- listed from its end
-abbrev pub otherFile : List ℕ
-otherFile = field 1 (longSettings 0x41A0_0000 0 0) ++ (gate 0x3F66_6666 ++ field 3 (pointsBytes (point 2 0 7 0x41A0_0000 0 ∷ point 1 0 9 0x4120_0000 0xC0E0_0000 ∷ point 0 0 8 0 0 ∷ [])))
+abbrev pub other_file : List ℕ
+other_file = field 1 (long_settings 0x41A0_0000 0 0) ++ (gate 0x3F66_6666 ++ field 3 (points_bytes (point 2 0 7 0x41A0_0000 0 ∷ point 1 0 9 0x4120_0000 0xC0E0_0000 ∷ point 0 0 8 0 0 ∷ [])))
 
 -- ---- five points: u and v enter the fits as f32s
 
 -- cell size 1, line tolerance −1 and minimum 2, local tolerance 9, both switches off
-abbrev pub plusSettings : Settings
-plusSettings = record {
+abbrev pub plus_settings : Settings
+plus_settings = record {
   cell_size = f32 0x3F80_0000;
   line_tol_rel = f32 0xBF80_0000;
   line_min_members = 2;
@@ -114,22 +114,22 @@ plusSettings = record {
 }
 
 -- (0,v) 0 at (2,10); (1,v−1) 1 at (12,0); (1,v) 2 at (12,11); (1,v+1) 3 at (12,18); (2,v) 4 at (23,9), by the patterns of v − 1, v and v + 1
-abbrev plusAt : ℕ → ℕ → ℕ → List Point
-plusAt below v above =
+abbrev plus_at : ℕ → ℕ → ℕ → List Point
+plus_at below v above =
     point 0 v 0 0x4000_0000 0x4120_0000
     ∷ point 1 below 1 0x4140_0000 0 ∷ point 1 v 2 0x4140_0000 0x4130_0000 ∷ point 1 above 3 0x4140_0000 0x4190_0000
     ∷ point 2 v 4 0x41B8_0000 0x4110_0000
     ∷ []
 
 abbrev pub plus : List Point
-plus = plusAt 0 1 2
+plus = plus_at 0 1 2
 
 -- moved by (0, −1)
-abbrev pub plusMoved : List Point
-plusMoved = plusAt 0xFFFF_FFFF 0 1
+abbrev pub plus_moved : List Point
+plus_moved = plus_at 0xFFFF_FFFF 0 1
 
-abbrev pub plusFile : List ℕ
-plusFile =
-    unweighedFile
-    (littleEndian 0x3F80_0000 ++ (littleEndian 0xBF80_0000 ++ (2 ∷ 0 ∷ (littleEndian 0x4110_0000 ++ (0 ∷ (littleEndian 0 ++ (0 ∷ 0 ∷ [])))))))
+abbrev pub plus_file : List ℕ
+plus_file =
+    unweighed_file
+    (little_endian 0x3F80_0000 ++ (little_endian 0xBF80_0000 ++ (2 ∷ 0 ∷ (little_endian 0x4110_0000 ++ (0 ∷ (little_endian 0 ++ (0 ∷ 0 ∷ [])))))))
     plus

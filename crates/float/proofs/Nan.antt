@@ -8,7 +8,7 @@ use lib.Dec.{T}
 use lib.Ieee.{Float, nan, inf, fin, is_nan, ne, binary32, of_bits, nan_bits, div}
 use lib.Ieee.Bits.{nan_bits_is, nan_bits_above}
 use lib.Ieee.Compare.{differs_from_itself, nan_differs}
-use Rattle.float.specs.Constants.{infinityBits, sign_bit}
+use Rattle.float.specs.Constants.{infinity_bits, sign_bit}
 
 nan-test : (x : Float) → ne x x ≡ is_nan x
 unfolding is_nan
@@ -38,11 +38,11 @@ only_nan (inf s) h = absurd (let z : ◌≡◌ {A = ℕ} 0 1 = cc in omega arith
 only_nan (fin s m e) h = absurd (let z : ◌≡◌ {A = ℕ} 0 1 = cc in omega arith)
 
 -- the patterns of a NaN, with either sign, are those above the infinity's
-pub nan_pattern : (b : ℕ) → infinityBits < b % sign_bit → of_bits binary32 b ≡ nan
-nan_pattern b h = only_nan (of_bits binary32 b) (sym (nan_bits_is binary32 b) ∙ nan_bits_above binary32 b ∙ lt-ltb infinityBits (b % sign_bit) h)
+pub nan_pattern : (b : ℕ) → infinity_bits < b % sign_bit → of_bits binary32 b ≡ nan
+nan_pattern b h = only_nan (of_bits binary32 b) (sym (nan_bits_is binary32 b) ∙ nan_bits_above binary32 b ∙ lt-ltb infinity_bits (b % sign_bit) h)
 
-pub no-nan-pattern : (b : ℕ) → b % sign_bit ≤ infinityBits → T (not (nan_bits binary32 b))
-no-nan-pattern b h = subst (λ (t : Bool). T (not t)) (sym (nan_bits_above binary32 b ∙ le-ltb infinityBits (b % sign_bit) h)) tt
+pub no-nan-pattern : (b : ℕ) → b % sign_bit ≤ infinity_bits → T (not (nan_bits binary32 b))
+no-nan-pattern b h = subst (λ (t : Bool). T (not t)) (sym (nan_bits_above binary32 b ∙ le-ltb infinity_bits (b % sign_bit) h)) tt
 
 pub zero-over-zero : div binary32 (of_bits binary32 0) (of_bits binary32 0) ≡ nan
 unfolding div of_bits

@@ -5,8 +5,8 @@ use Prim.Native.Nat.{ℕ, zero, suc, ◌+◌, ◌-◌, ◌*◌, ◌/◌, ◌%◌
 use native.Mathlib.Nat.{le_antisymm, le_of_suc-le-suc, lt_of_not-le, le_dest, mul_comm, mul-add, add-mul, pow-succ'}
 use native.Mathlib.Omega.{arith}
 use lib.Dec.{T, leb, ltb, leb→le, nleb→lt, ltb→lt, nltb→le}
-use Rattle.float.specs.Root.{floorRoot, nearRoot}
-use Rattle.float.specs.Constants.{hiddenBit}
+use Rattle.float.specs.Root.{floor_root, near_root}
+use Rattle.float.specs.Constants.{hidden_bit}
 use Rattle.float.proofs.Squares.{next-square, odd-square, double-square, square_le}
 
 -- r is the root of n, rounded down
@@ -29,26 +29,26 @@ digit n q h = go (leb ((2 * q + 1) * (2 * q + 1)) n) (leb→le ((2 * q + 1) * (2
     go true l g = (l tt, omega (arith, h.1, next-square q, odd-square q, next-square (2 * q + 1)))
     go false l g = (omega (arith, h.0, double-square q), g tt)
 
-floorRoot-is : (k n : ℕ) → n < 4 ^ k → Floor n (floorRoot k n)
-unfolding floorRoot
-floorRoot-is zero n h = omega arith
-floorRoot-is (suc k) n h = digit n (floorRoot k (n / 4)) (floorRoot-is k (n / 4) (omega (arith, subst (λ (x : ℕ). n < x) (pow-succ' 4 k) h)))
+floor_root-is : (k n : ℕ) → n < 4 ^ k → Floor n (floor_root k n)
+unfolding floor_root
+floor_root-is zero n h = omega arith
+floor_root-is (suc k) n h = digit n (floor_root k (n / 4)) (floor_root-is k (n / 4) (omega (arith, subst (λ (x : ℕ). n < x) (pow-succ' 4 k) h)))
 
 not-above : (n r t : ℕ) → r * r ≤ n → n < (t + 1) * (t + 1) → r ≤ t
 not-above n r t l h = le_of_suc-le-suc (omega (arith, lt_of_not-le (λ (g : t + 1 ≤ r). omega (arith, square_le g))))
 
 -- there is only one
-pub floor-only : (n r : ℕ) → n < 4 ^ 24 → Floor n r → r ≡ floorRoot 24 n
+pub floor-only : (n r : ℕ) → n < 4 ^ 24 → Floor n r → r ≡ floor_root 24 n
 floor-only n r h f =
-    let d = floorRoot-is 24 n h in
-    le_antisymm (not-above n r (floorRoot 24 n) f.0 d.1) (not-above n (floorRoot 24 n) r d.0 f.1)
+    let d = floor_root-is 24 n h in
+    le_antisymm (not-above n r (floor_root 24 n) f.0 d.1) (not-above n (floor_root 24 n) r d.0 f.1)
 
-pub floor-lt : (n : ℕ) → n < 4 ^ 24 → floorRoot 24 n < 2 ^ 24
-floor-lt n h = lt_of_not-le (λ (g : 2 ^ 24 ≤ floorRoot 24 n). omega (arith, (floorRoot-is 24 n h).0, square_le {a = 2 ^ 24} {b = floorRoot 24 n} g))
+pub floor-lt : (n : ℕ) → n < 4 ^ 24 → floor_root 24 n < 2 ^ 24
+floor-lt n h = lt_of_not-le (λ (g : 2 ^ 24 ≤ floor_root 24 n). omega (arith, (floor_root-is 24 n h).0, square_le {a = 2 ^ 24} {b = floor_root 24 n} g))
 
-pub remainder : (n : ℕ) → 0 < n → n < 4 ^ 24 → Remainder n (nearRoot n)
-unfolding nearRoot
-remainder n N h = go (floorRoot 24 n) (floorRoot-is 24 n h)
+pub remainder : (n : ℕ) → 0 < n → n < 4 ^ 24 → Remainder n (near_root n)
+unfolding near_root
+remainder n N h = go (floor_root 24 n) (floor_root-is 24 n h)
   where
     at : (r : ℕ) → Floor n r → 0 < r → (b : Bool) → (T b → r * r + r < n) → (T (not b) → n ≤ r * r + r) → Remainder n (cond b (r + 1) r)
     at r f R true l g = omega (arith, l tt, f.1, next-square r)
@@ -74,7 +74,7 @@ near-of-remainder n (suc k) h =
 range : (n s : ℕ) → 2 ^ 46 ≤ n → n ≤ 2 ^ 48 - 2 ^ 24 → Remainder n s → (2 ^ 23 ≤ s) × (s < 2 ^ 24)
 range n s l h p = (le_of_suc-le-suc (omega (arith, lt_of_not-le low)), lt_of_not-le (λ (g : 2 ^ 24 ≤ s). far (le_dest g).0 (le_dest g).1))
   where
-    low : s + 1 ≤ hiddenBit → ⊥
+    low : s + 1 ≤ hidden_bit → ⊥
     low g = omega (arith, square_le {a = s} {b = 8388607} (omega arith), p.1)
 
     far : (d : ℕ) → 2 ^ 24 + d ≡ s → ⊥
@@ -90,8 +90,8 @@ shifted m (suc zero) l h q = omega arith
 shifted m (suc (suc p)) l h q = omega arith
 
 -- the significand of a root has 24 bits
-pub significand : (m p : ℕ) → 2 ^ 23 ≤ m → m < 2 ^ 24 → p < 2 → (2 ^ 23 ≤ nearRoot (m * 2 ^ (23 + p))) × (nearRoot (m * 2 ^ (23 + p)) < 2 ^ 24)
+pub significand : (m p : ℕ) → 2 ^ 23 ≤ m → m < 2 ^ 24 → p < 2 → (2 ^ 23 ≤ near_root (m * 2 ^ (23 + p))) × (near_root (m * 2 ^ (23 + p)) < 2 ^ 24)
 significand m p l h q =
     let t = shifted m p l h q in
     let n = m * 2 ^ (23 + p) in
-    range n (nearRoot n) t.1 t.2 (remainder n (omega (arith, t.1)) (omega (arith, t.2)))
+    range n (near_root n) t.1 t.2 (remainder n (omega (arith, t.1)) (omega (arith, t.2)))

@@ -13,7 +13,7 @@ use lib.Ieee.{Float, nan, inf, fin, Format, binary32, up, down, low, prec, emax,
 use lib.Ieee.Exact.{HasValue, odd_sign}
 use lib.Ieee.Fits.{round_is, down_pos, and_l}
 use lib.Ieee.Positive.{num, den, positive, above, mul_mono, cross→le, through, first_pos}
-use Rattle.float.specs.Scalar.{absOf}
+use Rattle.float.specs.Scalar.{abs_of}
 
 -- neither a NaN nor of negative sign
 abbrev pub plain : Float → Bool
@@ -175,8 +175,8 @@ above_zero (fin false m e) h = lt→ltb 0 m (first_pos m (up e) (omega (arith, l
 
 -- ---- magnitudes: nothing is below a NaN, and a NaN is below nothing
 
-pub below-through : (x y z : Float) → lt (absOf x) (absOf y) ≡ true → le (absOf y) (absOf z) ≡ true → lt (absOf x) (absOf z) ≡ true
-unfolding absOf lt eq le
+pub below-through : (x y z : Float) → lt (abs_of x) (abs_of y) ≡ true → le (abs_of y) (abs_of z) ≡ true → lt (abs_of x) (abs_of z) ≡ true
+unfolding abs_of lt eq le
 below-through nan y z h k = absurd (false≢true h)
 below-through (inf s) nan z h k = absurd (false≢true h)
 below-through (inf s) (inf t) z h k = absurd (false≢true h)
@@ -192,8 +192,8 @@ below-through (fin s m e) (fin t n d) (fin r o g) h k =
     (between (m * up e) (n * up d) (o * up g) (down e) (down d) (down g) (down_pos g) (ltb-true (m * up e * down d) (n * up d * down e) h)
     (lt-or-eq (n * up d * down g) (o * up g * down d) (subst T (sym k) tt)))
 
-pub not-below-itself : (x : Float) → lt (absOf x) (absOf x) ≡ false
-unfolding absOf lt
+pub not-below-itself : (x : Float) → lt (abs_of x) (abs_of x) ≡ false
+unfolding abs_of lt
 not-below-itself nan = refl
 not-below-itself (inf s) = refl
 not-below-itself (fin s m e) = le-ltb (m * up e * down e) (m * up e * down e) (le_refl (m * up e * down e))

@@ -12,7 +12,7 @@ use lib.Pow.{pow_mono, pow-add}
 use lib.IntN.{ℤ, pos, negsuc}
 use lib.Ieee.{Float, nan, inf, fin, binary32, up, down, lt, eq, le, fits, of_bits}
 use lib.Ieee.Fits.{down_pos}
-use Rattle.float.specs.Scalar.{over30Degrees, fourSquaresBelowThree}
+use Rattle.float.specs.Scalar.{over30_degrees, four_squares_below_three}
 use Rattle.float.proofs.Digits.{digits}
 use Rattle.float.proofs.Squares.{square_le, square-of}
 
@@ -58,8 +58,8 @@ beyond m e M h = go (dec_le e 24)
         far g = omega (arith, pow_mono {i = 25} {j = e} g)
 
 -- the comparison of a value that is not negative with the limit, as the numbers that `le` compares
-decide : (x y n d : ℕ) → (x ≤ y → 4 * (n * n) < 3 * (d * d)) → (y < x → 3 * (d * d) ≤ 4 * (n * n)) → (ltb x y || (eqb x y && true)) ≡ fourSquaresBelowThree n d
-unfolding fourSquaresBelowThree
+decide : (x y n d : ℕ) → (x ≤ y → 4 * (n * n) < 3 * (d * d)) → (y < x → 3 * (d * d) ≤ 4 * (n * n)) → (ltb x y || (eqb x y && true)) ≡ four_squares_below_three n d
+unfolding four_squares_below_three
 decide x y n d p q = go (dec_le x y)
   where
     go : Dec (x ≤ y) → (ltb x y || (eqb x y && true)) ≡ ltb (4 * (n * n)) (3 * (d * d))
@@ -76,8 +76,8 @@ beyond-at : (m : ℕ) (e : ℤ) → m < 16777216 → 14529495 * down e < m * up 
 beyond-at m (pos k) M h = above (m * 2 ^ k) 1 16777216 refl h
 beyond-at m (negsuc k) M h = beyond (m * 1) (suc k) (omega arith) h
 
-low : (n d : ℕ) → 0 < d → ltb 0 (n * 1 + 0 * d) || fourSquaresBelowThree n d ≡ true
-unfolding fourSquaresBelowThree
+low : (n d : ℕ) → 0 < d → ltb 0 (n * 1 + 0 * d) || four_squares_below_three n d ≡ true
+unfolding four_squares_below_three
 low n d D = elim (eq-zero-or-pos n) [
   | inl z ↦ go (ltb 0 (n * 1 + 0 * d)) (lt-ltb (4 * (n * n)) (3 * (d * d)) (under n d D (omega arith)))
   | inr p ↦ rw (lt-ltb 0 (n * 1 + 0 * d) (omega arith))
@@ -87,19 +87,19 @@ low n d D = elim (eq-zero-or-pos n) [
     go true h = refl
     go false h = h
 
-at-limit : (c : Float) → T (fits binary32 c) → le c (fin false 14529495 (negsuc 23)) ≡ over30Degrees c
-unfolding le lt eq over30Degrees of_bits
+at-limit : (c : Float) → T (fits binary32 c) → le c (fin false 14529495 (negsuc 23)) ≡ over30_degrees c
+unfolding le lt eq over30_degrees of_bits
 at-limit nan h = refl
 at-limit (inf true) h = refl
 at-limit (inf false) h = refl
 at-limit (fin true m e) h = rw (lt-ltb 0 (m * up e * 16777216 + 14529495 * down e) (omega (arith, down_pos e)), low (m * up e) (down e) (down_pos e))
 at-limit (fin false m e) h =
     decide (m * up e * 16777216) (14529495 * down e) (m * up e) (down e) (under (m * up e) (down e) (down_pos e)) (beyond-at m e (small m h))
-    ∙ sym (ap (λ (b : Bool). b || fourSquaresBelowThree (m * up e) (down e)) (le-ltb (m * up e * 1) (0 * down e) (omega arith)))
+    ∙ sym (ap (λ (b : Bool). b || four_squares_below_three (m * up e) (down e)) (le-ltb (m * up e * 1) (0 * down e) (omega arith)))
   where
     small : (m : ℕ) → T (fits binary32 (fin false m e)) → m < 16777216
     small zero h = omega arith
     small (suc m) h = (digits false m e h).few
 
-pub over-30-degrees : (c : Float) → T (fits binary32 c) → le c (of_bits binary32 0x3f5d_b3d7) ≡ over30Degrees c
+pub over-30-degrees : (c : Float) → T (fits binary32 c) → le c (of_bits binary32 0x3f5d_b3d7) ≡ over30_degrees c
 over-30-degrees c h = ap (le c) limit ∙ at-limit c h

@@ -12,17 +12,17 @@ use lib.Ieee.Bits.{is_false, cond_no}
 use lib.Ieee.Fits.{down_pos}
 use lib.Ieee.Digits.{size-lt, size-le}
 use lib.Ieee.Exact.{HasValue, odd_sign}
-use Rattle.float.specs.Root.{digits4, scaled, nearRoot, rootUnits, rootOf}
-use Rattle.float.specs.Constants.{sign_bit, hiddenBit, infinityBits}
+use Rattle.float.specs.Root.{digits4, scaled, near_root, root_units, root_of}
+use Rattle.float.specs.Constants.{sign_bit, hidden_bit, infinity_bits}
 use Rattle.float.proofs.Near.{significand}
 
-pub of_bits_is : (b : ℕ) → of_bits binary32 b ≡ of_fields binary32 (leb sign_bit b) (b % sign_bit / hiddenBit) (b % hiddenBit)
+pub of_bits_is : (b : ℕ) → of_bits binary32 b ≡ of_fields binary32 (leb sign_bit b) (b % sign_bit / hidden_bit) (b % hidden_bit)
 unfolding of_bits
 of_bits_is b = refl
 
-under_ones : (s : Bool) (t x : ℕ) → suc x < 255 → of_fields binary32 s (suc x) t ≡ odd 24 s (hiddenBit + t) x 149
+under_ones : (s : Bool) (t x : ℕ) → suc x < 255 → of_fields binary32 s (suc x) t ≡ odd 24 s (hidden_bit + t) x 149
 unfolding of_fields
-under_ones s t x h = cond_no (eqb (suc x) 255) (cond (eqb t 0) (inf s) nan) (odd 24 s (hiddenBit + t) x 149) (not_T (eqb (suc x) 255) (λ (u : T (eqb (suc x) 255)). differ (eqb→eq (suc x) 255 u)))
+under_ones s t x h = cond_no (eqb (suc x) 255) (cond (eqb t 0) (inf s) nan) (odd 24 s (hidden_bit + t) x 149) (not_T (eqb (suc x) 255) (λ (u : T (eqb (suc x) 255)). differ (eqb→eq (suc x) 255 u)))
   where
     differ : suc x ≡ 255 → ⊥
     differ e = omega arith
@@ -32,39 +32,39 @@ unfolding of_fields
 at_zero s t = refl
 
 -- the three fields of a pattern without a sign
-fields : (b : ℕ) → b < sign_bit → of_bits binary32 b ≡ of_fields binary32 false (b / hiddenBit) (b % hiddenBit)
+fields : (b : ℕ) → b < sign_bit → of_bits binary32 b ≡ of_fields binary32 false (b / hidden_bit) (b % hidden_bit)
 fields b h =
     of_bits_is b
-    ∙ ap (λ (s : Bool). of_fields binary32 s (b % sign_bit / hiddenBit) (b % hiddenBit)) (is_false (leb sign_bit b) (not_T (leb sign_bit b) (λ (u : T (leb sign_bit b)). not-le_of_lt h (leb→le sign_bit b u))))
-    ∙ ap (λ (x : ℕ). of_fields binary32 false (x / hiddenBit) (b % hiddenBit)) (mod-eq_of_lt h)
+    ∙ ap (λ (s : Bool). of_fields binary32 s (b % sign_bit / hidden_bit) (b % hidden_bit)) (is_false (leb sign_bit b) (not_T (leb sign_bit b) (λ (u : T (leb sign_bit b)). not-le_of_lt h (leb→le sign_bit b u))))
+    ∙ ap (λ (x : ℕ). of_fields binary32 false (x / hidden_bit) (b % hidden_bit)) (mod-eq_of_lt h)
 
-pub subnormal : (b : ℕ) → b < hiddenBit → of_bits binary32 b ≡ odd 24 false b 0 149
+pub subnormal : (b : ℕ) → b < hidden_bit → of_bits binary32 b ≡ odd 24 false b 0 149
 subnormal b h =
     fields b (omega arith)
-    ∙ ap (λ (x : ℕ). of_fields binary32 false x (b % hiddenBit)) (zero_field)
-    ∙ at_zero false (b % hiddenBit)
+    ∙ ap (λ (x : ℕ). of_fields binary32 false x (b % hidden_bit)) (zero_field)
+    ∙ at_zero false (b % hidden_bit)
     ∙ ap (λ (x : ℕ). odd 24 false x 0 149) (mod-eq_of_lt h)
   where
-    zero_field : b / hiddenBit ≡ 0
+    zero_field : b / hidden_bit ≡ 0
     zero_field = omega arith
 
 -- the pattern of a normal value, from its exponent's field and its significand of 24 bits
-pub normal : (b k m : ℕ) → b ≡ k * hiddenBit + m → hiddenBit ≤ m → m < 16777216 → k < 254 → of_bits binary32 b ≡ odd 24 false m k 149
+pub normal : (b k m : ℕ) → b ≡ k * hidden_bit + m → hidden_bit ≤ m → m < 16777216 → k < 254 → of_bits binary32 b ≡ odd 24 false m k 149
 normal b k m e l h g =
     fields b (omega arith)
-    ∙ ap (λ (x : ℕ). of_fields binary32 false x (b % hiddenBit)) field
-    ∙ under_ones false (b % hiddenBit) k (omega arith)
+    ∙ ap (λ (x : ℕ). of_fields binary32 false x (b % hidden_bit)) field
+    ∙ under_ones false (b % hidden_bit) k (omega arith)
     ∙ ap (λ (x : ℕ). odd 24 false x k 149) digits
   where
-    field : b / hiddenBit ≡ suc k
+    field : b / hidden_bit ≡ suc k
     field = omega arith
 
-    digits : hiddenBit + b % hiddenBit ≡ m
+    digits : hidden_bit + b % hidden_bit ≡ m
     digits = omega arith
 
 -- the root of a value a / 2 ^ 149
-root-of-value : (y : Float) (a : ℕ) → 0 < a → HasValue y false a (2 ^ 149) → rootOf y ≡ rootUnits (2 * a)
-unfolding rootOf
+root-of-value : (y : Float) (a : ℕ) → 0 < a → HasValue y false a (2 ^ 149) → root_of y ≡ root_units (2 * a)
+unfolding root_of
 root-of-value nan a A h = absurd h
 root-of-value (inf s) a A h = absurd h
 root-of-value (fin true m e) a A h = absurd (true-false h.0)
@@ -75,7 +75,7 @@ root-of-value (fin false zero e) a A h = absurd (none (a * down e) (mul-pos A (d
   where
     none : (x : ℕ) → 0 < x → 0 ≡ x → ⊥
     none x p q = omega arith
-root-of-value (fin false (suc m) e) a A h = ap (λ (x : ℕ). rootUnits (2 * (x / down e))) h.1 ∙ ap (λ (x : ℕ). rootUnits (2 * x)) (mul-div_cancel a (down_pos e))
+root-of-value (fin false (suc m) e) a A h = ap (λ (x : ℕ). root_units (2 * (x / down e))) h.1 ∙ ap (λ (x : ℕ). root_units (2 * x)) (mul-div_cancel a (down_pos e))
 
 -- how many digits
 size_is : (n j : ℕ) → 2 ^ j ≤ n → n < 2 ^ suc j → size n ≡ suc j
@@ -96,7 +96,7 @@ module _ (n m w : ℕ) (l : 2 ^ 23 ≤ m) (h : m < 2 ^ 24) (g : 2 ≤ w) (e : n 
       let x : m * (P * 4) ≡ m * P * 4 = sym (mul_assoc m P 4) in
       let y : 2 ^ w ≡ P * 4 = ap (λ (z : ℕ). 2 ^ z) q ∙ pow-add 2 j 2 ∙ ap (λ (z : ℕ). z * 4) (sym p) in
       let z : n * 33554432 ≡ m * P * 4 = e ∙ ap (λ (v : ℕ). m * v) y ∙ x in
-      let u : hiddenBit * P ≤ m * P = mul-le-mul_right P l in
+      let u : hidden_bit * P ≤ m * P = mul-le-mul_right P l in
       let v : m * P < 16777216 * P = mul-lt-mul_of_pos_right h (subst (λ (v : ℕ). 0 < v) (sym p) (pow_pos j)) in
       (omega arith, omega arith)
 
@@ -128,19 +128,19 @@ module _ (n m w : ℕ) (l : 2 ^ 23 ≤ m) (h : m < 2 ^ 24) (g : 2 ≤ w) (e : n 
   pub scaled_exact : scaled n * 4 ^ digits4 n ≡ n * 4 ^ 24
   scaled_exact = ap (λ (x : ℕ). x * 4 ^ digits4 n) scaled-is ∙ ap (λ (d : ℕ). m * 2 ^ (23 + w % 2) * 4 ^ d) digits4-is ∙ sym whole
 
-  root-of-significand : rootUnits n ≡ odd 24 false (nearRoot (m * 2 ^ (23 + w % 2))) (w / 2 + 50) 149
-  unfolding rootUnits
-  root-of-significand = ap (λ (r : ℕ). odd 24 false (nearRoot r) (digits4 n + 50) 149) scaled-is ∙ ap (λ (d : ℕ). odd 24 false (nearRoot (m * 2 ^ (23 + w % 2))) (d + 50) 149) digits4-is
+  root-of-significand : root_units n ≡ odd 24 false (near_root (m * 2 ^ (23 + w % 2))) (w / 2 + 50) 149
+  unfolding root_units
+  root-of-significand = ap (λ (r : ℕ). odd 24 false (near_root r) (digits4 n + 50) 149) scaled-is ∙ ap (λ (d : ℕ). odd 24 false (near_root (m * 2 ^ (23 + w % 2))) (d + 50) 149) digits4-is
 
 -- The pattern of a root. The value of b is q * 2 ^ k / 2 ^ 149, and m * 2 ^ w / 2 ^ 175 with a significand m of 24 bits.
 pub pattern-of-root : (b r q k m w : ℕ) → of_bits binary32 b ≡ odd 24 false q k 149 → 0 < q → 2 ^ 23 ≤ m → m < 2 ^ 24 → 2 ≤ w → w < 280
-    → 2 * (q * 2 ^ k) * 2 ^ 25 ≡ m * 2 ^ w → r ≡ (w / 2 + 50) * 2 ^ 23 + nearRoot (m * 2 ^ (23 + w % 2))
-    → (r < infinityBits) × (of_bits binary32 r ≡ rootOf (of_bits binary32 b))
+    → 2 * (q * 2 ^ k) * 2 ^ 25 ≡ m * 2 ^ w → r ≡ (w / 2 + 50) * 2 ^ 23 + near_root (m * 2 ^ (23 + w % 2))
+    → (r < infinity_bits) × (of_bits binary32 r ≡ root_of (of_bits binary32 b))
 pattern-of-root b r q k m w e Q l h g f d p =
     let s = significand m (w % 2) l h (omega arith) in (
       omega (arith, s),
-      normal r (w / 2 + 50) (nearRoot (m * 2 ^ (23 + w % 2))) p s.0 s.1 (omega arith)
-          ∙ sym (ap rootOf e ∙ root-of-value (odd 24 false q k 149) (q * 2 ^ k) (mul-pos Q (pow_pos k)) (odd_sign 24 false q k 149) ∙ root-of-significand (2 * (q * 2 ^ k)) m w l h g d),
+      normal r (w / 2 + 50) (near_root (m * 2 ^ (23 + w % 2))) p s.0 s.1 (omega arith)
+          ∙ sym (ap root_of e ∙ root-of-value (odd 24 false q k 149) (q * 2 ^ k) (mul-pos Q (pow_pos k)) (odd_sign 24 false q k 149) ∙ root-of-significand (2 * (q * 2 ^ k)) m w l h g d),
     )
 
 -- The leading zeros z of a significand b in 32 bits, less 8, move it up to 24 bits

@@ -9,7 +9,7 @@ use lib.IntN.{ℤ}
 use lib.Dec.{ltb}
 use lib.Ieee.Fits.{up_pos, down_pos}
 use lib.Ieee.{Float, nan, inf, fin, up, down, neg, lt, below}
-use Rattle.float.specs.Scalar.{absOf, magnitudeOf}
+use Rattle.float.specs.Scalar.{abs_of, magnitude_of}
 
 -- r compares with every number as x does
 pub record ComparesAs (x r : Float) : Type 0 where
@@ -55,8 +55,8 @@ either : (b s : Bool) (e : ℤ) → ComparesAs (fin false 0 e) (cond b (fin s 0 
 either true s e = zeros s e
 either false s e = zeros (not s) e
 
-pub compares-as : (x : Float) → ComparesAs (absOf x) (magnitudeOf x)
-unfolding lt neg absOf magnitudeOf
+pub compares-as : (x : Float) → ComparesAs (abs_of x) (magnitude_of x)
+unfolding lt neg abs_of magnitude_of
 compares-as nan = itself nan
 compares-as (inf true) = itself (inf false)
 compares-as (inf false) = itself (inf false)
@@ -67,10 +67,10 @@ compares-as (fin false (suc m) e) =
     rw (lt-ltb 0 (n + n) (omega (arith, positive m e))) (itself (fin false (suc m) e))
 
 -- so it decides which of two is the larger in magnitude
-pub by-magnitude : (a b : Float) → lt (magnitudeOf a) (magnitudeOf b) ≡ lt (absOf a) (absOf b)
-by-magnitude a b = (compares-as a).under (magnitudeOf b) ∙ (compares-as b).over (absOf a)
+pub by-magnitude : (a b : Float) → lt (magnitude_of a) (magnitude_of b) ≡ lt (abs_of a) (abs_of b)
+by-magnitude a b = (compares-as a).under (magnitude_of b) ∙ (compares-as b).over (abs_of a)
 
 -- it is not the number without its sign: of 0 it is -0
-pub zero-turned : (e : ℤ) → magnitudeOf (fin false 0 e) ≡ fin true 0 e
-unfolding lt neg magnitudeOf
+pub zero-turned : (e : ℤ) → magnitude_of (fin false 0 e) ≡ fin true 0 e
+unfolding lt neg magnitude_of
 zero-turned e = rw (none e e)

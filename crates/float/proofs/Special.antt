@@ -14,12 +14,12 @@ use lib.Ieee.Bits.{of_bits-to_bits}
 use lib.Ieee.Fits.{down_pos}
 use lib.Ieee.Compare.{differs_from_itself}
 use lib.Ieee.Exact.{HasValue, odd_sign}
-use Rattle.float.specs.Root.{rootOf}
-use Rattle.float.specs.Constants.{sign_bit, infinityBits, hiddenBit}
+use Rattle.float.specs.Root.{root_of}
+use Rattle.float.specs.Constants.{sign_bit, infinity_bits, hidden_bit}
 use Rattle.float.proofs.Pattern.{of_bits_is}
 
-pub root-of-nan : (x : Float) → ne x x ≡ true → x ≡ rootOf x
-unfolding rootOf
+pub root-of-nan : (x : Float) → ne x x ≡ true → x ≡ root_of x
+unfolding root_of
 root-of-nan x h = let e = differs_from_itself x (subst T (sym h) tt) in rw e
 
 -- x from its pattern
@@ -27,23 +27,23 @@ pub pattern : (x : Float) (b : ℕ) → T (fits binary32 x) → to_bits binary32
 pattern x b f h = ap (of_bits binary32) (sym h) ∙ of_bits-to_bits binary32 x f
 
 -- where the value of the pattern is its own root
-pub own_root : (x : Float) (b : ℕ) → T (fits binary32 x) → to_bits binary32 x ≡ b → of_bits binary32 b ≡ rootOf (of_bits binary32 b) → x ≡ rootOf x
-own_root x b f h e = subst (λ (y : Float). y ≡ rootOf y) (pattern x b f h) e
+pub own_root : (x : Float) (b : ℕ) → T (fits binary32 x) → to_bits binary32 x ≡ b → of_bits binary32 b ≡ root_of (of_bits binary32 b) → x ≡ root_of x
+own_root x b f h e = subst (λ (y : Float). y ≡ root_of y) (pattern x b f h) e
 
-pub root-of-zero : of_bits binary32 0 ≡ rootOf (of_bits binary32 0)
-unfolding rootOf of_bits
+pub root-of-zero : of_bits binary32 0 ≡ root_of (of_bits binary32 0)
+unfolding root_of of_bits
 root-of-zero = refl
 
-pub root-of-minus-zero : of_bits binary32 sign_bit ≡ rootOf (of_bits binary32 sign_bit)
-unfolding rootOf of_bits
+pub root-of-minus-zero : of_bits binary32 sign_bit ≡ root_of (of_bits binary32 sign_bit)
+unfolding root_of of_bits
 root-of-minus-zero = refl
 
-pub root-of-one : of_bits binary32 0x3f80_0000 ≡ rootOf (of_bits binary32 0x3f80_0000)
-unfolding rootOf of_bits
+pub root-of-one : of_bits binary32 0x3f80_0000 ≡ root_of (of_bits binary32 0x3f80_0000)
+unfolding root_of of_bits
 root-of-one = refl
 
-pub root-of-infinity : of_bits binary32 infinityBits ≡ rootOf (of_bits binary32 infinityBits)
-unfolding rootOf of_bits
+pub root-of-infinity : of_bits binary32 infinity_bits ≡ root_of (of_bits binary32 infinity_bits)
+unfolding root_of of_bits
 root-of-infinity = refl
 
 -- a NaN, -infinity, or below 0
@@ -70,28 +70,28 @@ either true true q k Q = infinite
 either true false q k Q = no_number
 either false d q k Q = digits q k Q
 
-minus-fields : (x t : ℕ) → 0 < x * hiddenBit + t → Rootless (of_fields binary32 true x t)
+minus-fields : (x t : ℕ) → 0 < x * hidden_bit + t → Rootless (of_fields binary32 true x t)
 unfolding of_fields
 minus-fields zero t h = digits t 0 (omega arith)
-minus-fields (suc x) t h = either (eqb (suc x) 255) (eqb t 0) (hiddenBit + t) x (omega arith)
+minus-fields (suc x) t h = either (eqb (suc x) 255) (eqb t 0) (hidden_bit + t) x (omega arith)
 
 plus-fields : (x t : ℕ) → x ≡ 255 → 0 < t → Rootless (of_fields binary32 false x t)
 unfolding of_fields
 plus-fields zero t h g = absurd (omega arith)
 plus-fields (suc x) t h g = rw (eq-eqb (suc x) 255 h, ne_eqb t 0 (omega arith)) no_number
 
-rootless : (b : ℕ) → infinityBits < b → b < 2 ^ 32 → (b ≡ sign_bit → ⊥) → Rootless (of_bits binary32 b)
+rootless : (b : ℕ) → infinity_bits < b → b < 2 ^ 32 → (b ≡ sign_bit → ⊥) → Rootless (of_bits binary32 b)
 rootless b l h n = subst Rootless (sym (of_bits_is b)) (go (dec_lt b sign_bit))
   where
-    go : Dec (b < sign_bit) → Rootless (of_fields binary32 (leb sign_bit b) (b % sign_bit / hiddenBit) (b % hiddenBit))
-    go (yes g) = rw (lt-leb sign_bit b g) (plus-fields (b % sign_bit / hiddenBit) (b % hiddenBit) (omega arith) (omega arith))
-    go (no g) = rw (le-leb sign_bit b (omega (arith, g))) (minus-fields (b % sign_bit / hiddenBit) (b % hiddenBit) (omega (arith, n, g)))
+    go : Dec (b < sign_bit) → Rootless (of_fields binary32 (leb sign_bit b) (b % sign_bit / hidden_bit) (b % hidden_bit))
+    go (yes g) = rw (lt-leb sign_bit b g) (plus-fields (b % sign_bit / hidden_bit) (b % hidden_bit) (omega arith) (omega arith))
+    go (no g) = rw (le-leb sign_bit b (omega (arith, g))) (minus-fields (b % sign_bit / hidden_bit) (b % hidden_bit) (omega (arith, n, g)))
 
-nan-of : {y : Float} → Rootless y → rootOf y ≡ nan
-unfolding rootOf
+nan-of : {y : Float} → Rootless y → root_of y ≡ nan
+unfolding root_of
 nan-of no_number = refl
 nan-of infinite = refl
 nan-of (negative m e) = refl
 
-pub no-root : (b : ℕ) → infinityBits < b → b < 2 ^ 32 → (b ≡ sign_bit → ⊥) → rootOf (of_bits binary32 b) ≡ nan
+pub no-root : (b : ℕ) → infinity_bits < b → b < 2 ^ 32 → (b ≡ sign_bit → ⊥) → root_of (of_bits binary32 b) ≡ nan
 no-root b l h n = nan-of (rootless b l h n)

@@ -12,9 +12,9 @@ use lib.Ieee.{Float, fin, binary32, up, down, size, odd, fits, of_bits, of_int, 
 use lib.Ieee.Exact.{HasValue, odd_sign}
 use lib.Ieee.Fits.{down_pos, odd-fits}
 use lib.Ieee.Digits.{size-le}
-use Rattle.float.specs.Constants.{zero, quarter, half, one, two, four, minusOne, epsilon, negligible, lineTolerance, localTolerance, overlongRatio, globalOverlongRatio, duplicateFraction, frontierTolerance}
-use Rattle.float.specs.Root.{digits4, scaled, units, nearRoot, rootUnits, rootOf}
-use Rattle.float.specs.Scalar.{over30Degrees}
+use Rattle.float.specs.Constants.{zero, quarter, half, one, two, four, minus_one, epsilon, negligible, line_tolerance, local_tolerance, overlong_ratio, global_overlong_ratio, duplicate_fraction, frontier_tolerance}
+use Rattle.float.specs.Root.{digits4, scaled, units, near_root, root_units, root_of}
+use Rattle.float.specs.Scalar.{over30_degrees}
 use Rattle.float.proofs.Near.{NearRoot, Remainder, shifted, remainder, near-of-remainder, significand}
 use Rattle.float.proofs.Digits.{digits, in-units, one_number, short}
 use Rattle.float.proofs.Nearer.{NoNearer, no-nearer}
@@ -36,13 +36,13 @@ pub record Rooted (x : Float) (n r s : ℕ) : Type 0 where
   pub low : 2 ^ 23 ≤ s
   pub high : s < 2 ^ 24
   -- and the root is s, scaled back by the root of that power: s * 2 ^ (d + 50) / 2 ^ 149 for the d digits of n
-  pub value : HasValue (rootOf x) false (s * 2 ^ (digits4 n + 50)) (2 ^ 149)
+  pub value : HasValue (root_of x) false (s * 2 ^ (digits4 n + 50)) (2 ^ 149)
   -- which is an f32
-  pub an-f32 : T (fits binary32 (rootOf x))
+  pub an-f32 : T (fits binary32 (root_of x))
   -- "The root is the nearest f32": no finite f32 y whatever, of either sign, is nearer to the root of x; an infinity is at no finite distance
   -- from it, and a NaN at none. Each is a whole number of 2 ^ -149 (`whole-units`). In that unit the square of the root of x is n * 2 ^ 148, and
   -- 4 times that n * 2 ^ 150.
-  pub no-nearer : (y : Float) (sign : Bool) (g a : ℕ) → T (fits binary32 y) → HasValue (rootOf x) false g (2 ^ 149) → HasValue y sign a (2 ^ 149) → NoNearer (n * 2 ^ 150) g sign a
+  pub no-nearer : (y : Float) (sign : Bool) (g a : ℕ) → T (fits binary32 y) → HasValue (root_of x) false g (2 ^ 149) → HasValue y sign a (2 ^ 149) → NoNearer (n * 2 ^ 150) g sign a
 
 -- a number n of at most 24 bits, as m * 2 ^ w / 2 ^ 25 with a significand m of 24 bits
 record Significand (n m w : ℕ) : Type 0 where
@@ -107,17 +107,17 @@ in-units-squared n r d h =
     last : (b k : ℕ) → 4 * (n * b) * k ≡ n * (4 * b * k)
     last b k = simp (mul_assoc, mul_left_comm)
 
-of-significand : (x : Float) (n m w : ℕ) → HasValue x false n (2 ^ 150) → n < 2 ^ 278 → rootOf x ≡ rootUnits n → Significand n m w → Rooted x n (scaled n) (nearRoot (scaled n))
-unfolding rootUnits
+of-significand : (x : Float) (n m w : ℕ) → HasValue x false n (2 ^ 150) → n < 2 ^ 278 → root_of x ≡ root_units n → Significand n m w → Rooted x n (scaled n) (near_root (scaled n))
+unfolding root_units
 of-significand x n m w given top e g =
     let b = shifted m (w % 2) g.low g.high (omega arith) in
     let i = scaled-is n m w g.low g.high g.places g.same in
     let k = remainder (scaled n) (omega (arith, i, b)) (omega (arith, i, b)) in
     let s = significand m (w % 2) g.low g.high (omega arith) in
     let exact = scaled_exact n m w g.low g.high g.places g.same in
-    let nearest = near-of-remainder (scaled n) (nearRoot (scaled n)) k in
-    let value : HasValue (rootOf x) false (nearRoot (scaled n) * 2 ^ (digits4 n + 50)) (2 ^ 149) = rw e (odd_sign 24 false (nearRoot (scaled n)) (digits4 n + 50) 149) in
-    let high : nearRoot (scaled n) < 2 ^ 24 = rw i s.1 in
+    let nearest = near-of-remainder (scaled n) (near_root (scaled n)) k in
+    let value : HasValue (root_of x) false (near_root (scaled n) * 2 ^ (digits4 n + 50)) (2 ^ 149) = rw e (odd_sign 24 false (near_root (scaled n)) (digits4 n + 50) 149) in
+    let high : near_root (scaled n) < 2 ^ 24 = rw i s.1 in
     record {
       given = given;
       exact = exact;
@@ -127,16 +127,16 @@ of-significand x n m w given top e g =
       low = rw i s.0;
       high = high;
       value = value;
-      an-f32 = rw e (root-fits n (nearRoot (scaled n)) top high);
+      an-f32 = rw e (root-fits n (near_root (scaled n)) top high);
       no-nearer = λ y sign q a f h v.
-          rw (one_number (rootOf x) false q (nearRoot (scaled n) * 2 ^ (digits4 n + 50)) h value, ← in-units-squared n (scaled n) (digits4 n) exact)
-          (no-nearer (scaled n) (nearRoot (scaled n)) (digits4 n + 50) nearest (rw i s.0) (omega (arith, i, b)) sign a (short y sign a f v));
+          rw (one_number (root_of x) false q (near_root (scaled n) * 2 ^ (digits4 n + 50)) h value, ← in-units-squared n (scaled n) (digits4 n) exact)
+          (no-nearer (scaled n) (near_root (scaled n)) (digits4 n + 50) nearest (rw i s.0) (omega (arith, i, b)) sign a (short y sign a f v));
     }
 
 -- every f32 that is finite and above 0
 pub rooted : (m : ℕ) (e : ℤ) → T (fits binary32 (fin false (suc m) e))
-    → let n = units (suc m) e in Rooted (fin false (suc m) e) n (scaled n) (nearRoot (scaled n))
-unfolding rootOf
+    → let n = units (suc m) e in Rooted (fin false (suc m) e) n (scaled n) (near_root (scaled n))
+unfolding root_of
 rooted m e t =
     let h = digits false m e t in
     let g = significant m e h.few h.fine in
@@ -144,14 +144,14 @@ rooted m e t =
     of-significand (fin false (suc m) e) (units (suc m) e) g.0 g.1 v (below-overflow (suc m) e h.small v) refl g.2
 
 -- "Root of 2 is 0x3FB504F3"
-pub root-of-two : rootOf (of_bits binary32 0x4000_0000) ≡ of_bits binary32 0x3fb5_04f3
-unfolding rootOf of_bits
+pub root-of-two : root_of (of_bits binary32 0x4000_0000) ≡ of_bits binary32 0x3fb5_04f3
+unfolding root_of of_bits
 root-of-two = refl
 
 -- It is 11,863,283 / 2 ^ 23, and nearer than its two neighbours 0x3FB504F2 and 0x3FB504F4: the root lies between the two means.
 pub root-of-two-nearest : ((11863283 * 2 ^ 126 + 11863282 * 2 ^ 126) * (11863283 * 2 ^ 126 + 11863282 * 2 ^ 126) < 2 ^ 301)
     × (2 ^ 301 < (11863283 * 2 ^ 126 + 11863284 * 2 ^ 126) * (11863283 * 2 ^ 126 + 11863284 * 2 ^ 126))
-unfolding rootOf of_bits fits
+unfolding root_of of_bits fits
 root-of-two-nearest =
     let r = rooted 0 (pos 1) tt in (
       (r.no-nearer (of_bits binary32 0x3fb5_04f2) false (11863283 * 2 ^ 126) (11863282 * 2 ^ 126) tt (refl, refl) (refl, refl)).below (ltb→lt (11863282 * 2 ^ 126) (11863283 * 2 ^ 126) tt),
@@ -159,17 +159,17 @@ root-of-two-nearest =
     )
 
 -- "of 0x00000001, 0x1A3504F3"
-pub root-of-least : rootOf (of_bits binary32 0x0000_0001) ≡ of_bits binary32 0x1a35_04f3
-unfolding rootOf of_bits
+pub root-of-least : root_of (of_bits binary32 0x0000_0001) ≡ of_bits binary32 0x1a35_04f3
+unfolding root_of of_bits
 root-of-least = refl
 
 -- "14,529,495 / 2^24 is over 30 degrees; 14,529,496 / 2^24 is not."
-pub degrees-over : over30Degrees (div binary32 (of_int binary32 (pos 14529495)) (of_int binary32 (pos (2 ^ 24)))) ≡ true
-unfolding over30Degrees div of_int
+pub degrees-over : over30_degrees (div binary32 (of_int binary32 (pos 14529495)) (of_int binary32 (pos (2 ^ 24)))) ≡ true
+unfolding over30_degrees div of_int
 degrees-over = refl
 
-pub degrees-not-over : over30Degrees (div binary32 (of_int binary32 (pos 14529496)) (of_int binary32 (pos (2 ^ 24)))) ≡ false
-unfolding over30Degrees div of_int
+pub degrees-not-over : over30_degrees (div binary32 (of_int binary32 (pos 14529496)) (of_int binary32 (pos (2 ^ 24)))) ≡ false
+unfolding over30_degrees div of_int
 degrees-not-over = refl
 
 -- each constant is the nearest f32 to its decimal number, sign and fraction
@@ -179,14 +179,14 @@ pub constants : (zero ≡ round binary32 false 0 1)
     × (one ≡ round binary32 false 1 1)
     × (two ≡ round binary32 false 2 1)
     × (four ≡ round binary32 false 4 1)
-    × (minusOne ≡ round binary32 true 1 1)
+    × (minus_one ≡ round binary32 true 1 1)
     × (epsilon ≡ round binary32 false 1 (2 ^ 23))
     × (negligible ≡ round binary32 false 1 (10 ^ 12))
-    × (lineTolerance ≡ round binary32 false 15 100)
-    × (localTolerance ≡ round binary32 false 20 100)
-    × (overlongRatio ≡ round binary32 false 15 10)
-    × (globalOverlongRatio ≡ round binary32 false 16 10)
-    × (duplicateFraction ≡ round binary32 false 2 10)
-    × (frontierTolerance ≡ round binary32 false 30 100)
+    × (line_tolerance ≡ round binary32 false 15 100)
+    × (local_tolerance ≡ round binary32 false 20 100)
+    × (overlong_ratio ≡ round binary32 false 15 10)
+    × (global_overlong_ratio ≡ round binary32 false 16 10)
+    × (duplicate_fraction ≡ round binary32 false 2 10)
+    × (frontier_tolerance ≡ round binary32 false 30 100)
 unfolding round of_bits
 constants = (refl, refl, refl, refl, refl, refl, refl, refl, refl, refl, refl, refl, refl, refl, refl)

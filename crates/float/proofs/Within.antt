@@ -18,9 +18,9 @@ use lib.Ieee.Fits.{down_pos}
 use lib.Ieee.Order.{round_mono}
 use lib.Ieee.Positive.{above, above_of_le, mul_mono}
 use lib.Ieee.Scale.{finite}
-use Rattle.float.specs.Constants.{one, minusOne, epsilon}
-use Rattle.float.specs.Root.{digits4, scaled, units, nearRoot, rootUnits, rootOf}
-use Rattle.float.specs.Scalar.{absOf, clampOf, normOf}
+use Rattle.float.specs.Constants.{one, minus_one, epsilon}
+use Rattle.float.specs.Root.{digits4, scaled, units, near_root, root_units, root_of}
+use Rattle.float.specs.Scalar.{abs_of, clamp_of, norm_of}
 use Rattle.float.proofs.Order.{plain, plain-cases, plain-pair, plain_value, plain-round, plain-number, square-plain, sum-plain, lt-or-eq}
 use Rattle.float.proofs.Sign.{abs-round}
 
@@ -43,8 +43,8 @@ within-number k (fin s m e) h = refl
 
 -- ---- rounding
 
-within-abs : (k : ℕ) (x : Float) → Within k (absOf x) → Within k x
-unfolding absOf
+within-abs : (k : ℕ) (x : Float) → Within k (abs_of x) → Within k x
+unfolding abs_of
 within-abs k nan h = h
 within-abs k (inf s) h = h
 within-abs k (fin s m e) h = h
@@ -77,8 +77,8 @@ within-round k s a c h C l =
     (under-power k (round binary32 false a c) (round binary32 false (2 ^ k) 1) (plain-round binary32 a c) (power-value k h)
     (round_mono binary32 a c (2 ^ k) 1 C (omega arith) (rw (mul-one a) l))))
 
-number-abs : (x : Float) → is_nan (absOf x) ≡ is_nan x
-unfolding is_nan absOf
+number-abs : (x : Float) → is_nan (abs_of x) ≡ is_nan x
+unfolding is_nan abs_of
 number-abs nan = refl
 number-abs (inf s) = refl
 number-abs (fin s m e) = refl
@@ -139,18 +139,18 @@ mul-within j k (fin s m e) (fin t n d) h p q =
 
 -- ---- the length of a vector
 
-root-plain : (u : Float) → T (plain u) → T (plain (rootOf u))
-unfolding rootOf rootUnits
-root-plain u p = plain-cases (λ (a : Float). T (plain (rootOf a))) tt finite-root u p
+root-plain : (u : Float) → T (plain u) → T (plain (root_of u))
+unfolding root_of root_units
+root-plain u p = plain-cases (λ (a : Float). T (plain (root_of a))) tt finite-root u p
   where
-    finite-root : (m : ℕ) (e : ℤ) → T (plain (rootOf (fin false m e)))
+    finite-root : (m : ℕ) (e : ℤ) → T (plain (root_of (fin false m e)))
     finite-root zero e = tt
     finite-root (suc m) e =
         let n = units (suc m) e in
-        plain_value (rootUnits n) (nearRoot (scaled n) * 2 ^ (digits4 n + 50)) (2 ^ 149) (odd_sign 24 false (nearRoot (scaled n)) (digits4 n + 50) 149)
+        plain_value (root_units n) (near_root (scaled n) * 2 ^ (digits4 n + 50)) (2 ^ 149) (odd_sign 24 false (near_root (scaled n)) (digits4 n + 50) 149)
 
-pub norm-plain : (x y : Float) → is_nan x ≡ false → is_nan y ≡ false → T (plain (normOf x y))
-unfolding normOf
+pub norm-plain : (x y : Float) → is_nan x ≡ false → is_nan y ≡ false → T (plain (norm_of x y))
+unfolding norm_of
 norm-plain x y p q = root-plain (add binary32 (mul binary32 x x) (mul binary32 y y)) (sum-plain (mul binary32 x x) (mul binary32 y y) (square-plain x p) (square-plain y q))
 
 -- ---- a quotient
@@ -188,11 +188,11 @@ number-over (fin s m e) (inf t) p q = refl
 number-over (fin s m e) (fin true n d) p q = absurd q
 number-over (fin s m e) (fin false n d) p q = rw (nonzero n q) (round_number (unlike s false) (m * up e * down d) (n * up d * down e))
 
-pub clamp-number : (x : Float) → is_nan x ≡ false → is_nan (clampOf x) ≡ false
-unfolding clampOf is_nan of_bits
-clamp-number x p = go (lt x minusOne) (lt one x)
+pub clamp-number : (x : Float) → is_nan x ≡ false → is_nan (clamp_of x) ≡ false
+unfolding clamp_of is_nan of_bits
+clamp-number x p = go (lt x minus_one) (lt one x)
   where
-    go : (a b : Bool) → is_nan (cond a minusOne (cond b one x)) ≡ false
+    go : (a b : Bool) → is_nan (cond a minus_one (cond b one x)) ≡ false
     go true b = refl
     go false true = refl
     go false false = p

@@ -2,7 +2,7 @@
 use Rattle.std.specs.Prelude.{ℕ, Float}
 use Rattle.std.specs.Float.{binary32}
 use Rattle.std.specs.Float.Ieee.{of_bits}
-use Rattle.float.specs.Root.{rootOf}
+use Rattle.float.specs.Root.{root_of}
 
 -- 0, 1/4, 1/2, 1, 2, 4 and -1
 abbrev pub zero : Float
@@ -23,8 +23,8 @@ two = of_bits binary32 0x4000_0000
 abbrev pub four : Float
 four = of_bits binary32 0x4080_0000
 
-abbrev pub minusOne : Float
-minusOne = of_bits binary32 0xbf80_0000
+abbrev pub minus_one : Float
+minus_one = of_bits binary32 0xbf80_0000
 
 -- f32::EPSILON, which is 2 ^ -23
 abbrev pub epsilon : Float
@@ -35,42 +35,42 @@ abbrev pub negligible : Float
 negligible = of_bits binary32 0x2b8c_bccc
 
 -- "√2 over mean distance": the root of 2, by this crate's own root
-abbrev pub rootTwo : Float
-rootTwo = rootOf two
+abbrev pub root_two : Float
+root_two = root_of two
 
 -- `ValidationParams::default`: 0.15 and 0.20
-abbrev pub lineTolerance : Float
-lineTolerance = of_bits binary32 0x3e19_999a
+abbrev pub line_tolerance : Float
+line_tolerance = of_bits binary32 0x3e19_999a
 
-abbrev pub localTolerance : Float
-localTolerance = of_bits binary32 0x3e4c_cccd
+abbrev pub local_tolerance : Float
+local_tolerance = of_bits binary32 0x3e4c_cccd
 
 -- "it is judged at ratio 1.5": TOPO_OVERLONG_EDGE_RATIO
-abbrev pub overlongRatio : Float
-overlongRatio = of_bits binary32 0x3fc0_0000
+abbrev pub overlong_ratio : Float
+overlong_ratio = of_bits binary32 0x3fc0_0000
 
 -- "on the whole sheet at 1.6": TOPO_GLOBAL_OVERLONG_EDGE_RATIO
-abbrev pub globalOverlongRatio : Float
-globalOverlongRatio = of_bits binary32 0x3fcc_cccd
+abbrev pub global_overlong_ratio : Float
+global_overlong_ratio = of_bits binary32 0x3fcc_cccd
 
 -- "points closer than 0.2 cell sizes": TOPO_DUP_PIXEL_FRAC
-abbrev pub duplicateFraction : Float
-duplicateFraction = of_bits binary32 0x3e4c_cccd
+abbrev pub duplicate_fraction : Float
+duplicate_fraction = of_bits binary32 0x3e4c_cccd
 
 -- "r > 0.30": TOPO_FRONTIER_CURV_TOL
-abbrev pub frontierTolerance : Float
-frontierTolerance = of_bits binary32 0x3e99_999a
+abbrev pub frontier_tolerance : Float
+frontier_tolerance = of_bits binary32 0x3e99_999a
 
 -- ---- bit patterns: the sign's place, the place above the significand's 23, +infinity's pattern, and the least of a NaN
 
 abbrev pub sign_bit : ℕ
 sign_bit = 0x8000_0000
 
-abbrev pub hiddenBit : ℕ
-hiddenBit = 0x80_0000
+abbrev pub hidden_bit : ℕ
+hidden_bit = 0x80_0000
 
-abbrev pub infinityBits : ℕ
-infinityBits = 0x7f80_0000
+abbrev pub infinity_bits : ℕ
+infinity_bits = 0x7f80_0000
 
-abbrev pub firstNanBits : ℕ
-firstNanBits = 0x7f80_0001
+abbrev pub first_nan_bits : ℕ
+first_nan_bits = 0x7f80_0001

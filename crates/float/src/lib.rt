@@ -4,9 +4,9 @@
 ghost use Rattle.std.specs.Prelude.{◌≡◌, ◌+◌, ◌*◌, ◌/◌, ◌%◌, ◌^◌, ◌≤◌, ◌<◌};
 ghost use Rattle.std.specs.Float.{binary32};
 ghost use Rattle.std.specs.Float.Ieee.{of_bits, to_bits};
-ghost use Rattle.float.specs.Constants.{infinityBits};
-ghost use Rattle.float.specs.Root.{floorRoot, nearRoot, rootOf};
-ghost use Rattle.float.specs.Scalar.{normOf, absOf, magnitudeOf, max_of, minOf, clampOf, over30Degrees};
+ghost use Rattle.float.specs.Constants.{infinity_bits};
+ghost use Rattle.float.specs.Root.{floor_root, near_root, root_of};
+ghost use Rattle.float.specs.Scalar.{norm_of, abs_of, magnitude_of, max_of, min_of, clamp_of, over30_degrees};
 
 pub mod constants;
 
@@ -33,7 +33,7 @@ fn first_guess(n: u64) -> u64
 // loop's branch costs little.
 fn floor_root(n: u64) -> u64
     requires { n < 2 ^ 48 }
-    ensures { result ≡ floorRoot 24 n }
+    ensures { result ≡ floor_root 24 n }
 {
     let mut r = newton(n, newton(n, first_guess(n)));
     while n < r * r {
@@ -45,7 +45,7 @@ fn floor_root(n: u64) -> u64
 // The whole number nearest to the root of n.
 fn near_root(n: u64) -> u64
     requires { n < 2 ^ 48 }
-    ensures { result ≡ nearRoot n }
+    ensures { result ≡ near_root n }
 {
     let r = floor_root(n);
     if r * r + r < n { r + 1 } else { r }
@@ -54,7 +54,7 @@ fn near_root(n: u64) -> u64
 // The bit pattern of the root of m * 2^(w - 175), for a significand m of 24 bits.
 fn root_pattern(m: u32, w: u32) -> u32
     requires { (2 ^ 23 ≤ m) × (m < 2 ^ 24) × (w < 280) }
-    ensures { result ≡ (w / 2 + 50) * 2 ^ 23 + nearRoot (m * 2 ^ (23 + w % 2)) }
+    ensures { result ≡ (w / 2 + 50) * 2 ^ 23 + near_root (m * 2 ^ (23 + w % 2)) }
 {
     let n = (m as u64) << (23 + w % 2);
     (w / 2 + 50) * 0x80_0000 + near_root(n) as u32
@@ -62,8 +62,8 @@ fn root_pattern(m: u32, w: u32) -> u32
 
 // The bit pattern of the root of a float that is finite and above 0, from that float's pattern.
 fn root_bits(b: u32) -> u32
-    requires { (0 < b) × (b < infinityBits) }
-    ensures { (result < infinityBits) × (of_bits binary32 result ≡ rootOf (of_bits binary32 b)) }
+    requires { (0 < b) × (b < infinity_bits) }
+    ensures { (result < infinity_bits) × (of_bits binary32 result ≡ root_of (of_bits binary32 b)) }
 {
     if b < 0x80_0000 {
         let shift = u32::leading_zeros(b) - 8;
@@ -75,7 +75,7 @@ fn root_bits(b: u32) -> u32
 // The nearest f32 to the root of x. The roots of -0 and of +infinity are themselves, and that of a negative number is NaN. That of 1 is
 // given at once: four of the nine roots of a fit to the four nearest cells are of 1.
 pub fn sqrt(x: f32) -> f32
-    ensures { result ≡ rootOf x }
+    ensures { result ≡ root_of x }
 {
     if x != x {
         return x;
@@ -121,14 +121,14 @@ pub fn to_bits(x: f32) -> u32
 
 // The length of (x, y).
 pub fn norm(x: f32, y: f32) -> f32
-    ensures { result ≡ normOf x y }
+    ensures { result ≡ norm_of x y }
 {
     sqrt(x * x + y * y)
 }
 
 // x with its sign cleared.
 pub fn abs(x: f32) -> f32
-    ensures { result ≡ absOf x }
+    ensures { result ≡ abs_of x }
 {
     if x != x {
         return x;
@@ -139,7 +139,7 @@ pub fn abs(x: f32) -> f32
 // The larger of x and -x, for comparisons: x with its sign cleared, but for the sign of a zero (`compares-as`). It takes fewer operations than
 // `abs`.
 pub fn magnitude(x: f32) -> f32
-    ensures { result ≡ magnitudeOf x }
+    ensures { result ≡ magnitude_of x }
 {
     let y = -x;
     if y < x { x } else { y }
@@ -157,7 +157,7 @@ pub fn max(a: f32, b: f32) -> f32
 
 // The smaller: the other where one is a NaN, a where they are equal.
 pub fn min(a: f32, b: f32) -> f32
-    ensures { result ≡ minOf a b }
+    ensures { result ≡ min_of a b }
 {
     if a != a {
         return b;
@@ -167,7 +167,7 @@ pub fn min(a: f32, b: f32) -> f32
 
 // x, or the end of -1 to 1 that it lies beyond; a NaN stays.
 pub fn clamp(x: f32) -> f32
-    ensures { result ≡ clampOf x }
+    ensures { result ≡ clamp_of x }
 {
     if x < constants::MINUS_ONE {
         return constants::MINUS_ONE;
@@ -177,7 +177,7 @@ pub fn clamp(x: f32) -> f32
 
 // Whether an angle with the cosine c is over 30 degrees. The largest f32 below √3 / 2 is 14,529,495 / 2^24.
 pub fn over_30_degrees(c: f32) -> bool
-    ensures { result ≡ over30Degrees c }
+    ensures { result ≡ over30_degrees c }
 {
     c <= 0.8660253882408142
 }

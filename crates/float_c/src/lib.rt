@@ -2,26 +2,26 @@
 #![tactic(auto)]
 
 ghost use Rattle.std.specs.Prelude.{◌≡◌};
-ghost use Rattle.float.specs.Root.{rootOf};
-ghost use Rattle.float.specs.Scalar.{normOf, absOf, max_of, minOf, clampOf, over30Degrees};
+ghost use Rattle.float.specs.Root.{root_of};
+ghost use Rattle.float.specs.Scalar.{norm_of, abs_of, max_of, min_of, clamp_of, over30_degrees};
 
 #[unsafe(no_mangle)]
 pub extern "C" fn float_sqrt(x: f32) -> f32
-    ensures { result ≡ rootOf x }
+    ensures { result ≡ root_of x }
 {
     float::sqrt(x)
 }
 
 #[unsafe(no_mangle)]
 pub extern "C" fn float_norm(x: f32, y: f32) -> f32
-    ensures { result ≡ normOf x y }
+    ensures { result ≡ norm_of x y }
 {
     float::norm(x, y)
 }
 
 #[unsafe(no_mangle)]
 pub extern "C" fn float_abs(x: f32) -> f32
-    ensures { result ≡ absOf x }
+    ensures { result ≡ abs_of x }
 {
     float::abs(x)
 }
@@ -35,21 +35,21 @@ pub extern "C" fn float_max(a: f32, b: f32) -> f32
 
 #[unsafe(no_mangle)]
 pub extern "C" fn float_min(a: f32, b: f32) -> f32
-    ensures { result ≡ minOf a b }
+    ensures { result ≡ min_of a b }
 {
     float::min(a, b)
 }
 
 #[unsafe(no_mangle)]
 pub extern "C" fn float_clamp(x: f32) -> f32
-    ensures { result ≡ clampOf x }
+    ensures { result ≡ clamp_of x }
 {
     float::clamp(x)
 }
 
 #[unsafe(no_mangle)]
 pub extern "C" fn float_over_30_degrees(c: f32) -> bool
-    ensures { result ≡ over30Degrees c }
+    ensures { result ≡ over30_degrees c }
 {
     float::over_30_degrees(c)
 }

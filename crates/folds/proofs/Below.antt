@@ -12,7 +12,7 @@ use lib.Dec.{eqb}
 use lib.Ieee.{Float}
 use borrow.Author.Tests.{eq-eqb, ne_eqb}
 use Rattle.folds.specs.Arith.{◌⊕◌}
-use Rattle.folds.specs.Below.{fold, turn, some, every, tally, sum_of, firstIn, first, last}
+use Rattle.folds.specs.Below.{fold, turn, some, every, tally, sum_of, first_in, first, last}
 
 -- ---- tests
 
@@ -277,8 +277,8 @@ some_one p n m l =
 -- ---- the first and the last
 
 module _ (p : ℕ → Bool) where
-  first-at : (m l i : ℕ) → m ≡ suc l → firstIn p m i ≡ cond (p i) i (firstIn p l (i + 1))
-  unfolding firstIn
+  first-at : (m l i : ℕ) → m ≡ suc l → first_in p m i ≡ cond (p i) i (first_in p l (i + 1))
+  unfolding first_in
   first-at m l i e = rw e
 
   pub first_more : (i n : ℕ) → i < n → first p i n ≡ cond (p i) i (first p (i + 1) n)
@@ -286,63 +286,63 @@ module _ (p : ℕ → Bool) where
   first_more i n h = first-at (n - i) (n - (i + 1)) i (omega arith)
 
   pub first-end : (i n : ℕ) → n ≤ i → first p i n ≡ i
-  unfolding first firstIn
+  unfolding first first_in
   first-end i n h = let e : n - i ≡ 0 = omega arith in rw e
 
-  firstIn-before : (m i k : ℕ) → i ≤ k → k < firstIn p m i → p k ≡ false
-  unfolding firstIn
-  firstIn-before zero i k h l = absurd (omega arith)
-  firstIn-before (suc m) i k h l = go (p i) refl l (firstIn-before m (i + 1) k)
+  first_in-before : (m i k : ℕ) → i ≤ k → k < first_in p m i → p k ≡ false
+  unfolding first_in
+  first_in-before zero i k h l = absurd (omega arith)
+  first_in-before (suc m) i k h l = go (p i) refl l (first_in-before m (i + 1) k)
     where
-      go : (b : Bool) → p i ≡ b → k < cond b i (firstIn p m (i + 1)) → (i + 1 ≤ k → k < firstIn p m (i + 1) → p k ≡ false) → p k ≡ false
+      go : (b : Bool) → p i ≡ b → k < cond b i (first_in p m (i + 1)) → (i + 1 ≤ k → k < first_in p m (i + 1) → p k ≡ false) → p k ≡ false
       go true e l r = absurd (omega arith)
       go false e l r = ⊎_elim (λ (d : i ≡ k). ap p (sym d) ∙ e) (λ (d : i < k). r (omega arith) l) (eq-or-lt_of_le h)
 
-  firstIn-holds : (m i : ℕ) → firstIn p m i < i + m → p (firstIn p m i) ≡ true
-  unfolding firstIn
-  firstIn-holds zero i l = absurd (omega arith)
-  firstIn-holds (suc m) i l = go (p i) refl l (firstIn-holds m (i + 1))
+  first_in-holds : (m i : ℕ) → first_in p m i < i + m → p (first_in p m i) ≡ true
+  unfolding first_in
+  first_in-holds zero i l = absurd (omega arith)
+  first_in-holds (suc m) i l = go (p i) refl l (first_in-holds m (i + 1))
     where
-      go : (b : Bool) → p i ≡ b → cond b i (firstIn p m (i + 1)) < i + suc m → (firstIn p m (i + 1) < i + 1 + m → p (firstIn p m (i + 1)) ≡ true) → p (cond b i (firstIn p m (i + 1))) ≡ true
+      go : (b : Bool) → p i ≡ b → cond b i (first_in p m (i + 1)) < i + suc m → (first_in p m (i + 1) < i + 1 + m → p (first_in p m (i + 1)) ≡ true) → p (cond b i (first_in p m (i + 1))) ≡ true
       go true e l r = e
       go false e l r = r (omega arith)
 
-  firstIn-from : (m i : ℕ) → i ≤ firstIn p m i
-  unfolding firstIn
-  firstIn-from zero i = omega arith
-  firstIn-from (suc m) i = go (p i) (firstIn-from m (i + 1))
+  first_in-from : (m i : ℕ) → i ≤ first_in p m i
+  unfolding first_in
+  first_in-from zero i = omega arith
+  first_in-from (suc m) i = go (p i) (first_in-from m (i + 1))
     where
-      go : (b : Bool) → i + 1 ≤ firstIn p m (i + 1) → i ≤ cond b i (firstIn p m (i + 1))
+      go : (b : Bool) → i + 1 ≤ first_in p m (i + 1) → i ≤ cond b i (first_in p m (i + 1))
       go true h = omega arith
       go false h = omega arith
 
-  firstIn-le : (m i : ℕ) → firstIn p m i ≤ i + m
-  unfolding firstIn
-  firstIn-le zero i = omega arith
-  firstIn-le (suc m) i = go (p i) (firstIn-le m (i + 1))
+  first_in-le : (m i : ℕ) → first_in p m i ≤ i + m
+  unfolding first_in
+  first_in-le zero i = omega arith
+  first_in-le (suc m) i = go (p i) (first_in-le m (i + 1))
     where
-      go : (b : Bool) → firstIn p m (i + 1) ≤ i + 1 + m → cond b i (firstIn p m (i + 1)) ≤ i + suc m
+      go : (b : Bool) → first_in p m (i + 1) ≤ i + 1 + m → cond b i (first_in p m (i + 1)) ≤ i + suc m
       go true h = omega arith
       go false h = omega arith
 
   -- no k before the first passes
   pub first-before : (i n k : ℕ) → i ≤ k → k < first p i n → p k ≡ false
   unfolding first
-  first-before i n k h l = firstIn-before (n - i) i k h l
+  first-before i n k h l = first_in-before (n - i) i k h l
 
   -- the first passes, if there is one
   pub first_holds : (i n : ℕ) → first p i n < n → p (first p i n) ≡ true
   unfolding first
-  first_holds i n l = elim (dec_le i n) [ yes h ↦ firstIn-holds (n - i) i (omega arith) | no f ↦ absurd (omega (arith, first-end i n (omega arith))) ]
+  first_holds i n l = elim (dec_le i n) [ yes h ↦ first_in-holds (n - i) i (omega arith) | no f ↦ absurd (omega (arith, first-end i n (omega arith))) ]
 
   pub first-le : (i n : ℕ) → i ≤ n → first p i n ≤ n
   unfolding first
-  first-le i n h = omega (arith, firstIn-le (n - i) i)
+  first-le i n h = omega (arith, first_in-le (n - i) i)
 
   -- the first from i on is not before i
   pub first-from : (i n : ℕ) → i ≤ first p i n
   unfolding first
-  first-from i n = firstIn-from (n - i) i
+  first-from i n = first_in-from (n - i) i
 
   -- from 0 on: k is the first
   pub first-hit : (n k : ℕ) → k < n → p k ≡ true → ((j : ℕ) → j < k → p j ≡ false) → first p 0 n ≡ k

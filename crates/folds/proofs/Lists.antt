@@ -20,34 +20,34 @@ module _ {A : Type 0} where
   past_end d (suc k) = refl
 
   module _ (f : ℕ → A) where
-    upFrom-length : (at n : ℕ) → length (up_from f at n) ≡ n
+    up_from-length : (at n : ℕ) → length (up_from f at n) ≡ n
     unfolding up_from
-    upFrom-length at zero = refl
-    upFrom-length at (suc n) = ap suc (upFrom-length (suc at) n)
+    up_from-length at zero = refl
+    up_from-length at (suc n) = ap suc (up_from-length (suc at) n)
 
-    upFrom-at : (at n k : ℕ) (d : A) → k < n → get_or (up_from f at n) k d ≡ f (at + k)
+    up_from-at : (at n k : ℕ) (d : A) → k < n → get_or (up_from f at n) k d ≡ f (at + k)
     unfolding up_from
-    upFrom-at at zero k d h = absurd (omega arith)
-    upFrom-at at (suc n) zero d h = let e : at + 0 ≡ at = omega arith in ap f (sym e)
-    upFrom-at at (suc n) (suc k) d h = let e : suc at + k ≡ at + suc k = omega arith in upFrom-at (suc at) n k d (omega arith) ∙ ap f e
+    up_from-at at zero k d h = absurd (omega arith)
+    up_from-at at (suc n) zero d h = let e : at + 0 ≡ at = omega arith in ap f (sym e)
+    up_from-at at (suc n) (suc k) d h = let e : suc at + k ≡ at + suc k = omega arith in up_from-at (suc at) n k d (omega arith) ∙ ap f e
 
-    upFrom-over : (at n k : ℕ) (d : A) → n ≤ k → get_or (up_from f at n) k d ≡ d
+    up_from-over : (at n k : ℕ) (d : A) → n ≤ k → get_or (up_from f at n) k d ≡ d
     unfolding up_from
-    upFrom-over at zero k d h = past_end d k
-    upFrom-over at (suc n) zero d h = absurd (omega arith)
-    upFrom-over at (suc n) (suc k) d h = upFrom-over (suc at) n k d (omega arith)
+    up_from-over at zero k d h = past_end d k
+    up_from-over at (suc n) zero d h = absurd (omega arith)
+    up_from-over at (suc n) (suc k) d h = up_from-over (suc at) n k d (omega arith)
 
   pub length-list : (n : ℕ) (f : ℕ → A) → length (list_of n f) ≡ n
   unfolding list_of
-  length-list n f = upFrom-length f 0 n
+  length-list n f = up_from-length f 0 n
 
   pub list_at : (n : ℕ) (f : ℕ → A) (k : ℕ) (d : A) → k < n → get_or (list_of n f) k d ≡ f k
   unfolding list_of
-  list_at n f k d h = let e : 0 + k ≡ k = omega arith in upFrom-at f 0 n k d h ∙ ap f e
+  list_at n f k d h = let e : 0 + k ≡ k = omega arith in up_from-at f 0 n k d h ∙ ap f e
 
   pub list_over : (n : ℕ) (f : ℕ → A) (k : ℕ) (d : A) → n ≤ k → get_or (list_of n f) k d ≡ d
   unfolding list_of
-  list_over n f k d h = upFrom-over f 0 n k d h
+  list_over n f k d h = up_from-over f 0 n k d h
 
   pub is-list : (d : A) (n : ℕ) (f : ℕ → A) (l : List A) → length l ≡ n → ((k : ℕ) → k < n → get_or l k d ≡ f k) → l ≡ list_of n f
   is-list d n f l e h = ext_get_or d l (list_of n f) (e ∙ sym (length-list n f)) (λ k lt. h k (omega arith) ∙ sym (list_at n f k d (omega arith)))

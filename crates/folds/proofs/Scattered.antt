@@ -12,7 +12,7 @@ use lib.Seq.{get_or-set_same, get_or-set_other}
 use Rattle.folds.specs.Below.{fold, turn, tally, some}
 use Rattle.folds.proofs.Below.{fold-none, fold_more, and-false, tally-le}
 use Rattle.folds.specs.Marked.{bit}
-use Rattle.folds.specs.Scattered.{counts, Scattered, oneMore, larger}
+use Rattle.folds.specs.Scattered.{counts, Scattered, one_more, larger}
 
 module _ {A : Type 0} where
   module _ (d : A) (key : ℕ → ℕ) (q : ℕ → Bool) (g : ℕ → A → A) (a₀ : List A) where
@@ -34,23 +34,23 @@ module _ {A : Type 0} where
 
 -- ---- counting and marking
 
-abbrev pub markIt : ℕ → ℕ → ℕ
-markIt k x = 1
+abbrev pub mark_it : ℕ → ℕ → ℕ
+mark_it k x = 1
 
-pub fold-tally : (p : ℕ → Bool) (x n : ℕ) → fold (turn p oneMore) x n ≡ x + tally p n
+pub fold-tally : (p : ℕ → Bool) (x n : ℕ) → fold (turn p one_more) x n ≡ x + tally p n
 unfolding fold tally
 fold-tally p x zero = omega arith
 fold-tally p x (suc n) = go (p n) (fold-tally p x n)
   where
-    go : (b : Bool) → fold (turn p oneMore) x n ≡ x + tally p n → cond b (fold (turn p oneMore) x n + 1) (fold (turn p oneMore) x n) ≡ x + cond b (tally p n + 1) (tally p n)
+    go : (b : Bool) → fold (turn p one_more) x n ≡ x + tally p n → cond b (fold (turn p one_more) x n + 1) (fold (turn p one_more) x n) ≡ x + cond b (tally p n + 1) (tally p n)
     go true h = omega arith
     go false h = h
 
-pub fold-some : (p : ℕ → Bool) (b : Bool) (n : ℕ) → fold (turn p markIt) (bit b) n ≡ bit (b || some p n)
+pub fold-some : (p : ℕ → Bool) (b : Bool) (n : ℕ) → fold (turn p mark_it) (bit b) n ≡ bit (b || some p n)
 unfolding fold some
 fold-some p true zero = refl
 fold-some p false zero = refl
-fold-some p b (suc n) = go (p n) b (some p n) (fold (turn p markIt) (bit b) n) (fold-some p b n)
+fold-some p b (suc n) = go (p n) b (some p n) (fold (turn p mark_it) (bit b) n) (fold-some p b n)
   where
     go : (c b s : Bool) (x : ℕ) → x ≡ bit (b || s) → cond c 1 x ≡ bit (b || (s || c))
     go true true s x h = refl
@@ -61,7 +61,7 @@ fold-some p b (suc n) = go (p n) b (some p n) (fold (turn p markIt) (bit b) n) (
     go false false false x h = h
 
 -- no count grows by more than one a turn
-pub counted-le : (key : ℕ → ℕ) (q : ℕ → Bool) (a₀ : List ℕ) (i v : ℕ) (a : List ℕ) → v < length a₀ → Scattered 0 key q oneMore a₀ i a → get_or a v 0 ≤ get_or a₀ v 0 + i
+pub counted-le : (key : ℕ → ℕ) (q : ℕ → Bool) (a₀ : List ℕ) (i v : ℕ) (a : List ℕ) → v < length a₀ → Scattered 0 key q one_more a₀ i a → get_or a v 0 ≤ get_or a₀ v 0 + i
 counted-le key q a₀ i v a h t = omega (arith, t.at v h, fold-tally (counts key q v) (get_or a₀ v 0) i, tally-le (counts key q v) i)
 
 -- ---- the largest

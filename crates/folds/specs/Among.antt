@@ -3,11 +3,11 @@ use Rattle.std.specs.Prelude.{Bool, false, ◌||◌, List, [], ◌∷◌}
 
 module _ {A : Type 0} where
   -- some element passes
-  abbrev pub anyIn : (A → Bool) → List A → Bool
-  anyIn t [] = false
-  anyIn t (a ∷ l) = t a || anyIn t l
+  abbrev pub any_in : (A → Bool) → List A → Bool
+  any_in t [] = false
+  any_in t (a ∷ l) = t a || any_in t l
 
   -- two elements at different places pass together, the earlier one first
-  abbrev pub pairIn : (A → A → Bool) → List A → Bool
-  pairIn t [] = false
-  pairIn t (a ∷ l) = anyIn (t a) l || pairIn t l
+  abbrev pub pair_in : (A → A → Bool) → List A → Bool
+  pair_in t [] = false
+  pair_in t (a ∷ l) = any_in (t a) l || pair_in t l

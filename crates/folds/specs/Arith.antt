@@ -21,5 +21,5 @@ abbrev pub ◌⊘◌ : Float → Float → Float
 abbrev pub f32 : ℕ → Float
 f32 b = of_bits binary32 b
 
-abbrev pub zeroF : Float
-zeroF = f32 0
+abbrev pub zero_f : Float
+zero_f = f32 0

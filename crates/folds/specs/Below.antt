@@ -1,7 +1,7 @@
 -- The words for the numbers below n: a fold that says what is done so far, some k, every k, how many k, a sum of f32 left to right, the
 -- first k and the last k. Assumes nothing.
 use Rattle.std.specs.Prelude.{Bool, true, false, cond, ◌||◌, ◌&&◌, ℕ, zero, suc, ◌+◌, ◌-◌, Float}
-use Rattle.folds.specs.Arith.{◌⊕◌, zeroF}
+use Rattle.folds.specs.Arith.{◌⊕◌, zero_f}
 
 -- ---- the fold that says what is done so far
 
@@ -34,20 +34,20 @@ tally p (suc n) = cond (p n) (tally p n + 1) (tally p n)
 
 -- the f32 sum, from 0 on and left to right, of the f k with p k, k below n
 unfoldable pub sum_of : (ℕ → Bool) → (ℕ → Float) → ℕ → Float
-sum_of p f zero = zeroF
+sum_of p f zero = zero_f
 sum_of p f (suc n) = cond (p n) (sum_of p f n ⊕ f n) (sum_of p f n)
 
 -- ---- the first and the last
 
 -- of m places from i on the first with p, else the place after them
-unfoldable pub firstIn : (ℕ → Bool) → ℕ → ℕ → ℕ
-firstIn p zero i = i
-firstIn p (suc m) i = cond (p i) i (firstIn p m (i + 1))
+unfoldable pub first_in : (ℕ → Bool) → ℕ → ℕ → ℕ
+first_in p zero i = i
+first_in p (suc m) i = cond (p i) i (first_in p m (i + 1))
 
 -- the first k from i on and below n with p k, or n where there is none (i where i is past n)
 unfoldable pub first : (ℕ → Bool) → ℕ → ℕ → ℕ
-unfolding firstIn
-first p i n = firstIn p (n - i) i
+unfolding first_in
+first p i n = first_in p (n - i) i
 
 -- the last k below n with p k, or d where there is none
 unfoldable pub last : (ℕ → Bool) → ℕ → ℕ → ℕ

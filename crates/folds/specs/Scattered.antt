@@ -14,8 +14,8 @@ module _ {A : Type 0} where
 
 -- ---- counting and marking
 
-abbrev pub oneMore : ℕ → ℕ → ℕ
-oneMore k x = x + 1
+abbrev pub one_more : ℕ → ℕ → ℕ
+one_more k x = x + 1
 
 -- ---- the largest
 

@@ -14,11 +14,11 @@ use lib.Seq.{get_or-set_same, get_or-set_other}
 use borrow.Author.Tests.{lt-ltb, le-ltb, eq-eqb, ne_eqb}
 use Rattle.folds.specs.Below.{first}
 use Rattle.folds.proofs.Below.{first-before, first-hit, first-ext}
-use Rattle.view.specs.View.{maxPoints}
+use Rattle.view.specs.View.{max_points}
 use Rattle.cells.specs.Points.{stride}
-use Rattle.cells.specs.Cell.{agree, cellsAt}
+use Rattle.cells.specs.Cell.{agree, cells_at}
 use Rattle.cells.proofs.Keys.{same-u, same-v}
-use Rattle.grid.specs.Tables.{entryIn, firstInRow, firstInColumn, Keys}
+use Rattle.grid.specs.Tables.{entry_in, first_in_row, first_in_column, Keys}
 
 -- where one passes, the first that passes is below n
 pub first_below : (p : ℕ → Bool) (n k : ℕ) → k < n → p k ≡ true → first p 0 n < n
@@ -29,11 +29,11 @@ first_below p n k h e = go (dec_lt (first p 0 n) n)
     go (no f) = absurd (true≢false (sym e ∙ first-before p 0 n k (omega arith) (omega (arith, f))))
 
 -- the v parts and the u parts of an array of keys
-abbrev pub vParts : List ℕ → ℕ → ℕ
-vParts keys k = entryIn keys k % stride
+abbrev pub v_parts : List ℕ → ℕ → ℕ
+v_parts keys k = entry_in keys k % stride
 
-abbrev pub uParts : List ℕ → ℕ → ℕ
-uParts keys k = entryIn keys k / stride
+abbrev pub u_parts : List ℕ → ℕ → ℕ
+u_parts keys k = entry_in keys k / stride
 
 module _ (part : ℕ → ℕ) where
   -- no rank before k has this part
@@ -54,30 +54,30 @@ module _ (part : ℕ → ℕ) where
 
   -- r is the first rank before k that has this part, or no rank is
   abbrev Known : ℕ → ℕ → ℕ → Type 0
-  Known v r k = ((r < k) × (part r ≡ v) × Unseen v r) ⊎ ((maxPoints ≤ r) × Unseen v k)
+  Known v r k = ((r < k) × (part r ≡ v) × Unseen v r) ⊎ ((max_points ≤ r) × Unseen v k)
 
   pub record Tabled (seen : List ℕ) (k : ℕ) : Type 0 where
     pub size : length seen ≡ stride
-    pub each : (v : ℕ) → v < stride → Known v (entryIn seen v) k
+    pub each : (v : ℕ) → v < stride → Known v (entry_in seen v) k
 
-  pub tabled_start : Tabled (replicate stride maxPoints) 0
+  pub tabled_start : Tabled (replicate stride max_points) 0
   tabled_start = record {
-    size = length-replicate {A = ℕ} stride maxPoints;
-    each = λ v l. inr (rw (get_or-replicate {A = ℕ} stride v maxPoints 0 l) (omega arith), λ j h. absurd (omega arith));
+    size = length-replicate {A = ℕ} stride max_points;
+    each = λ v l. inr (rw (get_or-replicate {A = ℕ} stride v max_points 0 l) (omega arith), λ j h. absurd (omega arith));
   }
 
-  module _ (seen : List ℕ) (k v r : ℕ) (is : v ≡ part k) (fits : part k < stride) (s : Tabled seen k) (few : k < maxPoints) (e : r ≡ cond (ltb (entryIn seen v) k) (entryIn seen v) k) where
+  module _ (seen : List ℕ) (k v r : ℕ) (is : v ≡ part k) (fits : part k < stride) (s : Tabled seen k) (few : k < max_points) (e : r ≡ cond (ltb (entry_in seen v) k) (entry_in seen v) k) where
     tabled-first : FirstFor k r
     tabled-first = go (s.each (part k) fits)
       where
-        go : Known (part k) (entryIn seen (part k)) k → FirstFor k r
-        go (inl f) = let q : r ≡ entryIn seen (part k) = rw (is, lt-ltb (entryIn seen (part k)) k f.0) at e in rw q (record { low = omega (arith, f.0); has = f.1; none = f.2 })
-        go (inr f) = let q : r ≡ k = rw (is, le-ltb (entryIn seen (part k)) k (omega (arith, f.0))) at e in rw q (record { low = omega arith; has = refl; none = f.1 })
+        go : Known (part k) (entry_in seen (part k)) k → FirstFor k r
+        go (inl f) = let q : r ≡ entry_in seen (part k) = rw (is, lt-ltb (entry_in seen (part k)) k f.0) at e in rw q (record { low = omega (arith, f.0); has = f.1; none = f.2 })
+        go (inr f) = let q : r ≡ k = rw (is, le-ltb (entry_in seen (part k)) k (omega (arith, f.0))) at e in rw q (record { low = omega arith; has = refl; none = f.1 })
 
     tabled-more : Tabled (set seen v r) (k + 1)
     tabled-more = rw is (record { size = length-set seen (part k) r ∙ s.size; each = λ x l. go x l (ℕ_discrete x (part k)) })
       where
-        other : (v : ℕ) → (v ≡ part k → ⊥) → Known v (entryIn seen v) k → Known v (entryIn seen v) (k + 1)
+        other : (v : ℕ) → (v ≡ part k → ⊥) → Known v (entry_in seen v) k → Known v (entry_in seen v) (k + 1)
         other v x (inl f) = inl (omega (arith, f.0), f.1, f.2)
         other v x (inr f) = inr (f.0, λ j l q. past j (eq-or-lt_of_le (omega arith)) q)
           where
@@ -85,7 +85,7 @@ module _ (part : ℕ → ℕ) where
             past j (inl d) q = x (sym q ∙ ap part d)
             past j (inr l) q = f.1 j l q
 
-        go : (v : ℕ) → v < stride → Dec (v ≡ part k) → Known v (entryIn (set seen (part k) r) v) (k + 1)
+        go : (v : ℕ) → v < stride → Dec (v ≡ part k) → Known v (entry_in (set seen (part k) r) v) (k + 1)
         go v l (yes q) = rw (q, get_or-set_same seen (part k) r 0 (omega (arith, s.size))) (inl (omega (arith, tabled-first.low), tabled-first.has, tabled-first.none))
         go v l (no x) = rw (get_or-set_other seen (part k) v r 0 x) (other v x (s.each v l))
 
@@ -133,24 +133,24 @@ module _ (part : ℕ → ℕ) where
 -- ---- a turn of the loop, by cells
 
 module _ (keys : List ℕ) (n k r : ℕ) (h : k < n) where
-  pub row_more : (seen : List ℕ) (v : ℕ) → n ≤ maxPoints → v ≡ vParts keys k → Tabled (vParts keys) seen k → r ≡ cond (ltb (entryIn seen v) k) (entryIn seen v) k
-      → Tabled (vParts keys) (set seen v r) (k + 1) × (r ≡ firstInRow n (cellsAt keys) k)
-  unfolding firstInRow
+  pub row_more : (seen : List ℕ) (v : ℕ) → n ≤ max_points → v ≡ v_parts keys k → Tabled (v_parts keys) seen k → r ≡ cond (ltb (entry_in seen v) k) (entry_in seen v) k
+      → Tabled (v_parts keys) (set seen v r) (k + 1) × (r ≡ first_in_row n (cells_at keys) k)
+  unfolding first_in_row
   row_more seen v few is s e = (
-    tabled-more (vParts keys) seen k v r is (omega arith) s (omega arith) e,
-    first-for (vParts keys) n h (tabled-first (vParts keys) seen k v r is (omega arith) s (omega arith) e)
-        ∙ first-ext (λ (j : ℕ). eqb (vParts keys j) (vParts keys k)) (λ (j : ℕ). agree (cellsAt keys j).v (cellsAt keys k).v) n (λ j l. sym (same-v (entryIn keys j) (entryIn keys k))),
+    tabled-more (v_parts keys) seen k v r is (omega arith) s (omega arith) e,
+    first-for (v_parts keys) n h (tabled-first (v_parts keys) seen k v r is (omega arith) s (omega arith) e)
+        ∙ first-ext (λ (j : ℕ). eqb (v_parts keys j) (v_parts keys k)) (λ (j : ℕ). agree (cells_at keys j).v (cells_at keys k).v) n (λ j l. sym (same-v (entry_in keys j) (entry_in keys k))),
   )
 
-  pub column-more : (start : ℕ) → Keys keys n → Started (uParts keys) start k → r ≡ cond (eqb (uParts keys start) (uParts keys k)) start k
-      → (r ≤ k) × Started (uParts keys) r (k + 1) × (r ≡ firstInColumn n (cellsAt keys) k)
-  unfolding firstInColumn
+  pub column-more : (start : ℕ) → Keys keys n → Started (u_parts keys) start k → r ≡ cond (eqb (u_parts keys start) (u_parts keys k)) start k
+      → (r ≤ k) × Started (u_parts keys) r (k + 1) × (r ≡ first_in_column n (cells_at keys) k)
+  unfolding first_in_column
   column-more start ks s e = (
-    (started-more (uParts keys) start k r rises s e).0,
-    (started-more (uParts keys) start k r rises s e).2,
-    first-for (uParts keys) n h (started-first (uParts keys) start k r rises s e)
-        ∙ first-ext (λ (j : ℕ). eqb (uParts keys j) (uParts keys k)) (λ (j : ℕ). agree (cellsAt keys j).u (cellsAt keys k).u) n (λ j l. sym (same-u (entryIn keys j) (entryIn keys k))),
+    (started-more (u_parts keys) start k r rises s e).0,
+    (started-more (u_parts keys) start k r rises s e).2,
+    first-for (u_parts keys) n h (started-first (u_parts keys) start k r rises s e)
+        ∙ first-ext (λ (j : ℕ). eqb (u_parts keys j) (u_parts keys k)) (λ (j : ℕ). agree (cells_at keys j).u (cells_at keys k).u) n (λ j l. sym (same-u (entry_in keys j) (entry_in keys k))),
   )
     where
-      rises : (j : ℕ) → j < k → uParts keys j ≤ uParts keys k
+      rises : (j : ℕ) → j < k → u_parts keys j ≤ u_parts keys k
       rises j l = omega (arith, ks.rising j k l h)

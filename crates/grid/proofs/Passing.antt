@@ -10,17 +10,17 @@ use native.Mathlib.Decide.{dec_lt}
 use lib.Dec.{eqb, ltb}
 use borrow.Author.Tests.{lt-ltb, eq-eqb, ltb-true, eqb-true}
 use Rattle.folds.proofs.Below.{and_left, and_right, and_both}
-use Rattle.grid.specs.Sweep.{keyCentre, standing, Behind, Reached}
+use Rattle.grid.specs.Sweep.{key_centre, standing, Behind, Reached}
 use Rattle.grid.proofs.Standing.{KeysRise, standing-hit, standing-miss}
 
 module _ (n : ℕ) (key : ℕ → ℕ) where
   pub behind-none : (t : ℕ) → Behind n key 0 t
   behind-none t = record { within = omega arith; before = λ j l. absurd (omega arith) }
 
-  pub behind_more : {p t : ℕ} → Behind n key p t → p < n → key p + keyCentre < t → Behind n key (p + 1) t
+  pub behind_more : {p t : ℕ} → Behind n key p t → p < n → key p + key_centre < t → Behind n key (p + 1) t
   behind_more {p} {t} b h k = record { within = omega arith; before = λ j l. go j (eq-or-lt_of_le (omega arith)) }
     where
-      go : (j : ℕ) → (j ≡ p) ⊎ (j < p) → key j + keyCentre < t
+      go : (j : ℕ) → (j ≡ p) ⊎ (j < p) → key j + key_centre < t
       go j (inl e) = rw e k
       go j (inr l) = b.before j l
 
@@ -29,7 +29,7 @@ module _ (n : ℕ) (key : ℕ → ℕ) where
 
   module _ (rising : KeysRise n key) where
     -- rank p stands at the target
-    pub reached-hit : {p t : ℕ} → Reached n key p t → p < n → key p + keyCentre ≡ t → (standing n key t ≡ p) × Reached n key (p + 1) (t + 1)
+    pub reached-hit : {p t : ℕ} → Reached n key p t → p < n → key p + key_centre ≡ t → (standing n key t ≡ p) × Reached n key (p + 1) (t + 1)
     reached-hit {p} {t} r h e = (
       standing-hit n key rising t p h e,
       record {
@@ -39,11 +39,11 @@ module _ (n : ℕ) (key : ℕ → ℕ) where
     )
 
     -- no rank does
-    pub reached-miss : {p t : ℕ} → Reached n key p t → (p < n → key p + keyCentre ≡ t → ⊥) → (standing n key t ≡ n) × Reached n key p (t + 1)
+    pub reached-miss : {p t : ℕ} → Reached n key p t → (p < n → key p + key_centre ≡ t → ⊥) → (standing n key t ≡ n) × Reached n key p (t + 1)
     reached-miss {p} {t} r f =
-        (standing-miss n key t (λ j l e. go j l e (dec_lt j p)), record { behind = behind-up r.behind (omega arith); stop = λ l. let ne : (key p + keyCentre ≡ t → ⊥) = f l in omega (arith, r.stop l, ne) })
+        (standing-miss n key t (λ j l e. go j l e (dec_lt j p)), record { behind = behind-up r.behind (omega arith); stop = λ l. let ne : (key p + key_centre ≡ t → ⊥) = f l in omega (arith, r.stop l, ne) })
       where
-        go : (j : ℕ) → j < n → key j + keyCentre ≡ t → Dec (j < p) → ⊥
+        go : (j : ℕ) → j < n → key j + key_centre ≡ t → Dec (j < p) → ⊥
         go j l e (yes m) = omega (arith, r.behind.before j m)
         go j l e (no x) = after (eq-or-lt_of_le (omega arith))
           where

@@ -11,7 +11,7 @@ use lib.Seq.{ext_get_or, get_or-set_same, get_or-set_other}
 use borrow.Author.Tests.{lt-ltb, le-ltb, le-leb, lt-leb}
 use Rattle.folds.proofs.Below.{and-false}
 use Rattle.folds.proofs.Lists.{length-list, list_at, list_over}
-use Rattle.grid.specs.Tables.{splice, spliced, entryIn}
+use Rattle.grid.specs.Tables.{splice, spliced, entry_in}
 
 -- ---- by place
 
@@ -48,30 +48,30 @@ splice-ext from n f g rest other h e i =
 module _ (from n : ℕ) (f : ℕ → ℕ) (l : List ℕ) where
   pub length-spliced : length (spliced from n f l) ≡ length l
   unfolding spliced
-  length-spliced = length-list (length l) (splice from n f (entryIn l))
+  length-spliced = length-list (length l) (splice from n f (entry_in l))
 
-  spliced-at : (i : ℕ) → i < length l → entryIn (spliced from n f l) i ≡ splice from n f (entryIn l) i
+  spliced-at : (i : ℕ) → i < length l → entry_in (spliced from n f l) i ≡ splice from n f (entry_in l) i
   unfolding spliced
-  spliced-at i h = list_at (length l) (splice from n f (entryIn l)) i 0 h
+  spliced-at i h = list_at (length l) (splice from n f (entry_in l)) i 0 h
 
   -- where the entries fit, at every place
-  pub spliced-read : from + n ≤ length l → (i : ℕ) → entryIn (spliced from n f l) i ≡ splice from n f (entryIn l) i
+  pub spliced-read : from + n ≤ length l → (i : ℕ) → entry_in (spliced from n f l) i ≡ splice from n f (entry_in l) i
   unfolding spliced
   spliced-read fit i = go (dec_lt i (length l))
     where
-      go : Dec (i < length l) → entryIn (spliced from n f l) i ≡ splice from n f (entryIn l) i
+      go : Dec (i < length l) → entry_in (spliced from n f l) i ≡ splice from n f (entry_in l) i
       go (yes h) = spliced-at i h
       go (no x) =
-          list_over (length l) (splice from n f (entryIn l)) i 0 (omega (arith, x))
-          ∙ sym (splice-after from n f (entryIn l) i (omega (arith, x)) ∙ get_or-eq_default l 0 (omega (arith, x)))
+          list_over (length l) (splice from n f (entry_in l)) i 0 (omega (arith, x))
+          ∙ sym (splice-after from n f (entry_in l) i (omega (arith, x)) ∙ get_or-eq_default l 0 (omega (arith, x)))
 
   -- an array that has the entries, and is as l elsewhere
-  pub is-spliced : {r : List ℕ} → length r ≡ length l → ((k : ℕ) → k < n → entryIn r (from + k) ≡ f k) → ((i : ℕ) → i < from → entryIn r i ≡ entryIn l i) → ((i : ℕ) → from + n ≤ i → entryIn r i ≡ entryIn l i) → r ≡ spliced from n f l
+  pub is-spliced : {r : List ℕ} → length r ≡ length l → ((k : ℕ) → k < n → entry_in r (from + k) ≡ f k) → ((i : ℕ) → i < from → entry_in r i ≡ entry_in l i) → ((i : ℕ) → from + n ≤ i → entry_in r i ≡ entry_in l i) → r ≡ spliced from n f l
   is-spliced {r} long mid low high =
       ext_get_or 0 r (spliced from n f l) (long ∙ sym length-spliced)
       (λ i h.
-      by_place from n i (λ (i : ℕ). entryIn r i ≡ splice from n f (entryIn l) i) (λ b. low i b ∙ sym (splice-before from n f (entryIn l) i b)) (λ k b. mid k b ∙ sym (splice_at from n f (entryIn l) k b))
-      (λ b. high i b ∙ sym (splice-after from n f (entryIn l) i b))
+      by_place from n i (λ (i : ℕ). entry_in r i ≡ splice from n f (entry_in l) i) (λ b. low i b ∙ sym (splice-before from n f (entry_in l) i b)) (λ k b. mid k b ∙ sym (splice_at from n f (entry_in l) k b))
+      (λ b. high i b ∙ sym (splice-after from n f (entry_in l) i b))
       ∙ sym (spliced-at i (omega (arith, long))))
 
 pub spliced-none : (from : ℕ) (f : ℕ → ℕ) (l : List ℕ) → l ≡ spliced from 0 f l
@@ -82,22 +82,22 @@ pub spliced-on : (from m e : ℕ) (f g : ℕ → ℕ) (l : List ℕ) {r s : List
 spliced-on from m e f g l {r} {s} fit h p q =
     is-spliced from (m + e) f l (ap length q ∙ length-spliced (from + m) e g r ∙ long)
     (λ k b. elim (dec_lt k m) [
-      | yes y ↦ new (from + k) ∙ splice-before (from + m) e g (entryIn r) (from + k) (omega arith) ∙ old (from + k) ∙ splice_at from m f (entryIn l) k y
+      | yes y ↦ new (from + k) ∙ splice-before (from + m) e g (entry_in r) (from + k) (omega arith) ∙ old (from + k) ∙ splice_at from m f (entry_in l) k y
       | no x ↦ let a : from + k ≡ from + m + (k - m) = omega (arith, x) in
           let c : m + (k - m) ≡ k = omega (arith, x) in
-          ap (entryIn s) a ∙ new (from + m + (k - m)) ∙ splice_at (from + m) e g (entryIn r) (k - m) (omega (arith, x)) ∙ h (k - m) (omega (arith, x)) ∙ ap f c
+          ap (entry_in s) a ∙ new (from + m + (k - m)) ∙ splice_at (from + m) e g (entry_in r) (k - m) (omega (arith, x)) ∙ h (k - m) (omega (arith, x)) ∙ ap f c
     ])
-    (λ i b. new i ∙ splice-before (from + m) e g (entryIn r) i (omega arith) ∙ old i ∙ splice-before from m f (entryIn l) i b)
-    (λ i b. new i ∙ splice-after (from + m) e g (entryIn r) i (omega arith) ∙ old i ∙ splice-after from m f (entryIn l) i (omega arith))
+    (λ i b. new i ∙ splice-before (from + m) e g (entry_in r) i (omega arith) ∙ old i ∙ splice-before from m f (entry_in l) i b)
+    (λ i b. new i ∙ splice-after (from + m) e g (entry_in r) i (omega arith) ∙ old i ∙ splice-after from m f (entry_in l) i (omega arith))
   where
     long : length r ≡ length l
     long = ap length p ∙ length-spliced from m f l
 
-    old : (i : ℕ) → entryIn r i ≡ splice from m f (entryIn l) i
-    old i = ap (λ (a : List ℕ). entryIn a i) p ∙ spliced-read from m f l (omega arith) i
+    old : (i : ℕ) → entry_in r i ≡ splice from m f (entry_in l) i
+    old i = ap (λ (a : List ℕ). entry_in a i) p ∙ spliced-read from m f l (omega arith) i
 
-    new : (i : ℕ) → entryIn s i ≡ splice (from + m) e g (entryIn r) i
-    new i = ap (λ (a : List ℕ). entryIn a i) q ∙ spliced-read (from + m) e g r (omega (arith, long)) i
+    new : (i : ℕ) → entry_in s i ≡ splice (from + m) e g (entry_in r) i
+    new i = ap (λ (a : List ℕ). entry_in a i) q ∙ spliced-read (from + m) e g r (omega (arith, long)) i
 
 -- one entry is put in by a store
 stored : (l : List ℕ) (at v : ℕ) → at < length l → set l at v ≡ spliced at 1 (λ (k : ℕ). v) l

@@ -3,12 +3,12 @@
 
 ghost use Rattle.std.specs.Prelude.{◌≡◌, cond, ◌&&◌, ◌+◌, ◌*◌, ◌/◌, ◌%◌, ◌≤◌, ◌<◌, eqb, ltb, length, replicate};
 ghost use Rattle.folds.specs.Column.{column};
-ghost use Rattle.view.specs.View.{maxPoints, ranksSize, rows_at, columnsAt, indicesAt};
+ghost use Rattle.view.specs.View.{max_points, ranks_size, rows_at, columns_at, indices_at};
 ghost use Rattle.cells.specs.Points.{stride};
-ghost use Rattle.cells.specs.Cell.{cellsAt};
-ghost use Rattle.sort.specs.Packed.{packedPlaces, packed};
-ghost use Rattle.grid.specs.Tables.{entryIn, neighbourEntry, firstInRow, firstInColumn, lastWithIndex, spliced, ranksOf, Keys};
-ghost use Rattle.grid.specs.Sweep.{keyCentre, Behind, Reached, FiveFit, standingFrom};
+ghost use Rattle.cells.specs.Cell.{cells_at};
+ghost use Rattle.sort.specs.Packed.{packed_places, packed};
+ghost use Rattle.grid.specs.Tables.{entry_in, neighbour_entry, first_in_row, first_in_column, last_with_index, spliced, ranks_of, Keys};
+ghost use Rattle.grid.specs.Sweep.{key_centre, Behind, Reached, FiveFit, standing_from};
 
 use view::{Ranks, Words};
 
@@ -23,8 +23,8 @@ const NONE: u16 = view::MAX_POINTS as u16;
 
 // The first rank from `from` on that does not stand before the target.
 fn advance(keys: &Words, n: usize, from: usize, target: u32) -> usize
-    requires { Keys keys.now n × Behind n (entryIn keys.now) from target }
-    ensures { Reached n (entryIn keys.now) result target }
+    requires { Keys keys.now n × Behind n (entry_in keys.now) from target }
+    ensures { Reached n (entry_in keys.now) result target }
 {
     let mut p = from;
     while p < n {
@@ -39,7 +39,7 @@ fn advance(keys: &Words, n: usize, from: usize, target: u32) -> usize
 // Whether rank p stands at the target.
 fn stands(keys: &Words, n: usize, p: usize, target: u32) -> bool
     requires { Keys keys.now n }
-    ensures { result ≡ ltb p n && eqb (entryIn keys.now p + keyCentre) target }
+    ensures { result ≡ ltb p n && eqb (entry_in keys.now p + key_centre) target }
 {
     if p < n {
         return keys[p] + CENTRE == target;
@@ -50,8 +50,8 @@ fn stands(keys: &Words, n: usize, p: usize, target: u32) -> bool
 // Writes the ranks that stand at five targets, from `target` on, into the table from `to` on, n where none stands; `from` is the first
 // rank that does not stand before them.
 fn five(keys: &Words, n: usize, from: usize, target: u32, ranks: &mut Ranks, to: usize)
-    requires { Keys keys.now n × Reached n (entryIn keys.now) from target × FiveFit ranks.old target to }
-    ensures { ranks.new ≡ spliced to 5 (standingFrom n (entryIn keys.now) target) ranks.old }
+    requires { Keys keys.now n × Reached n (entry_in keys.now) from target × FiveFit ranks.old target to }
+    ensures { ranks.new ≡ spliced to 5 (standing_from n (entry_in keys.now) target) ranks.old }
 {
     let mut p = from;
     let mut goal = target;
@@ -82,8 +82,8 @@ fn steps(e: usize) -> u32
 // Fills the block of neighbours: 25 entries for each rank, n where no point stands. The ranks that stand two cells to one side and two to
 // the other follow each other, so that one reached rank for each difference of u will do.
 fn fill_near(keys: &Words, n: usize, ranks: &mut Ranks)
-    requires { Keys keys.now n × (length ranks.old ≡ ranksSize) }
-    ensures { ranks.new ≡ spliced 0 (25 * n) (neighbourEntry n (cellsAt keys.now)) ranks.old }
+    requires { Keys keys.now n × (length ranks.old ≡ ranks_size) }
+    ensures { ranks.new ≡ spliced 0 (25 * n) (neighbour_entry n (cells_at keys.now)) ranks.old }
 {
     let mut reached = [0usize; 5];
     let mut i: usize = 0;
@@ -99,7 +99,7 @@ fn fill_near(keys: &Words, n: usize, ranks: &mut Ranks)
 
 // The rank r, or k if r is no rank before it.
 fn earlier(r: u16, k: usize) -> u16
-    requires { k ≤ maxPoints }
+    requires { k ≤ max_points }
     ensures { result ≡ cond (ltb r k) r k }
 {
     if view::wide(r) < k {
@@ -110,8 +110,8 @@ fn earlier(r: u16, k: usize) -> u16
 
 // Fills the block of rows: the first rank of each rank's row, by a table over all v.
 fn fill_rows(keys: &Words, n: usize, ranks: &mut Ranks)
-    requires { (n ≤ maxPoints) × (length ranks.old ≡ ranksSize) }
-    ensures { ranks.new ≡ spliced rows_at n (firstInRow n (cellsAt keys.now)) ranks.old }
+    requires { (n ≤ max_points) × (length ranks.old ≡ ranks_size) }
+    ensures { ranks.new ≡ spliced rows_at n (first_in_row n (cells_at keys.now)) ranks.old }
 {
     let mut seen = [NONE; V_PARTS];
     let mut k: usize = 0;
@@ -126,8 +126,8 @@ fn fill_rows(keys: &Words, n: usize, ranks: &mut Ranks)
 
 // The rank `start` if it has rank k's u, else k.
 fn start_of(keys: &Words, start: usize, k: usize) -> usize
-    requires { (start < maxPoints) × (k < maxPoints) }
-    ensures { result ≡ cond (eqb (entryIn keys.now start / stride) (entryIn keys.now k / stride)) start k }
+    requires { (start < max_points) × (k < max_points) }
+    ensures { result ≡ cond (eqb (entry_in keys.now start / stride) (entry_in keys.now k / stride)) start k }
 {
     if cells::u_part(keys[start]) == cells::u_part(keys[k]) {
         return start;
@@ -137,8 +137,8 @@ fn start_of(keys: &Words, start: usize, k: usize) -> usize
 
 // Fills the block of columns: the first rank of each rank's column. The ranks of a column follow each other.
 fn fill_columns(keys: &Words, n: usize, ranks: &mut Ranks)
-    requires { Keys keys.now n × (length ranks.old ≡ ranksSize) }
-    ensures { ranks.new ≡ spliced columnsAt n (firstInColumn n (cellsAt keys.now)) ranks.old }
+    requires { Keys keys.now n × (length ranks.old ≡ ranks_size) }
+    ensures { ranks.new ≡ spliced columns_at n (first_in_column n (cells_at keys.now)) ranks.old }
 {
     let mut start: usize = 0;
     let mut k: usize = 0;
@@ -151,15 +151,15 @@ fn fill_columns(keys: &Words, n: usize, ranks: &mut Ranks)
 
 // An index and a rank in one number.
 fn pack(index: u32, rank: usize) -> u64
-    requires { rank < maxPoints }
-    ensures { result ≡ index * packedPlaces + rank }
+    requires { rank < max_points }
+    ensures { result ≡ index * packed_places + rank }
 {
     (index as u64) * sort::PACKED_PLACES + (rank as u64)
 }
 
 fn packed_ranks(idx: &Words, n: usize) -> [u64; view::MAX_POINTS]
-    requires { n ≤ maxPoints }
-    ensures { result ≡ column maxPoints 0 n (packed (entryIn idx.now)) }
+    requires { n ≤ max_points }
+    ensures { result ≡ column max_points 0 n (packed (entry_in idx.now)) }
 {
     let mut out = [0u64; view::MAX_POINTS];
     let mut k: usize = 0;
@@ -172,8 +172,8 @@ fn packed_ranks(idx: &Words, n: usize) -> [u64; view::MAX_POINTS]
 
 // The last rank with the index at place i of the order by index and rank; `after` is that of the next place.
 fn last_rank(order: &[u64; view::MAX_POINTS], n: usize, i: usize, after: u16) -> u16
-    requires { (i < n) × (n ≤ maxPoints) }
-    ensures { result ≡ cond (ltb (i + 1) n && eqb (entryIn order.now i / packedPlaces) (entryIn order.now (i + 1) / packedPlaces)) after (entryIn order.now i % packedPlaces) }
+    requires { (i < n) × (n ≤ max_points) }
+    ensures { result ≡ cond (ltb (i + 1) n && eqb (entry_in order.now i / packed_places) (entry_in order.now (i + 1) / packed_places)) after (entry_in order.now i % packed_places) }
 {
     let rank = (order[i] % sort::PACKED_PLACES) as u16;
     if n <= i + 1 {
@@ -187,8 +187,8 @@ fn last_rank(order: &[u64; view::MAX_POINTS], n: usize, i: usize, after: u16) ->
 
 // Fills the block of indices: the last rank with each rank's index, which stands for the index.
 fn fill_indices(idx: &Words, n: usize, ranks: &mut Ranks)
-    requires { (n ≤ maxPoints) × (length ranks.old ≡ ranksSize) }
-    ensures { ranks.new ≡ spliced indicesAt n (lastWithIndex n (entryIn idx.now)) ranks.old }
+    requires { (n ≤ max_points) × (length ranks.old ≡ ranks_size) }
+    ensures { ranks.new ≡ spliced indices_at n (last_with_index n (entry_in idx.now)) ranks.old }
 {
     let mut order = packed_ranks(idx, n);
     sort::sort(&mut order, n);
@@ -204,8 +204,8 @@ fn fill_indices(idx: &Words, n: usize, ranks: &mut Ranks)
 
 // Fills the table of ranks, which is all zeros.
 pub fn fill<'a>(keys: &'a Words, idx: &'a Words, n: usize, ranks: &mut Ranks)
-    requires { Keys keys.now n × (ranks.old ≡ replicate ranksSize 0) }
-    ensures { ranks.new ≡ ranksOf n keys.now idx.now }
+    requires { Keys keys.now n × (ranks.old ≡ replicate ranks_size 0) }
+    ensures { ranks.new ≡ ranks_of n keys.now idx.now }
 {
     fill_near(keys, n, ranks);
     fill_rows(keys, n, ranks);

@@ -10,9 +10,9 @@ use native.Mathlib.Omega.{arith}
 use borrow.Author.Tests.{le-leb, lt-leb}
 use lib.Dec.{eqb}
 use lib.ListN.{length}
-use Rattle.folds.specs.Among.{anyIn}
+use Rattle.folds.specs.Among.{any_in}
 use Rattle.sheet_file.specs.Bytes.{Bytes}
-use Rattle.ruling.specs.Ruling.{sheetNumbers}
+use Rattle.ruling.specs.Ruling.{sheet_numbers}
 use Rattle.ruling.proofs.Given.{sheet-number}
 use Rattle.runs.specs.Run.{full}
 use Rattle.runs.specs.declared.Run.{Run}
@@ -21,16 +21,16 @@ use Rattle.kept.specs.declared.Answer.{Answer}
 use Rattle.kept.specs.declared.Answer.TheVariants.{Refused, Accepted}
 use Rattle.kept.specs.declared.Counts.{Counts}
 use Rattle.kept.proofs.Bounds.{counts-bounded, refusal-listed}
-use Rattle.kept_in_run.specs.InRun.{answerInRun}
-use Rattle.map_lines.specs.Map.{mapSize}
-use Rattle.sheet_map.specs.Text.{mapTextOf}
+use Rattle.kept_in_run.specs.InRun.{answer_in_run}
+use Rattle.map_lines.specs.Map.{map_size}
+use Rattle.sheet_map.specs.Text.{map_text_of}
 use Rattle.sheet_map.proofs.Whole.{text-fits}
-use Rattle.sheet_fills.specs.Answer.{fillAnswerOf}
+use Rattle.sheet_fills.specs.Answer.{fill_answer_of}
 use Rattle.sheet_fills.specs.declared.FillAnswer.{FillAnswer}
 use Rattle.sheet_fills.specs.declared.FillAnswer.TheVariants as fills
 use Rattle.sheet_fills.specs.declared.FillCounts.{FillCounts}
 use Rattle.sheet_fills.proofs.Bounds.{fills-bounded, fills-listed}
-use Rattle.higlaupth.specs.Number.{number_of, SheetCounts, Countable, Returned, refusal, counts, InRunReturned, run-full, as-sheet, textNumber, MapReturned, fillNumberOf, FillsOfSheet, FewFills, FillsReturned, no-fills, fill-counts}
+use Rattle.higlaupth.specs.Number.{number_of, SheetCounts, Countable, Returned, refusal, counts, InRunReturned, run-full, as-sheet, text_number, MapReturned, fill_number_of, FillsOfSheet, FewFills, FillsReturned, no-fills, fill-counts}
 
 -- ---- of higlaupth_keep
 
@@ -53,7 +53,7 @@ countable file room b = go (answer_of file room) refl
 
 -- taken apart: above the low 32 bits a refusal has 0; the counts have an odd number there, above it 16 bits of rounds, and below it 16 bits of
 -- points and 16 bits of components
-pub refusal-apart : (number : ℕ) → anyIn (eqb number) sheetNumbers ≡ true → number / 2 ^ 32 ≡ 0
+pub refusal-apart : (number : ℕ) → any_in (eqb number) sheet_numbers ≡ true → number / 2 ^ 32 ≡ 0
 refusal-apart k h = omega (arith, (sheet-number k h).high)
 
 pub record Apart (n points components rounds : ℕ) : Type 0 where
@@ -78,76 +78,76 @@ full-chain = refl
 
 module _ (r : Run) (file : List ℕ) (room : ℕ) where
   -- a full record refuses with 11; one that is not leaves the call its answer
-  in-run : (P : Answer → Type 0) → P (Refused 11) → P (answer_of file room) → P (answerInRun r file room)
-  unfolding answerInRun
+  in-run : (P : Answer → Type 0) → P (Refused 11) → P (answer_of file room) → P (answer_in_run r file room)
+  unfolding answer_in_run
   in-run P a b = go (full r)
     where
       go : (f : Bool) → P (cond f (Refused 11) (answer_of file room))
       go true = a
       go false = b
 
-  pub countable-in-run : Bytes file → Countable (answerInRun r file room)
+  pub countable-in-run : Bytes file → Countable (answer_in_run r file room)
   countable-in-run b = in-run Countable tt (countable file room b)
 
-  pub returned-in-run : Bytes file → InRunReturned (number_of (answerInRun r file room))
+  pub returned-in-run : Bytes file → InRunReturned (number_of (answer_in_run r file room))
   returned-in-run b = in-run (λ (a : Answer). InRunReturned (number_of a)) run-full (as-sheet (returned file room b))
 
 -- ---- of higlaupth_map
 
 module _ (size room : ℕ) where
-  fits : size ≤ room → textNumber size room ≡ size
+  fits : size ≤ room → text_number size room ≡ size
   fits h = ap (λ (b : Bool). cond b size (2 ^ 64 - 1)) (le-leb size room h)
 
-  too_short : room < size → textNumber size room ≡ 2 ^ 64 - 1
-  too_short h = ap (λ (b : Bool). cond b size (2 ^ 64 - 1)) (lt-leb size room h)
+  too-short : room < size → text_number size room ≡ 2 ^ 64 - 1
+  too-short h = ap (λ (b : Bool). cond b size (2 ^ 64 - 1)) (lt-leb size room h)
 
-  -- of any text that mapSize bytes have room for
-  by_size : size ≤ mapSize → MapReturned size room
+  -- of any text that map_size bytes have room for
+  by_size : size ≤ map_size → MapReturned size room
   by_size l = record {
     bounded = bounded (dec_lt room size);
     whole = fits;
-    short = too_short;
+    short = too-short;
     short-only = λ e. only e (dec_lt room size);
   }
     where
-      bounded : Dec (room < size) → (textNumber size room ≤ mapSize) ⊎ (textNumber size room ≡ 2 ^ 64 - 1)
-      bounded (yes h) = inr (too_short h)
+      bounded : Dec (room < size) → (text_number size room ≤ map_size) ⊎ (text_number size room ≡ 2 ^ 64 - 1)
+      bounded (yes h) = inr (too-short h)
       bounded (no f) = inl (omega (arith, l, fits (omega (arith, f))))
 
-      only : textNumber size room ≡ 2 ^ 64 - 1 → Dec (room < size) → room < size
+      only : text_number size room ≡ 2 ^ 64 - 1 → Dec (room < size) → room < size
       only e (yes h) = h
       only e (no f) = absurd (omega (arith, l, e, fits (omega (arith, f))))
 
 -- a text of 81 bytes, for a buffer of as many and of one less; and no text
-pub room-for-line : textNumber 81 81 ≡ 81
+pub room-for-line : text_number 81 81 ≡ 81
 room-for-line = refl
 
-pub no-room-for-line : textNumber 81 80 ≡ 2 ^ 64 - 1
+pub no-room-for-line : text_number 81 80 ≡ 2 ^ 64 - 1
 no-room-for-line = refl
 
-pub room-for-none : textNumber 0 0 ≡ 0
+pub room-for-none : text_number 0 0 ≡ 0
 room-for-none = refl
 
-pub map-returned : (file : List ℕ) (room : ℕ) → Bytes file → MapReturned (length (mapTextOf file)) room
-map-returned file room b = by_size (length (mapTextOf file)) room (text-fits file b)
+pub map-returned : (file : List ℕ) (room : ℕ) → Bytes file → MapReturned (length (map_text_of file)) room
+map-returned file room b = by_size (length (map_text_of file)) room (text-fits file b)
 
 -- ---- of higlaupth_fills
 
 module _ (file : List ℕ) (room : ℕ) (b : Bytes file) where
-  few-fills : {c : FillCounts} → fillAnswerOf file room ≡ fills.Filled c → FillsOfSheet c.points c.fills
+  few-fills : {c : FillCounts} → fill_answer_of file room ≡ fills.Filled c → FillsOfSheet c.points c.fills
   few-fills e = let r = fills-bounded file room b e in record { few-fills = r.fills; few-points = r.points }
 
-  pub few-filled : FewFills (fillAnswerOf file room)
-  few-filled = go (fillAnswerOf file room) refl
+  pub few-filled : FewFills (fill_answer_of file room)
+  few-filled = go (fill_answer_of file room) refl
     where
-      go : (a : FillAnswer) → fillAnswerOf file room ≡ a → FewFills a
+      go : (a : FillAnswer) → fill_answer_of file room ≡ a → FewFills a
       go (fills.Refused k) e = tt
       go (fills.Filled c) e = few-fills e
 
-  pub fills-returned : FillsReturned (fillNumberOf (fillAnswerOf file room))
-  fills-returned = go (fillAnswerOf file room) refl
+  pub fills-returned : FillsReturned (fill_number_of (fill_answer_of file room))
+  fills-returned = go (fill_answer_of file room) refl
     where
-      go : (a : FillAnswer) → fillAnswerOf file room ≡ a → FillsReturned (fillNumberOf a)
+      go : (a : FillAnswer) → fill_answer_of file room ≡ a → FillsReturned (fill_number_of a)
       go (fills.Refused k) e = no-fills k (fills-listed file room e)
       go (fills.Filled c) e = fill-counts c.points c.fills (few-fills e)
 
@@ -156,5 +156,5 @@ pub fill-counts-apart : (points fills : ℕ) → FillsOfSheet points fills → l
 fill-counts-apart p f h = (omega (arith, h.few-fills, h.few-points), omega (arith, h.few-fills, h.few-points), omega (arith, h.few-fills, h.few-points))
 
 -- 2,304 points, all dropped
-all-dropped : fillNumberOf (fills.Filled (record { points = 2304; fills = 2304 })) ≡ 4445964544
+all-dropped : fill_number_of (fills.Filled (record { points = 2304; fills = 2304 })) ≡ 4445964544
 all-dropped = refl

@@ -1,11 +1,11 @@
 -- The numbers that the calls hand to C. Assumes nothing.
 use Rattle.std.specs.Prelude.{◌≡◌, true, cond, ◌⊎◌, ℕ, ◌+◌, ◌-◌, ◌*◌, ◌^◌, ◌≤◌, ◌<◌, eqb, leb}
-use Rattle.folds.specs.Among.{anyIn}
-use Rattle.view.specs.View.{maxPoints}
-use Rattle.ruling.specs.Ruling.{sheetNumbers}
+use Rattle.folds.specs.Among.{any_in}
+use Rattle.view.specs.View.{max_points}
+use Rattle.ruling.specs.Ruling.{sheet_numbers}
 use Rattle.kept.specs.declared.Answer.{Answer}
 use Rattle.kept.specs.declared.Answer.TheVariants.{Refused, Accepted}
-use Rattle.map_lines.specs.Map.{mapSize}
+use Rattle.map_lines.specs.Map.{map_size}
 use Rattle.sheet_fills.specs.declared.FillAnswer.{FillAnswer}
 use Rattle.sheet_fills.specs.declared.FillAnswer.TheVariants as fills
 
@@ -18,7 +18,7 @@ number_of (Accepted counts) = 2 ^ 48 * counts.rounds + 2 ^ 32 + 2 ^ 16 * counts.
 pub record SheetCounts (points components rounds : ℕ) : Type 0 where
   pub few-components : components ≤ points
   pub few-rounds : rounds ≤ points
-  pub few-points : points ≤ maxPoints
+  pub few-points : points ≤ max_points
 
 -- an answer whose counts are so
 abbrev pub Countable : Answer → Type 0
@@ -27,7 +27,7 @@ Countable (Accepted counts) = SheetCounts counts.points counts.components counts
 
 -- what the number that higlaupth_keep returns is: that of a refusal of a sheet, or 2^48 · rounds + 2^32 + 2^16 · points + components
 pub data Returned : ℕ → Type 0 where
-  refusal : (number : ℕ) → anyIn (eqb number) sheetNumbers ≡ true → Returned number
+  refusal : (number : ℕ) → any_in (eqb number) sheet_numbers ≡ true → Returned number
   counts : (points components rounds : ℕ) → SheetCounts points components rounds → Returned (2 ^ 48 * rounds + 2 ^ 32 + 2 ^ 16 * points + components)
 
 -- what the number that higlaupth_keep_in_run returns is: the same, or 11
@@ -36,28 +36,28 @@ pub data InRunReturned : ℕ → Type 0 where
   as-sheet : {number : ℕ} → Returned number → InRunReturned number
 
 -- of a text of `size` bytes for a buffer of `room`: its size, or 2^64 − 1 where the buffer is too short
-abbrev pub textNumber : ℕ → ℕ → ℕ
-textNumber size room = cond (leb size room) size (2 ^ 64 - 1)
+abbrev pub text_number : ℕ → ℕ → ℕ
+text_number size room = cond (leb size room) size (2 ^ 64 - 1)
 
--- what the number that higlaupth_map returns is, of a text of `size` bytes for a buffer of `room`: the size, no more than mapSize, or 2^64 − 1,
+-- what the number that higlaupth_map returns is, of a text of `size` bytes for a buffer of `room`: the size, no more than map_size, or 2^64 − 1,
 -- exactly where the buffer is shorter than the text
 pub record MapReturned (size room : ℕ) : Type 0 where
-  pub bounded : (textNumber size room ≤ mapSize) ⊎ (textNumber size room ≡ 2 ^ 64 - 1)
-  pub whole : size ≤ room → textNumber size room ≡ size
-  pub short : room < size → textNumber size room ≡ 2 ^ 64 - 1
-  pub short-only : textNumber size room ≡ 2 ^ 64 - 1 → room < size
+  pub bounded : (text_number size room ≤ map_size) ⊎ (text_number size room ≡ 2 ^ 64 - 1)
+  pub whole : size ≤ room → text_number size room ≡ size
+  pub short : room < size → text_number size room ≡ 2 ^ 64 - 1
+  pub short-only : text_number size room ≡ 2 ^ 64 - 1 → room < size
 
 -- ---- of higlaupth_fills
 
 -- the refusal number, or the counts of points and of fills above 2^32
-abbrev pub fillNumberOf : FillAnswer → ℕ
-fillNumberOf (fills.Refused number) = number
-fillNumberOf (fills.Filled c) = 2 ^ 32 + 2 ^ 16 * c.points + c.fills
+abbrev pub fill_number_of : FillAnswer → ℕ
+fill_number_of (fills.Refused number) = number
+fill_number_of (fills.Filled c) = 2 ^ 32 + 2 ^ 16 * c.points + c.fills
 
 -- an answer whose counts are as a sheet has them: no more fills than points, no more points than the most of a sheet
 pub record FillsOfSheet (points fills : ℕ) : Type 0 where
   pub few-fills : fills ≤ points
-  pub few-points : points ≤ maxPoints
+  pub few-points : points ≤ max_points
 
 abbrev pub FewFills : FillAnswer → Type 0
 FewFills (fills.Refused number) = Unit {0}
@@ -65,5 +65,5 @@ FewFills (fills.Filled c) = FillsOfSheet c.points c.fills
 
 -- what the number that higlaupth_fills returns is: that of a refusal of a sheet, or 2^32 + 2^16 · points + fills
 pub data FillsReturned : ℕ → Type 0 where
-  no-fills : (number : ℕ) → anyIn (eqb number) sheetNumbers ≡ true → FillsReturned number
+  no-fills : (number : ℕ) → any_in (eqb number) sheet_numbers ≡ true → FillsReturned number
   fill-counts : (points fills : ℕ) → FillsOfSheet points fills → FillsReturned (2 ^ 32 + 2 ^ 16 * points + fills)

@@ -1,36 +1,36 @@
 -- The record of a run as C holds it, in u32s: "its five old sums", the count of accepted sheets, the new sums. Assumes nothing.
 use Rattle.std.specs.Prelude.{List, [], ◌∷◌, ◌++◌, ℕ, ◌+◌, length, get_or}
 use Rattle.folds.specs.Lists.{list_of}
-use Rattle.runs.specs.Run.{summed, oldSums}
+use Rattle.runs.specs.Run.{summed, old_sums}
 use Rattle.runs.specs.declared.Run.{Run}
 use Rattle.kept.specs.declared.Answer.{Answer}
 use Rattle.kept.specs.declared.Answer.TheVariants.{Refused, Accepted}
-use Rattle.kept_in_run.specs.InRun.{answerInRun, runAfter}
+use Rattle.kept_in_run.specs.InRun.{answer_in_run, run_after}
 use Rattle.kept_in_run.specs.Through.{Call}
 
-abbrev pub wordsOf : Run → List ℕ
-wordsOf r = r.old_sums ++ (r.sheets ∷ r.new_sums)
+abbrev pub words_of : Run → List ℕ
+words_of r = r.old_sums ++ (r.sheets ∷ r.new_sums)
 
-unfoldable pub runIn : List ℕ → Run
+unfoldable pub run_in : List ℕ → Run
 unfolding list_of
-runIn words =
+run_in words =
     record {
-      old_sums = list_of oldSums (λ (i : ℕ). get_or words i 0);
-      sheets = get_or words oldSums 0;
-      new_sums = list_of (length summed) (λ (i : ℕ). get_or words (oldSums + 1 + i) 0);
+      old_sums = list_of old_sums (λ (i : ℕ). get_or words i 0);
+      sheets = get_or words old_sums 0;
+      new_sums = list_of (length summed) (λ (i : ℕ). get_or words (old_sums + 1 + i) 0);
     }
 
 -- the words after a call: those of the record with the sheet added, if it is accepted; else as they were
-abbrev pub wordsBy : List ℕ → Run → Answer → List ℕ
-wordsBy words run (Refused k) = words
-wordsBy words run (Accepted c) = wordsOf run
+abbrev pub words_by : List ℕ → Run → Answer → List ℕ
+words_by words run (Refused k) = words
+words_by words run (Accepted c) = words_of run
 
-unfoldable pub wordsAfter : List ℕ → List ℕ → ℕ → List ℕ
-unfolding runIn answerInRun runAfter
-wordsAfter words file room = wordsBy words (runAfter (runIn words) file room) (answerInRun (runIn words) file room)
+unfoldable pub words_after : List ℕ → List ℕ → ℕ → List ℕ
+unfolding run_in answer_in_run run_after
+words_after words file room = words_by words (run_after (run_in words) file room) (answer_in_run (run_in words) file room)
 
 -- after one call after the other, each given the words that the call before it left
-unfoldable pub wordsThrough : List ℕ → List Call → List ℕ
-unfolding wordsAfter
-wordsThrough words [] = words
-wordsThrough words (c ∷ l) = wordsThrough (wordsAfter words c.file (length c.buffer)) l
+unfoldable pub words_through : List ℕ → List Call → List ℕ
+unfolding words_after
+words_through words [] = words
+words_through words (c ∷ l) = words_through (words_after words c.file (length c.buffer)) l

@@ -3,13 +3,13 @@
 #![tactic(auto)]
 
 ghost use Rattle.std.specs.Prelude.{◌≡◌, ◌++◌, length, take, drop};
-ghost use Rattle.runs.specs.Run.{newRun, run_from};
-ghost use Rattle.kept.specs.Answer.{answer_of, rowsAfter};
-ghost use Rattle.kept_in_run.specs.InRun.{answerInRun, rowsInRun};
-ghost use Rattle.sheet_map.specs.Text.{mapTextOf};
-ghost use Rattle.sheet_fills.specs.Answer.{fillAnswerOf, fillsAfter};
-ghost use Rattle.higlaupth.specs.Number.{number_of, Countable, textNumber, fillNumberOf, FewFills};
-ghost use Rattle.higlaupth.specs.Words.{wordsOf, runIn, wordsAfter};
+ghost use Rattle.runs.specs.Run.{new_run, run_from};
+ghost use Rattle.kept.specs.Answer.{answer_of, rows_after};
+ghost use Rattle.kept_in_run.specs.InRun.{answer_in_run, rows_in_run};
+ghost use Rattle.sheet_map.specs.Text.{map_text_of};
+ghost use Rattle.sheet_fills.specs.Answer.{fill_answer_of, fills_after};
+ghost use Rattle.higlaupth.specs.Number.{number_of, Countable, text_number, fill_number_of, FewFills};
+ghost use Rattle.higlaupth.specs.Words.{words_of, run_in, words_after};
 
 use kept::Answer;
 use runs::{NEW_SUMS, OLD_SUMS, Run};
@@ -39,7 +39,7 @@ fn number_of(a: Answer) -> u64
 #[unsafe(no_mangle)]
 pub extern "C" fn higlaupth_keep(file: &[u8], rows: &mut [u8]) -> u64
     ensures number { result ≡ number_of (answer_of file.now (length rows.old)) }
-    ensures rows { rows.new ≡ rowsAfter file.now rows.old }
+    ensures rows { rows.new ≡ rows_after file.now rows.old }
 {
     let a = kept::keep(file, rows);
     number_of(a)
@@ -53,7 +53,7 @@ const RUN_SIZE: usize = OLD_SUMS + 1 + NEW_SUMS;
 type RunWords = [u32; RUN_SIZE];
 
 fn run_in(words: &RunWords) -> Run
-    ensures { result ≡ runIn words.now }
+    ensures { result ≡ run_in words.now }
 {
     let old_sums = [words[0], words[1], words[2], words[3], words[4]];
     let new_sums = [words[6], words[7], words[8], words[9], words[10], words[11]];
@@ -65,7 +65,7 @@ fn run_in(words: &RunWords) -> Run
 }
 
 fn words_of(run: Run) -> RunWords
-    ensures { result ≡ wordsOf run }
+    ensures { result ≡ words_of run }
 {
     let old = run.old_sums;
     let new = run.new_sums;
@@ -79,7 +79,7 @@ fn words_of(run: Run) -> RunWords
 // The record of a run that starts now.
 #[unsafe(no_mangle)]
 pub extern "C" fn higlaupth_run_new(run: &mut RunWords)
-    ensures { run.new ≡ wordsOf newRun }
+    ensures { run.new ≡ words_of new_run }
 {
     let words = words_of(Run::new());
     *run = words;
@@ -88,7 +88,7 @@ pub extern "C" fn higlaupth_run_new(run: &mut RunWords)
 // The record of a run that started under the old count.
 #[unsafe(no_mangle)]
 pub extern "C" fn higlaupth_run_from_old_sums(old_sums: &[u32; OLD_SUMS], run: &mut RunWords)
-    ensures { run.new ≡ wordsOf (run_from old_sums.now) }
+    ensures { run.new ≡ words_of (run_from old_sums.now) }
 {
     let old = *old_sums;
     let words = words_of(Run::from_old_sums(old));
@@ -98,9 +98,9 @@ pub extern "C" fn higlaupth_run_from_old_sums(old_sums: &[u32; OLD_SUMS], run: &
 // 11 for a full record, before the file is read; else as higlaupth_keep, and the record with an accepted sheet added.
 #[unsafe(no_mangle)]
 pub extern "C" fn higlaupth_keep_in_run(file: &[u8], rows: &mut [u8], run: &mut RunWords) -> u64
-    ensures number { result ≡ number_of (answerInRun (runIn run.old) file.now (length rows.old)) }
-    ensures rows { rows.new ≡ rowsInRun (runIn run.old) file.now rows.old }
-    ensures run { run.new ≡ wordsAfter run.old file.now (length rows.old) }
+    ensures number { result ≡ number_of (answer_in_run (run_in run.old) file.now (length rows.old)) }
+    ensures rows { rows.new ≡ rows_in_run (run_in run.old) file.now rows.old }
+    ensures run { run.new ≡ words_after run.old file.now (length rows.old) }
 {
     let k = kept_in_run::keep_in_run(file, rows, run_in(run));
     let a = k.answer;
@@ -119,8 +119,8 @@ pub extern "C" fn higlaupth_keep_in_run(file: &[u8], rows: &mut [u8], run: &mut 
 // bytes.
 #[unsafe(no_mangle)]
 pub extern "C" fn higlaupth_map(file: &[u8], text: &mut [u8]) -> u64
-    ensures number { result ≡ textNumber (length (mapTextOf file.now)) (length text.old) }
-    ensures text { text.new ≡ take (length text.old) (mapTextOf file.now) ++ drop (length (mapTextOf file.now)) text.old }
+    ensures number { result ≡ text_number (length (map_text_of file.now)) (length text.old) }
+    ensures text { text.new ≡ take (length text.old) (map_text_of file.now) ++ drop (length (map_text_of file.now)) text.old }
 {
     match sheet_map::draw_sheet(file, text) {
         Written::Whole(n) => n as u64,
@@ -133,7 +133,7 @@ pub extern "C" fn higlaupth_map(file: &[u8], text: &mut [u8]) -> u64
 // The number of an answer: that of a refusal; else 2^32 + 2^16 * points + fills.
 fn fill_number_of(a: FillAnswer) -> u64
     requires { FewFills a }
-    ensures { result ≡ fillNumberOf a }
+    ensures { result ≡ fill_number_of a }
 {
     match a {
         FillAnswer::Refused(number) => number as u64,
@@ -148,8 +148,8 @@ fn fill_number_of(a: FillAnswer) -> u64
 // 1 to 9, 12, 13 or 14 for a refusal; else 2^32 + 2^16 * points + fills.
 #[unsafe(no_mangle)]
 pub extern "C" fn higlaupth_fills(file: &[u8], fills: &mut [u8]) -> u64
-    ensures number { result ≡ fillNumberOf (fillAnswerOf file.now (length fills.old)) }
-    ensures fills { fills.new ≡ fillsAfter file.now fills.old }
+    ensures number { result ≡ fill_number_of (fill_answer_of file.now (length fills.old)) }
+    ensures fills { fills.new ≡ fills_after file.now fills.old }
 {
     let a = sheet_fills::fill_sheet(file, fills);
     fill_number_of(a)

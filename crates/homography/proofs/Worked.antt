@@ -6,14 +6,14 @@ use Prim.Native.Nat.{ℕ}
 use lib.IntN.{pos}
 use lib.Ieee.{Float, nan, binary32, of_int}
 use lib.Ieee.Scale.{finite}
-use Rattle.folds.specs.Arith.{zeroF, f32}
-use Rattle.linear.specs.Linear.{solutionOf}
+use Rattle.folds.specs.Arith.{zero_f, f32}
+use Rattle.linear.specs.Linear.{solution_of}
 use Rattle.linear.specs.declared.Solution.{Solution}
 use Rattle.homography.specs.declared.PlanePoint.{PlanePoint}
 use Rattle.homography.specs.declared.HomographyFit.{HomographyFit}
 use Rattle.homography.specs.declared.HomographyFit.TheVariants.{Found, NoFit}
-use Rattle.homography.specs.Fit.{normalizationOf, normalizedBy, equations_of, rightSide, homographyFrom4pt, appliedTo, fit-computes}
-use Rattle.homography.specs.NoFit.{hasZeroDiagonal, hasZeroDeterminant, hasNegligibleLast}
+use Rattle.homography.specs.Fit.{normalization_of, normalized_by, equations_of, right_side, homography_from4pt, applied_to, fit-computes}
+use Rattle.homography.specs.NoFit.{has_zero_diagonal, has_zero_determinant, has_negligible_last}
 
 abbrev point : ℕ → ℕ → PlanePoint
 point x y = record { x = of_int binary32 (pos x); y = of_int binary32 (pos y) }
@@ -27,7 +27,7 @@ square = point 0 0 ∷ point 1 0 ∷ point 0 1 ∷ point 1 1 ∷ []
 abbrev at_one : List PlanePoint
 at_one = point 5 5 ∷ point 5 5 ∷ point 5 5 ∷ point 5 5 ∷ []
 
-pub one-diagonal : (hasZeroDiagonal square at_one ≡ true) × (hasZeroDeterminant square at_one ≡ false) × (hasNegligibleLast square at_one ≡ false)
+pub one-diagonal : (has_zero_diagonal square at_one ≡ true) × (has_zero_determinant square at_one ≡ false) × (has_negligible_last square at_one ≡ false)
 unfolding fit-computes of_int
 one-diagonal = (refl, refl, refl)
 
@@ -36,9 +36,9 @@ abbrev far : Float
 far = f32 0x7180_0000
 
 abbrev far_apart : List PlanePoint
-far_apart = record { x = zeroF; y = zeroF } ∷ record { x = far; y = zeroF } ∷ record { x = zeroF; y = far } ∷ record { x = far; y = far } ∷ []
+far_apart = record { x = zero_f; y = zero_f } ∷ record { x = far; y = zero_f } ∷ record { x = zero_f; y = far } ∷ record { x = far; y = far } ∷ []
 
-pub far-determinant : hasZeroDeterminant square far_apart ≡ true
+pub far-determinant : has_zero_determinant square far_apart ≡ true
 unfolding fit-computes of_int
 far-determinant = refl
 
@@ -49,7 +49,7 @@ from = point 3 0 ∷ point 3 1 ∷ point 2 1 ∷ point 2 4 ∷ []
 abbrev to : List PlanePoint
 to = point 0 0 ∷ point 0 1 ∷ point 2 0 ∷ point 1 2 ∷ []
 
-pub last-zero : (hasZeroDiagonal from to ≡ false) × (hasZeroDeterminant from to ≡ false) × (hasNegligibleLast from to ≡ true)
+pub last-zero : (has_zero_diagonal from to ≡ false) × (has_zero_determinant from to ≡ false) × (has_negligible_last from to ≡ true)
 unfolding fit-computes of_int
 last-zero = (refl, refl, refl)
 
@@ -62,22 +62,22 @@ p = point 7 16 ∷ point 11 16 ∷ point 11 18 ∷ point 8 19 ∷ []
 abbrev q : List PlanePoint
 q = point 2 3 ∷ point 1 0 ∷ point 1 3 ∷ point 1 0 ∷ []
 
-abbrev allFinite : List Float → Bool
-allFinite [] = true
-allFinite (x ∷ l) = finite x && allFinite l
+abbrev all_finite : List Float → Bool
+all_finite [] = true
+all_finite (x ∷ l) = finite x && all_finite l
 
 abbrev solution : Solution
-solution = solutionOf (equations_of (normalizedBy (normalizationOf p) p) (normalizedBy (normalizationOf q) q)) (rightSide (normalizedBy (normalizationOf q) q))
+solution = solution_of (equations_of (normalized_by (normalization_of p) p) (normalized_by (normalization_of q) q)) (right_side (normalized_by (normalization_of q) q))
 
-pub solution-finite : allFinite solution.x ≡ true
+pub solution-finite : all_finite solution.x ≡ true
 unfolding fit-computes of_int
 solution-finite = refl
 
 -- the x of where a map takes the point (9, 17)
-abbrev takenTo : HomographyFit → Float
-takenTo (Found h) = (appliedTo h (point 9 17)).x
-takenTo NoFit = zeroF
+abbrev taken_to : HomographyFit → Float
+taken_to (Found h) = (applied_to h (point 9 17)).x
+taken_to NoFit = zero_f
 
-pub taken-nan : takenTo (homographyFrom4pt p q) ≡ nan
+pub taken-nan : taken_to (homography_from4pt p q) ≡ nan
 unfolding fit-computes of_int
 taken-nan = refl

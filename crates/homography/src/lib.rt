@@ -3,7 +3,7 @@
 #![tactic(auto)]
 
 ghost use Rattle.std.specs.Prelude.{◌≡◌};
-ghost use Rattle.homography.specs.Fit.{meanOfFour, meanDistance, normalizingScale, normalizationOf, movedBy, normalizedBy, equationU, equationV, equations_of, rightSide, matrixOf, normalizedMap, denormalizedMap, homographyFrom4pt, appliedTo};
+ghost use Rattle.homography.specs.Fit.{mean_of_four, mean_distance, normalizing_scale, normalization_of, moved_by, normalized_by, equation_u, equation_v, equations_of, right_side, matrix_of, normalized_map, denormalized_map, homography_from4pt, applied_to};
 
 #[derive(Clone, Copy)]
 pub struct PlanePoint {
@@ -33,13 +33,13 @@ pub enum HomographyFit {
 }
 
 fn mean(a: f32, b: f32, c: f32, d: f32) -> f32
-    ensures { result ≡ meanOfFour a b c d }
+    ensures { result ≡ mean_of_four a b c d }
 {
     (0.0 + a + b + c + d) / 4.0
 }
 
 fn mean_distance(p: [PlanePoint; 4], x: f32, y: f32) -> f32
-    ensures { result ≡ meanDistance p x y }
+    ensures { result ≡ mean_distance p x y }
 {
     let a = float::norm(p[0].x - x, p[0].y - y);
     let b = float::norm(p[1].x - x, p[1].y - y);
@@ -49,7 +49,7 @@ fn mean_distance(p: [PlanePoint; 4], x: f32, y: f32) -> f32
 }
 
 fn scale(d: f32) -> f32
-    ensures { result ≡ normalizingScale d }
+    ensures { result ≡ normalizing_scale d }
 {
     if float::constants::NEGLIGIBLE < d {
         float::sqrt(2.0) / d
@@ -60,7 +60,7 @@ fn scale(d: f32) -> f32
 
 // The matrix that centres and scales the four points p.
 fn normalization(p: [PlanePoint; 4]) -> [[f32; 3]; 3]
-    ensures { result ≡ normalizationOf p }
+    ensures { result ≡ normalization_of p }
 {
     let x = mean(p[0].x, p[1].x, p[2].x, p[3].x);
     let y = mean(p[0].y, p[1].y, p[2].y, p[3].y);
@@ -69,7 +69,7 @@ fn normalization(p: [PlanePoint; 4]) -> [[f32; 3]; 3]
 }
 
 fn moved(t: [[f32; 3]; 3], p: PlanePoint) -> PlanePoint
-    ensures { result ≡ movedBy t p }
+    ensures { result ≡ moved_by t p }
 {
     PlanePoint {
         x: matrix::row_times(t, 0, p.x, p.y),
@@ -78,7 +78,7 @@ fn moved(t: [[f32; 3]; 3], p: PlanePoint) -> PlanePoint
 }
 
 fn normalized(t: [[f32; 3]; 3], p: [PlanePoint; 4]) -> [PlanePoint; 4]
-    ensures { result ≡ normalizedBy t p }
+    ensures { result ≡ normalized_by t p }
 {
     [
         moved(t, p[0]),
@@ -89,13 +89,13 @@ fn normalized(t: [[f32; 3]; 3], p: [PlanePoint; 4]) -> [PlanePoint; 4]
 }
 
 fn equation_u(p: PlanePoint, q: PlanePoint) -> [f32; 8]
-    ensures { result ≡ equationU p q }
+    ensures { result ≡ equation_u p q }
 {
     [p.x, p.y, 1.0, 0.0, 0.0, 0.0, (-q.x) * p.x, (-q.x) * p.y]
 }
 
 fn equation_v(p: PlanePoint, q: PlanePoint) -> [f32; 8]
-    ensures { result ≡ equationV p q }
+    ensures { result ≡ equation_v p q }
 {
     [0.0, 0.0, 0.0, p.x, p.y, 1.0, (-q.y) * p.x, (-q.y) * p.y]
 }
@@ -116,7 +116,7 @@ fn equations(p: [PlanePoint; 4], q: [PlanePoint; 4]) -> [[f32; 8]; 8]
 }
 
 fn right_side(q: [PlanePoint; 4]) -> [f32; 8]
-    ensures { result ≡ rightSide q }
+    ensures { result ≡ right_side q }
 {
     [
         q[0].x, q[0].y, q[1].x, q[1].y, q[2].x, q[2].y, q[3].x, q[3].y,
@@ -124,14 +124,14 @@ fn right_side(q: [PlanePoint; 4]) -> [f32; 8]
 }
 
 fn matrix_of(x: [f32; 8]) -> [[f32; 3]; 3]
-    ensures { result ≡ matrixOf x }
+    ensures { result ≡ matrix_of x }
 {
     [[x[0], x[1], x[2]], [x[3], x[4], x[5]], [x[6], x[7], 1.0]]
 }
 
 // The map m with each entry over its last.
 fn normalize_homography(m: [[f32; 3]; 3]) -> HomographyFit
-    ensures { result ≡ normalizedMap m }
+    ensures { result ≡ normalized_map m }
 {
     let s = m[2][2];
     if float::abs(s) < float::constants::NEGLIGIBLE {
@@ -152,7 +152,7 @@ fn normalize_homography(m: [[f32; 3]; 3]) -> HomographyFit
 
 // The scalings s and d taken back from the map m between the scaled points.
 fn denormalize_homography(m: [[f32; 3]; 3], s: [[f32; 3]; 3], d: [[f32; 3]; 3]) -> HomographyFit
-    ensures { result ≡ denormalizedMap m s d }
+    ensures { result ≡ denormalized_map m s d }
 {
     let det = matrix::determinant(d);
     if det == 0.0 {
@@ -163,7 +163,7 @@ fn denormalize_homography(m: [[f32; 3]; 3], s: [[f32; 3]; 3], d: [[f32; 3]; 3]) 
 
 // The map that takes the four points p to the four points q.
 pub fn homography_from_4pt(p: [PlanePoint; 4], q: [PlanePoint; 4]) -> HomographyFit
-    ensures { result ≡ homographyFrom4pt p q }
+    ensures { result ≡ homography_from4pt p q }
 {
     let s = normalization(p);
     let d = normalization(q);
@@ -179,7 +179,7 @@ pub fn homography_from_4pt(p: [PlanePoint; 4], q: [PlanePoint; 4]) -> Homography
 
 // Where the map h takes p.
 pub fn apply(h: Homography, p: PlanePoint) -> PlanePoint
-    ensures { result ≡ appliedTo h p }
+    ensures { result ≡ applied_to h p }
 {
     let w = h.h20 * p.x + h.h21 * p.y + h.h22 * 1.0;
     PlanePoint {

@@ -11,45 +11,45 @@ use borrow.Author.Tests.{eqb-true, eq-eqb, ltb-true}
 use Rattle.folds.specs.Below.{every}
 use Rattle.folds.proofs.Below.{every-at, and-under, and_left, and_right}
 use Rattle.cells.specs.Points.{Point, nowhere}
-use Rattle.cells.specs.Cell.{Cell, within, cell_of, moved, joinedBy}
+use Rattle.cells.specs.Cell.{Cell, within, cell_of, moved, joined_by}
 use Rattle.sheet_file.specs.declared.Settings.{Settings}
 use Rattle.ruling.specs.Offset.{StaysInRange}
 use Rattle.patches.specs.Reach.{Reach, here, step}
 use Rattle.components.specs.WholePatches.{WholePatch}
-use Rattle.drop_set.specs.Filters.{sidesOf}
-use Rattle.judging.specs.Judging.{judgedFor}
-use Rattle.promises.specs.Words.{DistinctIndices, otherMark, marksIn, survivor, joined, keptRank}
-use Rattle.instances.specs.Files.{marksOf}
+use Rattle.drop_set.specs.Filters.{sides_of}
+use Rattle.judging.specs.Judging.{judged_for}
+use Rattle.promises.specs.Words.{DistinctIndices, other_mark, marks_in, survivor, joined, kept_rank}
+use Rattle.instances.specs.Files.{marks_of}
 
 -- ---- the conditions
 
 -- every pair of k below n passes a test
-abbrev everyPair : (ℕ → ℕ → Bool) → ℕ → Bool
-everyPair t n = every (λ (i : ℕ). every (t i) n) n
+abbrev every_pair : (ℕ → ℕ → Bool) → ℕ → Bool
+every_pair t n = every (λ (i : ℕ). every (t i) n) n
 
-pair-at : (t : ℕ → ℕ → Bool) (n : ℕ) → everyPair t n ≡ true → (i j : ℕ) → i < n → j < n → t i j ≡ true
+pair-at : (t : ℕ → ℕ → Bool) (n : ℕ) → every_pair t n ≡ true → (i j : ℕ) → i < n → j < n → t i j ≡ true
 pair-at t n e i j hi hj = every-at (t i) n (every-at (λ (i : ℕ). every (t i) n) n e i hi) j hj
 
 -- two ranks are one, or have two indices
-abbrev ownIndex : List Point → ℕ → ℕ → Bool
-ownIndex ps i j = eqb i j || not (eqb (get_or ps i nowhere).index (get_or ps j nowhere).index)
+abbrev own_index : List Point → ℕ → ℕ → Bool
+own_index ps i j = eqb i j || not (eqb (get_or ps i nowhere).index (get_or ps j nowhere).index)
 
-pub distinct-by : (ps : List Point) → everyPair (ownIndex ps) (length ps) ≡ true → DistinctIndices ps
+pub distinct-by : (ps : List Point) → every_pair (own_index ps) (length ps) ≡ true → DistinctIndices ps
 distinct-by ps e i j hi hj same =
-    eqb-true i j (go (eqb i j) (rw (eq-eqb (get_or ps i nowhere).index (get_or ps j nowhere).index same) at (pair-at (ownIndex ps) (length ps) e i j hi hj)))
+    eqb-true i j (go (eqb i j) (rw (eq-eqb (get_or ps i nowhere).index (get_or ps j nowhere).index same) at (pair-at (own_index ps) (length ps) e i j hi hj)))
   where
     go : (b : Bool) → b || false ≡ true → b ≡ true
     go true t = refl
     go false t = t
 
 -- each moved cell passes the test of range
-abbrev rangeHolds : Cell → Bool
-rangeHolds c = within c.u && within c.v
+abbrev range_holds : Cell → Bool
+range_holds c = within c.u && within c.v
 
-pub in-range-by : (a b : ℤ) (ps : List Point) → every (λ (k : ℕ). rangeHolds (moved a b (cell_of (get_or ps k nowhere)))) (length ps) ≡ true → StaysInRange a b ps
+pub in-range-by : (a b : ℤ) (ps : List Point) → every (λ (k : ℕ). range_holds (moved a b (cell_of (get_or ps k nowhere)))) (length ps) ≡ true → StaysInRange a b ps
 in-range-by a b ps e k h =
     let c = moved a b (cell_of (get_or ps k nowhere)) in
-    let both = every-at (λ (k : ℕ). rangeHolds (moved a b (cell_of (get_or ps k nowhere)))) (length ps) e k h in
+    let both = every-at (λ (k : ℕ). range_holds (moved a b (cell_of (get_or ps k nowhere)))) (length ps) e k h in
     record { u = and_left (within c.u) (within c.v) both; v = and_right (within c.u) (within c.v) both }
 
 -- ---- what is reached
@@ -62,44 +62,44 @@ stays W h f (step {b} {c} r t) = f b c (stays W h f r) t
 
 -- ---- the words of the promises, from the marks
 
-module _ (s : Settings) (ps : List Point) (m : List ℕ) (e : marksOf s ps ≡ m) where
+module _ (s : Settings) (ps : List Point) (m : List ℕ) (e : marks_of s ps ≡ m) where
   abbrev n : ℕ
   n = length ps
 
-  pub marks-are : (k : ℕ) → k < n → marksIn s ps k ≡ get_or m k 0
-  marks-are k h = sym (get_or-take n (judgedFor s ps).marks k 0 h) ∙ ap (λ (l : List ℕ). get_or l k 0) e
+  pub marks-are : (k : ℕ) → k < n → marks_in s ps k ≡ get_or m k 0
+  marks-are k h = sym (get_or-take n (judged_for s ps).marks k 0 h) ∙ ap (λ (l : List ℕ). get_or l k 0) e
 
   abbrev pub alive : ℕ → Bool
-  alive k = ltb k n && not (otherMark (get_or m k 0))
+  alive k = ltb k n && not (other_mark (get_or m k 0))
 
   abbrev touching : ℕ → ℕ → Bool
-  touching a b = joinedBy (sidesOf s) (cell_of (get_or ps a nowhere)) (cell_of (get_or ps b nowhere))
+  touching a b = joined_by (sides_of s) (cell_of (get_or ps a nowhere)) (cell_of (get_or ps b nowhere))
 
   abbrev pub link : ℕ → ℕ → Bool
   link a b = alive a && (alive b && touching a b)
 
   pub alive-is : survivor s ps ≡ alive
-  alive-is = fun_ext (λ (k : ℕ). and-under (ltb k n) (λ t. ap (λ (b : ℕ). not (otherMark b)) (marks-are k (ltb-true k n t))))
+  alive-is = fun_ext (λ (k : ℕ). and-under (ltb k n) (λ t. ap (λ (b : ℕ). not (other_mark b)) (marks-are k (ltb-true k n t))))
 
   pub link-is : joined s ps ≡ link
   link-is = fun_ext (λ (a : ℕ). fun_ext (λ (b : ℕ). ap (λ (f : ℕ → Bool). f a && (f b && touching a b)) alive-is))
 
-  pub kept-is : keptRank s ps ≡ λ (k : ℕ). ltb k n && eqb (get_or m k 0) 0
+  pub kept-is : kept_rank s ps ≡ λ (k : ℕ). ltb k n && eqb (get_or m k 0) 0
   kept-is = fun_ext (λ (k : ℕ). and-under (ltb k n) (λ t. ap (λ (b : ℕ). eqb b 0) (marks-are k (ltb-true k n t))))
 
   -- no link leaves W, by a test of all pairs
-  abbrev leadsIn : (ℕ → Bool) → ℕ → ℕ → Bool
-  leadsIn W b c = not (W b && link b c) || W c
+  abbrev leads_in : (ℕ → Bool) → ℕ → ℕ → Bool
+  leads_in W b c = not (W b && link b c) || W c
 
   abbrev pub closed : (ℕ → Bool) → Bool
-  closed W = everyPair (leadsIn W) n
+  closed W = every_pair (leads_in W) n
 
   stays-in : (W : ℕ → Bool) → closed W ≡ true → (b c : ℕ) → W b ≡ true → link b c ≡ true → W c ≡ true
   stays-in W h b c w t =
-      let lb = ltb-true b n (and_left (ltb b n) (not (otherMark (get_or m b 0))) (and_left (alive b) (alive c && touching b c) t)) in
+      let lb = ltb-true b n (and_left (ltb b n) (not (other_mark (get_or m b 0))) (and_left (alive b) (alive c && touching b c) t)) in
       let rest = and_left (alive c) (touching b c) (and_right (alive b) (alive c && touching b c) t) in
-      let lc = ltb-true c n (and_left (ltb c n) (not (otherMark (get_or m c 0))) rest) in
-      go (W b) (link b c) w t (pair-at (leadsIn W) n h b c lb lc)
+      let lc = ltb-true c n (and_left (ltb c n) (not (other_mark (get_or m c 0))) rest) in
+      go (W b) (link b c) w t (pair-at (leads_in W) n h b c lb lc)
     where
       go : (x y : Bool) → x ≡ true → y ≡ true → not (x && y) || W c ≡ true → W c ≡ true
       go true true p q r = r

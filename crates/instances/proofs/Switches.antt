@@ -16,28 +16,28 @@ use Rattle.folds.proofs.Below.{every-at}
 use Rattle.cells.specs.Points.{Point}
 use Rattle.sheet_file.specs.Bytes.{Bytes, byte_at}
 use Rattle.sheet_file.specs.Frame.{layout_of}
-use Rattle.sheet_file.specs.Refusals.{defaultsFor, settingsIn, gateIn, noFlag}
+use Rattle.sheet_file.specs.Refusals.{defaults_for, settings_in, gate_in, no_flag}
 use Rattle.sheet_file.specs.declared.EdgeGate.TheVariants.{On}
 use Rattle.sheet_file.specs.declared.Fraction.TheVariants.{Missing}
 use Rattle.sheet_file.specs.declared.Settings.{Settings}
-use Rattle.edge_shape.specs.Figures.{indexFigures}
-use Rattle.ruling.specs.Ruling.{accepted, rulingOf}
+use Rattle.edge_shape.specs.Figures.{index_figures}
+use Rattle.ruling.specs.Ruling.{accepted, ruling_of}
 use Rattle.ruling.specs.Switches.{Switched, switched}
 use Rattle.ruling.proofs.Switches.{switches}
-use Rattle.ruling.proofs.Weights.{bytes-by, sameByte}
+use Rattle.ruling.proofs.Weights.{bytes-by, same_byte}
 use Rattle.promises.specs.Promises.{SameRowBits}
 use Rattle.promises.proofs.Theorems.{switched-rows}
 use Rattle.stars.specs.Stars.{rules-compute}
 use Rattle.stars.specs.Listed.{file-computes}
-use Rattle.instances.specs.Files.{point, gatedFile, marksOf}
+use Rattle.instances.specs.Files.{point, gated_file, marks_of}
 
 -- another file with other switches, by a test of its bytes before them and after
-pub switched-by : (file other : List ℕ) → length other ≡ length file → every (sameByte file other) 22 ≡ true → drop 24 other ≡ drop 24 file → noFlag (byte_at other 22) ≡ false
-    → noFlag (byte_at other 23) ≡ false → Switched file other
+pub switched-by : (file other : List ℕ) → length other ≡ length file → every (same_byte file other) 22 ≡ true → drop 24 other ≡ drop 24 file → no_flag (byte_at other 22) ≡ false
+    → no_flag (byte_at other 23) ≡ false → Switched file other
 switched-by file other size before after f g = record { size = size; rest = same; first = f; second = g }
   where
     same : (k : ℕ) → (k < 22) ⊎ (24 ≤ k) → get_or other k 0 ≡ get_or file k 0
-    same k (inl h) = eqb-true (get_or other k 0) (get_or file k 0) (every-at (sameByte file other) 22 before k h)
+    same k (inl h) = eqb-true (get_or other k 0) (get_or file k 0) (every-at (same_byte file other) 22 before k h)
     same k (inr h) =
         let e : 24 + (k - 24) ≡ k = omega arith in
         rw e at (sym (get_or-drop 24 other (k - 24) 0) ∙ ap (λ (l : List ℕ). get_or l (k - 24) 0) after ∙ get_or-drop 24 file (k - 24) 0)
@@ -55,14 +55,14 @@ points =
 
 -- cell size 100, minimum degree 1: with both switches, and without the wrong-label switch
 abbrev both : List ℕ
-both = gatedFile 0x42C8_0000 1 1 1 points
+both = gated_file 0x42C8_0000 1 1 1 points
 
-abbrev largestOnly : List ℕ
-largestOnly = gatedFile 0x42C8_0000 0 1 1 points
+abbrev largest_only : List ℕ
+largest_only = gated_file 0x42C8_0000 0 1 1 points
 
 abbrev settings : Settings
 settings =
-    defaultsFor (f32 0x42C8_0000)
+    defaults_for (f32 0x42C8_0000)
     (On
     (record {
       min_cardinal_degree = 1;
@@ -73,19 +73,19 @@ settings =
     }))
     Missing
 
-pub both-accepted : rulingOf both 308 ≡ accepted settings points
-unfolding file-computes rules-compute settingsIn gateIn
+pub both-accepted : ruling_of both 308 ≡ accepted settings points
+unfolding file-computes rules-compute settings_in gate_in
 both-accepted = refl
 
 -- the corners have the orientation mark, the near pair the wrong-label mark, and the last point the validate mark
-pub both-marks : marksOf settings points ≡ 2 ∷ 2 ∷ 2 ∷ 2 ∷ 2 ∷ 2 ∷ 4 ∷ 4 ∷ 0 ∷ 0 ∷ 1 ∷ []
-unfolding rules-compute indexFigures
+pub both-marks : marks_of settings points ≡ 2 ∷ 2 ∷ 2 ∷ 2 ∷ 2 ∷ 2 ∷ 4 ∷ 4 ∷ 0 ∷ 0 ∷ 1 ∷ []
+unfolding rules-compute index_figures
 both-marks = refl
 
 -- the other switches, and nothing else
-is-switched : Switched both largestOnly
+is-switched : Switched both largest_only
 unfolding every
-is-switched = switched-by both largestOnly refl refl refl refl refl
+is-switched = switched-by both largest_only refl refl refl refl refl
 
 long : (layout_of both).full ≡ true
 unfolding file-computes
@@ -94,14 +94,14 @@ long = refl
 both_bytes : Bytes both
 both_bytes = bytes-by both refl
 
-pub largest-only-accepted : rulingOf largestOnly 308 ≡ accepted (switched settings 0 1) points
-largest-only-accepted = switches both largestOnly is-switched long 308 settings points both-accepted
+pub largest-only-accepted : ruling_of largest_only 308 ≡ accepted (switched settings 0 1) points
+largest-only-accepted = switches both largest_only is-switched long 308 settings points both-accepted
 
 -- the near pair is no longer marked, so the other pair, a patch of as many points, has the component mark; bits 0 and 1 stay
-pub largest-only-marks : marksOf (switched settings 0 1) points ≡ 2 ∷ 2 ∷ 2 ∷ 2 ∷ 2 ∷ 2 ∷ 0 ∷ 0 ∷ 8 ∷ 8 ∷ 1 ∷ []
-unfolding rules-compute indexFigures
+pub largest-only-marks : marks_of (switched settings 0 1) points ≡ 2 ∷ 2 ∷ 2 ∷ 2 ∷ 2 ∷ 2 ∷ 0 ∷ 0 ∷ 8 ∷ 8 ∷ 1 ∷ []
+unfolding rules-compute index_figures
 largest-only-marks = refl
 
 -- what the promise says of it: the validate and orientation bits of all eleven rows stay
-pub same_bits : (buffer : List ℕ) → length buffer ≡ 308 → SameRowBits both largestOnly buffer 11
-same_bits buffer e = switched-rows both largestOnly buffer both_bytes is-switched long settings points (rw e both-accepted)
+pub same_bits : (buffer : List ℕ) → length buffer ≡ 308 → SameRowBits both largest_only buffer 11
+same_bits buffer e = switched-rows both largest_only buffer both_bytes is-switched long settings points (rw e both-accepted)

@@ -2,7 +2,7 @@
 use Rattle.std.specs.Prelude.{List, ℕ, Float}
 use Rattle.edge_shape.specs.declared.Figures.{Figures}
 use Rattle.judged.specs.declared.Findings.{Findings}
-use Rattle.judged.specs.Columns.{figuresIn}
+use Rattle.judged.specs.Columns.{figures_in}
 
 pub record Judged : Type 0 where
   -- the byte of marks of each rank's index
@@ -21,9 +21,9 @@ pub record Judged : Type 0 where
   pub boundary : List ℕ
 
 -- as the code holds it
-unfoldable pub judgedFrom : Findings → List ℕ → List Float → Judged
-unfolding figuresIn
-judgedFrom f counts measures =
+unfoldable pub judged_from : Findings → List ℕ → List Float → Judged
+unfolding figures_in
+judged_from f counts measures =
     record {
       marks = f.marks;
       components = f.components;
@@ -31,6 +31,6 @@ judgedFrom f counts measures =
       tally = f.tally;
       has = f.has;
       value = f.value;
-      figures = figuresIn counts measures;
+      figures = figures_in counts measures;
       boundary = f.boundary;
     }

@@ -2,7 +2,7 @@
 use Rattle.std.specs.Prelude.{cond, ℕ, eqb, get_or, Float}
 use Rattle.std.proofs.Math.Option.{Option, none, some}
 use Rattle.std.specs.Float.{nan}
-use Rattle.edge_shape.specs.Figures.{noFigures}
+use Rattle.edge_shape.specs.Figures.{no_figures}
 use Rattle.edge_shape.specs.declared.Figures.{Figures}
 use Rattle.judged.specs.Judged.{Judged}
 
@@ -14,15 +14,15 @@ pub record Shown : Type 0 where
   pub boundary : ℕ
 
 -- a residual is there where `has` is 1
-abbrev pub residualOf : ℕ → Float → Option Float
-residualOf has value = cond (eqb has 1) (some value) none
+abbrev pub residual_of : ℕ → Float → Option Float
+residual_of has value = cond (eqb has 1) (some value) none
 
 -- of rank k
-unfoldable pub shownAt : Judged → ℕ → Shown
-shownAt j k =
+unfoldable pub shown_at : Judged → ℕ → Shown
+shown_at j k =
     record {
       marks = get_or j.marks k 0;
-      residual = residualOf (get_or j.has k 0) (get_or j.value k nan);
-      figures = get_or j.figures k noFigures;
+      residual = residual_of (get_or j.has k 0) (get_or j.value k nan);
+      figures = get_or j.figures k no_figures;
       boundary = get_or j.boundary k 0;
     }

@@ -1,10 +1,10 @@
 // The edge figures of all points, in two tables that the caller lends. How they are read stands in specs/Columns.antt.
 ghost use Rattle.std.specs.Prelude.{◌≡◌, ◌<◌};
 ghost use Rattle.folds.specs.Marked.{bit};
-ghost use Rattle.view.specs.View.{viewAt, maxPoints};
-ghost use Rattle.edge_shape.specs.Figures.{indexFigures};
+ghost use Rattle.view.specs.View.{view_at, max_points};
+ghost use Rattle.edge_shape.specs.Figures.{index_figures};
 ghost use Rattle.edge_shape.specs.Given.{WithEdges};
-ghost use Rattle.judged.specs.Columns.{Blank, Sized, FiguresPut, is_held, cosineIn, ratioIn, measureOf, reasonWith, reasonFrom, figuresFrom, figuresIn};
+ghost use Rattle.judged.specs.Columns.{Blank, Sized, FiguresPut, is_held, cosine_in, ratio_in, measure_of, reason_with, reason_from, figures_from, figures_in};
 
 use edge_shape::{Figures, Measure, Reason};
 use edges::Edges;
@@ -34,7 +34,7 @@ fn held(m: Measure) -> u8
 }
 
 fn cosine(m: Measure) -> f32
-    ensures { result ≡ cosineIn m }
+    ensures { result ≡ cosine_in m }
 {
     match m {
         Measure::Absent => 0.0,
@@ -43,7 +43,7 @@ fn cosine(m: Measure) -> f32
 }
 
 fn ratio(m: Measure) -> f32
-    ensures { result ≡ ratioIn m }
+    ensures { result ≡ ratio_in m }
 {
     match m {
         Measure::Absent => 0.0,
@@ -53,7 +53,7 @@ fn ratio(m: Measure) -> f32
 
 // Puts the figures of rank k into the tables.
 fn put_figures(f: Figures, k: usize, counts: &mut FigureCounts, measures: &mut FigureMeasures)
-    requires { (k < maxPoints) × Sized counts.old measures.old }
+    requires { (k < max_points) × Sized counts.old measures.old }
     ensures { FiguresPut f k counts.old measures.old counts.new measures.new }
 {
     let reason = f.reason;
@@ -83,7 +83,7 @@ pub fn evaluate_edge_shape(
     measures: &mut FigureMeasures,
 )
     requires { WithEdges n ranks.now x.now y.now edges.now × Blank counts.old measures.old }
-    ensures { figuresIn counts.new measures.new ≡ indexFigures g (viewAt n ranks.now x.now y.now) }
+    ensures { figures_in counts.new measures.new ≡ index_figures g (view_at n ranks.now x.now y.now) }
 {
     let mut k: usize = 0;
     while k < n {
@@ -97,7 +97,7 @@ pub fn evaluate_edge_shape(
 
 // The measure with this cosine and ratio, if held is 1.
 fn measure_of(held: u8, cosine: f32, ratio: f32) -> Measure
-    ensures { result ≡ measureOf held cosine ratio }
+    ensures { result ≡ measure_of held cosine ratio }
 {
     if held == 1 {
         return Measure::Held(cosine, ratio);
@@ -107,7 +107,7 @@ fn measure_of(held: u8, cosine: f32, ratio: f32) -> Measure
 
 // The reason with this number.
 fn reason_with(number: u8) -> Reason
-    ensures { result ≡ reasonWith number }
+    ensures { result ≡ reason_with number }
 {
     match number {
         1 => Reason::LowCardinalDegree,
@@ -119,16 +119,16 @@ fn reason_with(number: u8) -> Reason
 
 // The reason that the table holds for rank k.
 pub fn reason_from(counts: &FigureCounts, k: usize) -> Reason
-    requires { k < maxPoints }
-    ensures { result ≡ reasonFrom counts.now k }
+    requires { k < max_points }
+    ensures { result ≡ reason_from counts.now k }
 {
     reason_with(counts[6 * k + 3])
 }
 
 // The figures that the tables hold for rank k.
 pub fn figures_from(counts: &FigureCounts, measures: &FigureMeasures, k: usize) -> Figures
-    requires { k < maxPoints }
-    ensures { result ≡ figuresFrom counts.now measures.now k }
+    requires { k < max_points }
+    ensures { result ≡ figures_from counts.now measures.now k }
 {
     Figures {
         degree: counts[6 * k],

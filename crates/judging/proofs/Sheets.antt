@@ -4,40 +4,40 @@ use mathlib.Core.Path.{◌≡◌, refl, sym, ap, ◌∙◌}
 use mathlib.Core.List.{List}
 use Prim.Native.Nat.{ℕ, ◌≤◌}
 use native.Mathlib.Omega.{arith}
-use Rattle.view.specs.View.{maxPoints, viewAt}
+use Rattle.view.specs.View.{max_points, view_at}
 use Rattle.cells.specs.Points.{Point}
-use Rattle.grid.specs.Tables.{ranksOf}
+use Rattle.grid.specs.Tables.{ranks_of}
 use Rattle.sheet_file.specs.Bytes.{Bytes}
 use Rattle.sheet_file.specs.declared.Settings.{Settings}
-use Rattle.ruling.specs.Ruling.{Ruling, refused, accepted, rulingOf}
+use Rattle.ruling.specs.Ruling.{Ruling, refused, accepted, ruling_of}
 use Rattle.ruling.specs.Sheet.{Ruled}
 use Rattle.ruling.specs.declared.Sheet.{Sheet}
 use Rattle.ruling.proofs.Given.{is-given, sheet-number}
 use Rattle.ruling.proofs.Standing.{Sound, sound}
-use Rattle.predict.specs.Fills.{fillsOf}
-use Rattle.drop_set.specs.Filters.{sidesOf}
-use Rattle.judging.specs.Judging.{Arrays, judgedBy, judgedFor, fillsFor}
+use Rattle.predict.specs.Fills.{fills_of}
+use Rattle.drop_set.specs.Filters.{sides_of}
+use Rattle.judging.specs.Judging.{Arrays, judged_by, judged_for, fills_for}
 use Rattle.judging.proofs.Laws.{arrays-ready, judged-for, fills-for}
 
 -- the ruling is of an accepted file, and the sheet is that of its points
 pub record AcceptedSheet (file : List ℕ) (room : ℕ) (r : Sheet) : Type 0 where
   pub settings : Settings
   pub points : List Point
-  pub ruled : rulingOf file room ≡ accepted settings points
+  pub ruled : ruling_of file room ≡ accepted settings points
   pub sheet : Ruled (accepted settings points) r
 
-pub accepted-sheet : (file : List ℕ) (room : ℕ) (r : Sheet) → Ruled (rulingOf file room) r → r.table.number ≡ 0 → AcceptedSheet file room r
-accepted-sheet file room r h z = go (rulingOf file room) refl h
+pub accepted-sheet : (file : List ℕ) (room : ℕ) (r : Sheet) → Ruled (ruling_of file room) r → r.table.number ≡ 0 → AcceptedSheet file room r
+accepted-sheet file room r h z = go (ruling_of file room) refl h
   where
-    go : (x : Ruling) → rulingOf file room ≡ x → Ruled x r → AcceptedSheet file room r
+    go : (x : Ruling) → ruling_of file room ≡ x → Ruled x r → AcceptedSheet file room r
     go (refused k) e h = absurd (omega (arith, z, h.table_is.number_is, (sheet-number k (is-given file room k e).listed).low))
     go (accepted s ps) e h = record { settings = s; points = ps; ruled = e; sheet = h }
 
 -- a number other than 0 is that of the refusal
-pub refused-sheet : (file : List ℕ) (room : ℕ) (r : Sheet) → Ruled (rulingOf file room) r → (r.table.number ≡ 0 → ⊥) → rulingOf file room ≡ refused r.table.number
-refused-sheet file room r h f = go (rulingOf file room) refl h
+pub refused-sheet : (file : List ℕ) (room : ℕ) (r : Sheet) → Ruled (ruling_of file room) r → (r.table.number ≡ 0 → ⊥) → ruling_of file room ≡ refused r.table.number
+refused-sheet file room r h f = go (ruling_of file room) refl h
   where
-    go : (x : Ruling) → rulingOf file room ≡ x → Ruled x r → rulingOf file room ≡ refused r.table.number
+    go : (x : Ruling) → ruling_of file room ≡ x → Ruled x r → ruling_of file room ≡ refused r.table.number
     go (refused k) e h = e ∙ ap refused (sym h.table_is.number_is)
     go (accepted s ps) e h = absurd (f h.table_is.number_is)
 
@@ -48,16 +48,16 @@ module _ (file : List ℕ) (room : ℕ) (r : Sheet) (bytes : Bytes file) (o : Ac
   pub sheet-arrays : Arrays r.count r.table.keys r.table.x r.table.y r.table.strength
   sheet-arrays = arrays-ready o.points standing.order standing.limits standing.strengths r.count 0 r.table o.sheet.count-is o.sheet.table_is
 
-  pub sheet-judged : judgedBy r.settings r.count r.table.keys r.table.idx r.table.x r.table.y r.table.strength ≡ judgedFor o.settings o.points
+  pub sheet-judged : judged_by r.settings r.count r.table.keys r.table.idx r.table.x r.table.y r.table.strength ≡ judged_for o.settings o.points
   sheet-judged =
-      ap (λ (s : Settings). judgedBy s r.count r.table.keys r.table.idx r.table.x r.table.y r.table.strength) o.sheet.settings-are
+      ap (λ (s : Settings). judged_by s r.count r.table.keys r.table.idx r.table.x r.table.y r.table.strength) o.sheet.settings-are
       ∙ judged-for o.points standing.order standing.limits standing.strengths r.count 0 r.table o.sheet.count-is o.sheet.table_is o.settings
 
   -- with the table of ranks
-  module _ {ranks : List ℕ} (e : ranks ≡ ranksOf r.count r.table.keys r.table.idx) where
-    pub sheet-fills : {marks : List ℕ} → marks ≡ (judgedFor o.settings o.points).marks
-        → fillsOf (viewAt r.count ranks r.table.x r.table.y) (sidesOf r.settings) marks ≡ fillsFor o.settings o.points
+  module _ {ranks : List ℕ} (e : ranks ≡ ranks_of r.count r.table.keys r.table.idx) where
+    pub sheet-fills : {marks : List ℕ} → marks ≡ (judged_for o.settings o.points).marks
+        → fills_of (view_at r.count ranks r.table.x r.table.y) (sides_of r.settings) marks ≡ fills_for o.settings o.points
     sheet-fills m = rw e (fills-for o.points standing.order standing.limits standing.strengths r.count 0 r.table o.sheet.count-is o.sheet.table_is o.settings m)
 
-  pub sheet-few : r.count ≤ maxPoints
+  pub sheet-few : r.count ≤ max_points
   sheet-few = rw o.sheet.count-is standing.order.few

@@ -1,25 +1,25 @@
 -- The judged sheet of a list of points in cell order with settings. Assumes nothing.
 use Rattle.std.specs.Prelude.{List, ℕ, Float}
-use Rattle.view.specs.View.{viewAt, Finite}
-use Rattle.cells.specs.Points.{Point, strengthsOf}
-use Rattle.cells.specs.Cell.{cellsAt, cells_of}
-use Rattle.grid.specs.Tables.{Keys, ranksOf}
+use Rattle.view.specs.View.{view_at, Finite}
+use Rattle.cells.specs.Points.{Point, strengths_of}
+use Rattle.cells.specs.Cell.{cells_at, cells_of}
+use Rattle.grid.specs.Tables.{Keys, ranks_of}
 use Rattle.grid.specs.Views.{view_of}
 use Rattle.sheet_file.specs.declared.Settings.{Settings}
-use Rattle.predict.specs.Fills.{fillsOf}
+use Rattle.predict.specs.Fills.{fills_of}
 use Rattle.predict.specs.declared.Prediction.{Prediction}
-use Rattle.drop_set.specs.Filters.{sidesOf, judgedOf}
+use Rattle.drop_set.specs.Filters.{sides_of, judged_of}
 use Rattle.judged.specs.Judged.{Judged}
 
 -- what the filters find of the points ps, which stand in cell order
-unfoldable pub judgedFor : Settings → List Point → Judged
-unfolding view_of judgedOf strengthsOf
-judgedFor s ps = judgedOf s (view_of ps) (cells_of ps) (strengthsOf ps)
+unfoldable pub judged_for : Settings → List Point → Judged
+unfolding view_of judged_of strengths_of
+judged_for s ps = judged_of s (view_of ps) (cells_of ps) (strengths_of ps)
 
 -- "For each dropped cell give the position `predict_grid_position` finds from the kept points": the fills of the points ps, by rank
-unfoldable pub fillsFor : Settings → List Point → List Prediction
-unfolding view_of judgedFor fillsOf
-fillsFor s ps = fillsOf (view_of ps) (sidesOf s) (judgedFor s ps).marks
+unfoldable pub fills_for : Settings → List Point → List Prediction
+unfolding view_of judged_for fills_of
+fills_for s ps = fills_of (view_of ps) (sides_of s) (judged_for s ps).marks
 
 -- ---- for the code: the same of arrays
 
@@ -30,5 +30,5 @@ pub record Arrays (n : ℕ) (keys : List ℕ) (xs ys strength : List Float) : Ty
   pub finite-y : Finite n ys
   pub finite-strength : Finite n strength
 
-abbrev pub judgedBy : Settings → ℕ → List ℕ → List ℕ → List Float → List Float → List Float → Judged
-judgedBy s n keys idx xs ys strength = judgedOf s (viewAt n (ranksOf n keys idx) xs ys) (cellsAt keys) strength
+abbrev pub judged_by : Settings → ℕ → List ℕ → List ℕ → List Float → List Float → List Float → Judged
+judged_by s n keys idx xs ys strength = judged_of s (view_at n (ranks_of n keys idx) xs ys) (cells_at keys) strength

@@ -2,15 +2,15 @@
 #![tactic(auto)]
 
 ghost use Rattle.std.specs.Prelude.{◌≡◌, ◌≤◌, replicate};
-ghost use Rattle.view.specs.View.{maxPoints, ranksSize, viewAt};
-ghost use Rattle.grid.specs.Tables.{ranksOf};
-ghost use Rattle.cells.specs.Cell.{cellsAt};
+ghost use Rattle.view.specs.View.{max_points, ranks_size, view_at};
+ghost use Rattle.grid.specs.Tables.{ranks_of};
+ghost use Rattle.cells.specs.Cell.{cells_at};
 ghost use Rattle.judged.specs.Columns.{Blank};
-ghost use Rattle.judged.specs.Judged.{judgedFrom};
-ghost use Rattle.predict.specs.Fills.{fillsOf};
-ghost use Rattle.drop_set.specs.Filters.{sidesOf, judgedOf};
+ghost use Rattle.judged.specs.Judged.{judged_from};
+ghost use Rattle.predict.specs.Fills.{fills_of};
+ghost use Rattle.drop_set.specs.Filters.{sides_of, judged_of};
 ghost use Rattle.drop_set.specs.Given.{Celled, Weighed};
-ghost use Rattle.judging.specs.Judging.{Arrays, judgedBy};
+ghost use Rattle.judging.specs.Judging.{Arrays, judged_by};
 
 use judged::Findings;
 use judged::figures::{FigureCounts, FigureMeasures};
@@ -38,7 +38,7 @@ pub fn judge_ranked<'a>(
     measures: &mut FigureMeasures,
 ) -> Findings
     requires { Celled t.count ranks.now keys.now x.now y.now × Weighed t.count ranks.now strength.now × Blank counts.old measures.old }
-    ensures { judgedFrom result counts.new measures.new ≡ judgedOf t.settings (viewAt t.count ranks.now x.now y.now) (cellsAt keys.now) strength.now }
+    ensures { judged_from result counts.new measures.new ≡ judged_of t.settings (view_at t.count ranks.now x.now y.now) (cells_at keys.now) strength.now }
 {
     let s = t.settings;
     let n = t.count;
@@ -73,7 +73,7 @@ pub fn judge<'a>(
     measures: &mut FigureMeasures,
 ) -> Findings
     requires { Arrays t.count keys.now x.now y.now strength.now × Blank counts.old measures.old }
-    ensures { judgedFrom result counts.new measures.new ≡ judgedBy t.settings t.count keys.now idx.now x.now y.now strength.now }
+    ensures { judged_from result counts.new measures.new ≡ judged_by t.settings t.count keys.now idx.now x.now y.now strength.now }
 {
     let mut ranks = [0u16; RANKS_SIZE];
     grid::fill(keys, idx, t.count, &mut ranks);
@@ -87,9 +87,9 @@ pub fn judge_sheet(
     counts: &mut FigureCounts,
     measures: &mut FigureMeasures,
 ) -> Findings
-    requires { Arrays sheet.count sheet.table.keys sheet.table.x sheet.table.y sheet.table.strength × (ranks.old ≡ replicate ranksSize 0) × Blank counts.old measures.old }
-    ensures ranks { ranks.new ≡ ranksOf sheet.count sheet.table.keys sheet.table.idx }
-    ensures judged { judgedFrom result counts.new measures.new ≡ judgedBy sheet.settings sheet.count sheet.table.keys sheet.table.idx sheet.table.x sheet.table.y sheet.table.strength }
+    requires { Arrays sheet.count sheet.table.keys sheet.table.x sheet.table.y sheet.table.strength × (ranks.old ≡ replicate ranks_size 0) × Blank counts.old measures.old }
+    ensures ranks { ranks.new ≡ ranks_of sheet.count sheet.table.keys sheet.table.idx }
+    ensures judged { judged_from result counts.new measures.new ≡ judged_by sheet.settings sheet.count sheet.table.keys sheet.table.idx sheet.table.x sheet.table.y sheet.table.strength }
 {
     let settings = sheet.settings;
     let n = sheet.count;
@@ -108,8 +108,8 @@ pub fn judge_sheet(
 
 // The fills of a judged sheet: what is predicted for each point with a mark.
 pub fn fills<'a>(t: Terms, ranks: &Ranks, x: &'a Floats, y: &'a Floats, marks: &Marks) -> Fills
-    requires { t.count ≤ maxPoints }
-    ensures { result ≡ fillsOf (viewAt t.count ranks.now x.now y.now) (sidesOf t.settings) marks.now }
+    requires { t.count ≤ max_points }
+    ensures { result ≡ fills_of (view_at t.count ranks.now x.now y.now) (sides_of t.settings) marks.now }
 {
     let sides = patches::square_sides();
     predict::fills(ranks, x, y, marks, &sides, t.count)

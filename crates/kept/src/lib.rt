@@ -2,9 +2,9 @@
 #![tactic(auto)]
 
 ghost use Rattle.std.specs.Prelude.{◌≡◌, length};
-ghost use Rattle.ruling.specs.Ruling.{rulingOf};
+ghost use Rattle.ruling.specs.Ruling.{ruling_of};
 ghost use Rattle.ruling.specs.Sheet.{Ruled};
-ghost use Rattle.kept.specs.Answer.{answer_of, keptOf, rowsAfter};
+ghost use Rattle.kept.specs.Answer.{answer_of, kept_of, rows_after};
 
 use judged::figures::{FIGURE_COUNTS_SIZE, FIGURE_MEASURES_SIZE};
 use judging::Terms;
@@ -33,9 +33,9 @@ pub struct Kept {
 
 // Writes the rows of a sheet that was read of a file, and gives the counts; or the number of a refusal, and writes nothing.
 fn keep_sheet(file: &[u8], sheet: Sheet, rows: &mut [u8]) -> Kept
-    requires { Ruled (rulingOf file.now (length rows.old)) sheet }
-    ensures answer { result ≡ keptOf file.now (length rows.old) }
-    ensures rows { rows.new ≡ rowsAfter file.now rows.old }
+    requires { Ruled (ruling_of file.now (length rows.old)) sheet }
+    ensures answer { result ≡ kept_of file.now (length rows.old) }
+    ensures rows { rows.new ≡ rows_after file.now rows.old }
 {
     let settings = sheet.settings;
     let n = sheet.count;
@@ -70,8 +70,8 @@ fn keep_sheet(file: &[u8], sheet: Sheet, rows: &mut [u8]) -> Kept
 
 // The call, with the tally: the rows of a sheet file's points, 28 bytes each, in cell order, and the counts; or the number of a refusal.
 pub fn keep_counted(file: &[u8], rows: &mut [u8]) -> Kept
-    ensures answer { result ≡ keptOf file.now (length rows.old) }
-    ensures rows { rows.new ≡ rowsAfter file.now rows.old }
+    ensures answer { result ≡ kept_of file.now (length rows.old) }
+    ensures rows { rows.new ≡ rows_after file.now rows.old }
 {
     let sheet = ruling::read(file, rows.len());
     keep_sheet(file, sheet, rows)
@@ -80,7 +80,7 @@ pub fn keep_counted(file: &[u8], rows: &mut [u8]) -> Kept
 // The call.
 pub fn keep(file: &[u8], rows: &mut [u8]) -> Answer
     ensures answer { result ≡ answer_of file.now (length rows.old) }
-    ensures rows { rows.new ≡ rowsAfter file.now rows.old }
+    ensures rows { rows.new ≡ rows_after file.now rows.old }
 {
     let k = keep_counted(file, rows);
     k.answer

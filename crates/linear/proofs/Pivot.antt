@@ -9,56 +9,56 @@ use native.Mathlib.Omega.{arith}
 use lib.Dec.{ltb}
 use lib.Ieee.{Float, lt, le}
 use borrow.Author.Tests.{lt-ltb, le-ltb}
-use Rattle.folds.specs.Below.{first, firstIn}
+use Rattle.folds.specs.Below.{first, first_in}
 use Rattle.folds.proofs.Below.{not-true, first_more, first-from}
 use Rattle.folds.specs.Run.{run, up_to}
 use Rattle.folds.proofs.Run.{run-keeps}
-use Rattle.float.specs.Scalar.{absOf, magnitudeOf}
+use Rattle.float.specs.Scalar.{abs_of, magnitude_of}
 use Rattle.float.proofs.Order.{below-through, not-below-itself, below-at-most}
 use Rattle.float.proofs.Signless.{by-magnitude}
 use Rattle.linear.specs.Rows.{entry}
-use Rattle.linear.specs.Linear.{largerThan, betterRow, nextLarger, pivotRow}
+use Rattle.linear.specs.Linear.{larger_than, better_row, next_larger, pivot_row}
 
 -- ---- the search by larger entries
 
-module _ (m : List (List Float)) (i best k : ℕ) {largest size : Float} (h : k < 8) (p : largest ≡ magnitudeOf (entry m best i)) (q : size ≡ magnitudeOf (entry m k i)) where
-  pub next-found : lt largest size ≡ true → k ≡ first (largerThan m i best) k 8
-  next-found e = sym (first_more (largerThan m i best) k 8 h ∙ rw (← by-magnitude (entry m best i) (entry m k i), ← p, ← q, e))
+module _ (m : List (List Float)) (i best k : ℕ) {largest size : Float} (h : k < 8) (p : largest ≡ magnitude_of (entry m best i)) (q : size ≡ magnitude_of (entry m k i)) where
+  pub next-found : lt largest size ≡ true → k ≡ first (larger_than m i best) k 8
+  next-found e = sym (first_more (larger_than m i best) k 8 h ∙ rw (← by-magnitude (entry m best i) (entry m k i), ← p, ← q, e))
 
-  pub next-passed : lt largest size ≡ false → first (largerThan m i best) (k + 1) 8 ≡ first (largerThan m i best) k 8
-  next-passed e = sym (first_more (largerThan m i best) k 8 h ∙ rw (← by-magnitude (entry m best i) (entry m k i), ← p, ← q, e))
+  pub next-passed : lt largest size ≡ false → first (larger_than m i best) (k + 1) 8 ≡ first (larger_than m i best) k 8
+  next-passed e = sym (first_more (larger_than m i best) k 8 h ∙ rw (← by-magnitude (entry m best i) (entry m k i), ← p, ← q, e))
 
 -- the pivot's row, where k is the next row with a larger entry than row best's, or 8
 abbrev pub searched : List (List Float) → ℕ → ℕ → ℕ → ℕ
-searched m i best k = cond (ltb k 8) (run (betterRow m i) (k + 1) 8 k) best
+searched m i best k = cond (ltb k 8) (run (better_row m i) (k + 1) 8 k) best
 
-upTo-next : (m : List (List Float)) (i best n from : ℕ) → from + n ≡ 8 → up_to (betterRow m i) n from best ≡ searched m i best (firstIn (largerThan m i best) n from)
-unfolding up_to firstIn betterRow run
-upTo-next m i best zero from e = sym (rw (le-ltb from 8 (omega arith)))
-upTo-next m i best (suc n) from e = go (largerThan m i best from) (upTo-next m i best n (from + 1) (omega arith))
+up_to-next : (m : List (List Float)) (i best n from : ℕ) → from + n ≡ 8 → up_to (better_row m i) n from best ≡ searched m i best (first_in (larger_than m i best) n from)
+unfolding up_to first_in better_row run
+up_to-next m i best zero from e = sym (rw (le-ltb from 8 (omega arith)))
+up_to-next m i best (suc n) from e = go (larger_than m i best from) (up_to-next m i best n (from + 1) (omega arith))
   where
-    go : (t : Bool) → up_to (betterRow m i) n (from + 1) best ≡ searched m i best (firstIn (largerThan m i best) n (from + 1))
-        → up_to (betterRow m i) n (from + 1) (cond t from best) ≡ searched m i best (cond t from (firstIn (largerThan m i best) n (from + 1)))
+    go : (t : Bool) → up_to (better_row m i) n (from + 1) best ≡ searched m i best (first_in (larger_than m i best) n (from + 1))
+        → up_to (better_row m i) n (from + 1) (cond t from best) ≡ searched m i best (cond t from (first_in (larger_than m i best) n (from + 1)))
     go true h = let l : n ≡ 8 - (from + 1) = omega arith in rw (lt-ltb from 8 (omega arith), l)
     go false h = h
 
-search-next : (m : List (List Float)) (i best from : ℕ) → from ≤ 8 → run (betterRow m i) from 8 best ≡ searched m i best (nextLarger m i best from)
-unfolding run nextLarger first
-search-next m i best from h = upTo-next m i best (8 - from) from (omega arith)
+search-next : (m : List (List Float)) (i best from : ℕ) → from ≤ 8 → run (better_row m i) from 8 best ≡ searched m i best (next_larger m i best from)
+unfolding run next_larger first
+search-next m i best from h = up_to-next m i best (8 - from) from (omega arith)
 
-pub search-starts : (m : List (List Float)) (i : ℕ) → i < 8 → searched m i i (nextLarger m i i (i + 1)) ≡ pivotRow m i
-unfolding pivotRow
+pub search-starts : (m : List (List Float)) (i : ℕ) → i < 8 → searched m i i (next_larger m i i (i + 1)) ≡ pivot_row m i
+unfolding pivot_row
 search-starts m i h = sym (search-next m i i (i + 1) (omega arith))
 
-pub search-goes-on : (m : List (List Float)) (i best k : ℕ) → k < 8 → searched m i k (nextLarger m i k (k + 1)) ≡ searched m i best k
+pub search-goes-on : (m : List (List Float)) (i best k : ℕ) → k < 8 → searched m i k (next_larger m i k (k + 1)) ≡ searched m i best k
 search-goes-on m i best k h = sym (rw (lt-ltb k 8 h) (search-next m i k (k + 1) (omega arith)))
 
 pub search-ends : (m : List (List Float)) (i best k : ℕ) → 8 ≤ k → searched m i best k ≡ best
 search-ends m i best k h = rw (le-ltb k 8 h)
 
-pub next-after : (m : List (List Float)) (i best from : ℕ) → from ≤ nextLarger m i best from
-unfolding nextLarger
-next-after m i best from = first-from (largerThan m i best) from 8
+pub next-after : (m : List (List Float)) (i best from : ℕ) → from ≤ next_larger m i best from
+unfolding next_larger
+next-after m i best from = first-from (larger_than m i best) from 8
 
 -- ---- the search
 
@@ -66,14 +66,14 @@ next-after m i best from = first-from (largerThan m i best) from 8
 pub record FirstLargest (value : ℕ → Float) (i n p : ℕ) : Type 0 where
   pub start : i ≤ p
   pub inside : p < n
-  pub largest : (k : ℕ) → i ≤ k → k < n → lt (absOf (value p)) (absOf (value k)) ≡ false
-  pub earliest : (k : ℕ) → i ≤ k → k < p → le (absOf (value p)) (absOf (value k)) ≡ false
+  pub largest : (k : ℕ) → i ≤ k → k < n → lt (abs_of (value p)) (abs_of (value k)) ≡ false
+  pub earliest : (k : ℕ) → i ≤ k → k < p → le (abs_of (value p)) (abs_of (value k)) ≡ false
 
 module _ (value : ℕ → Float) (i : ℕ) where
   alone : FirstLargest value i (i + 1) i
   alone = record { start = le_refl i; inside = omega arith; largest = λ k a b. let e : k ≡ i = omega arith in rw e (not-below-itself (value i)); earliest = λ k a b. absurd (omega arith) }
 
-  stays : (k p : ℕ) → FirstLargest value i k p → lt (absOf (value p)) (absOf (value k)) ≡ false → FirstLargest value i (k + 1) p
+  stays : (k p : ℕ) → FirstLargest value i k p → lt (abs_of (value p)) (abs_of (value k)) ≡ false → FirstLargest value i (k + 1) p
   stays k p f e = record {
     start = f.start;
     inside = omega (arith, f.inside);
@@ -82,30 +82,30 @@ module _ (value : ℕ → Float) (i : ℕ) where
   }
 
   -- what is at least as large as k's would be larger than p's
-  moves : (k p : ℕ) → FirstLargest value i k p → lt (absOf (value p)) (absOf (value k)) ≡ true → FirstLargest value i (k + 1) k
+  moves : (k p : ℕ) → FirstLargest value i k p → lt (abs_of (value p)) (abs_of (value k)) ≡ true → FirstLargest value i (k + 1) k
   moves k p f e = record {
     start = omega (arith, f.start, f.inside);
     inside = omega arith;
     largest = λ j a b.
         ⊎_elim (λ (q : j ≡ k). rw q (not-below-itself (value k)))
-        (λ (q : j < k). not-true (lt (absOf (value k)) (absOf (value j))) (λ t. smaller j a q (below-at-most (absOf (value k)) (absOf (value j)) t)))
+        (λ (q : j < k). not-true (lt (abs_of (value k)) (abs_of (value j))) (λ t. smaller j a q (below-at-most (abs_of (value k)) (abs_of (value j)) t)))
         (eq-or-lt_of_le (omega arith));
-    earliest = λ j a q. not-true (le (absOf (value k)) (absOf (value j))) (smaller j a q);
+    earliest = λ j a q. not-true (le (abs_of (value k)) (abs_of (value j))) (smaller j a q);
   }
     where
-      smaller : (j : ℕ) → i ≤ j → j < k → le (absOf (value k)) (absOf (value j)) ≡ true → ⊥
+      smaller : (j : ℕ) → i ≤ j → j < k → le (abs_of (value k)) (abs_of (value j)) ≡ true → ⊥
       smaller j a q t = true≢false (sym (below-through (value p) (value k) (value j) e t) ∙ f.largest j a q)
 
 -- "pivot of largest magnitude, first of equals"
-pub pivot-first-largest : (m : List (List Float)) (i : ℕ) → i < 8 → FirstLargest (λ (k : ℕ). entry m k i) i 8 (pivotRow m i)
-unfolding pivotRow betterRow
+pub pivot-first-largest : (m : List (List Float)) (i : ℕ) → i < 8 → FirstLargest (λ (k : ℕ). entry m k i) i 8 (pivot_row m i)
+unfolding pivot_row better_row
 pivot-first-largest m i h =
-    run-keeps (FirstLargest value i) (betterRow m i) (i + 1) 8 i (omega arith) (alone value i)
-    (λ k a b p f. go k p f (lt (absOf (value p)) (absOf (value k))) refl)
+    run-keeps (FirstLargest value i) (better_row m i) (i + 1) 8 i (omega arith) (alone value i)
+    (λ k a b p f. go k p f (lt (abs_of (value p)) (abs_of (value k))) refl)
   where
     value : ℕ → Float
     value k = entry m k i
 
-    go : (k p : ℕ) → FirstLargest value i k p → (t : Bool) → lt (absOf (value p)) (absOf (value k)) ≡ t → FirstLargest value i (k + 1) (cond t k p)
+    go : (k p : ℕ) → FirstLargest value i k p → (t : Bool) → lt (abs_of (value p)) (abs_of (value k)) ≡ t → FirstLargest value i (k + 1) (cond t k p)
     go k p f true e = moves value i k p f e
     go k p f false e = stays value i k p f e

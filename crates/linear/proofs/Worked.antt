@@ -6,7 +6,7 @@ use Prim.Native.Nat.{ℕ}
 use lib.IntN.{pos}
 use lib.Ieee.{Float, binary32, of_int, neg}
 use Rattle.folds.specs.Arith.{f32}
-use Rattle.linear.specs.Linear.{solutionOf, solution-computes}
+use Rattle.linear.specs.Linear.{solution_of, solution-computes}
 
 -- whole numbers, above and below 0
 abbrev p : ℕ → Float
@@ -27,7 +27,7 @@ dense =
     ∷ (n 3 ∷ n 3 ∷ n 4 ∷ n 1 ∷ p 3 ∷ p 5 ∷ n 3 ∷ p 9 ∷ [])
     ∷ []
 
-pub dense-solved : solutionOf dense (p 6 ∷ n 9 ∷ n 8 ∷ p 7 ∷ p 7 ∷ n 8 ∷ p 1 ∷ n 2 ∷ [])
+pub dense-solved : solution_of dense (p 6 ∷ n 9 ∷ n 8 ∷ p 7 ∷ p 7 ∷ n 8 ∷ p 1 ∷ n 2 ∷ [])
     ≡ (record { found = true; x = f32 0x4012_38CF ∷ f32 0x3F4E_7727 ∷ f32 0x3EC3_3BF8 ∷ f32 0xBF1B_3850 ∷ f32 0xBE32_FE41 ∷ f32 0x3F5F_F3B7 ∷ f32 0x3F0E_B231 ∷ f32 0x3F2B_190F ∷ [] })
 unfolding solution-computes of_int
 dense-solved = refl

@@ -6,13 +6,13 @@ use Rattle.std.specs.Float.{nan}
 abbrev pub entry_at : List Float → ℕ → Float
 entry_at row j = get_or row j nan
 
-abbrev pub matrixRow : List (List Float) → ℕ → List Float
-matrixRow m i = get_or m i []
+abbrev pub matrix_row : List (List Float) → ℕ → List Float
+matrix_row m i = get_or m i []
 
 -- entry j of row i
 abbrev pub entry : List (List Float) → ℕ → ℕ → Float
-entry m i j = entry_at (matrixRow m i) j
+entry m i j = entry_at (matrix_row m i) j
 
 -- m with x as entry j of row i
-abbrev pub withEntry : List (List Float) → ℕ → ℕ → Float → List (List Float)
-withEntry m i j x = set m i (set (matrixRow m i) j x)
+abbrev pub with_entry : List (List Float) → ℕ → ℕ → Float → List (List Float)
+with_entry m i j x = set m i (set (matrix_row m i) j x)

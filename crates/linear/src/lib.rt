@@ -4,7 +4,7 @@
 
 ghost use Rattle.std.specs.Prelude.{◌≡◌, ◌<◌, ◌≤◌};
 ghost use Rattle.folds.specs.Run.{run};
-ghost use Rattle.linear.specs.Linear.{nextLarger, pivotRow, reduceEntry, reduceRow, reduceRows, eliminateColumn, lessEntry, forwardBy, backwardBy, zeroDiagonal, substituted, solutionOf};
+ghost use Rattle.linear.specs.Linear.{next_larger, pivot_row, reduce_entry, reduce_row, reduce_rows, eliminate_column, less_entry, forward_by, backward_by, zero_diagonal, substituted, solution_of};
 
 // The solution x, where there is one.
 #[derive(Clone, Copy)]
@@ -16,7 +16,7 @@ pub struct Solution {
 // The first row from `from` on whose entry of column i is larger than that of row `best`, or 8.
 fn next_larger(m: &[[f32; 8]; 8], i: usize, best: usize, from: usize) -> usize
     requires { (i < 8) × (best < 8) }
-    ensures { result ≡ nextLarger m.now i best from }
+    ensures { result ≡ next_larger m.now i best from }
 {
     let largest = float::magnitude(m[best][i]);
     let mut k = from;
@@ -33,7 +33,7 @@ fn next_larger(m: &[[f32; 8]; 8], i: usize, best: usize, from: usize) -> usize
 // pivot's row is read without waiting for the comparisons.
 fn pivot_row(m: &[[f32; 8]; 8], i: usize) -> usize
     requires { i < 8 }
-    ensures { (result < 8) × (result ≡ pivotRow m.now i) }
+    ensures { (result < 8) × (result ≡ pivot_row m.now i) }
 {
     let mut best = i;
     let mut k = next_larger(m, i, best, i + 1);
@@ -47,7 +47,7 @@ fn pivot_row(m: &[[f32; 8]; 8], i: usize) -> usize
 // The entries of row k from `from` on and below `end`, each less t times that of the pivot's row p.
 fn reduce_entries(m: &mut [[f32; 8]; 8], p: &[f32; 8], k: usize, t: f32, from: usize, end: usize)
     requires { (k < 8) × (end ≤ 8) }
-    ensures { m.new ≡ run (reduceEntry p.now k t) from end m.old }
+    ensures { m.new ≡ run (reduce_entry p.now k t) from end m.old }
 {
     let mut j = from;
     while j < end {
@@ -60,7 +60,7 @@ fn reduce_entries(m: &mut [[f32; 8]; 8], p: &[f32; 8], k: usize, t: f32, from: u
 // the last four entries of a row are reduced by themselves, which is compiled to operations on four numbers at once.
 fn reduce_row(m: &mut [[f32; 8]; 8], p: &[f32; 8], i: usize, inverse: f32, k: usize)
     requires { (i < 8) × (k < 8) }
-    ensures { m.new ≡ reduceRow p.now i inverse k m.old }
+    ensures { m.new ≡ reduce_row p.now i inverse k m.old }
 {
     let t = m[k][i] * inverse;
     m[k][i] = t;
@@ -75,7 +75,7 @@ fn reduce_row(m: &mut [[f32; 8]; 8], p: &[f32; 8], i: usize, inverse: f32, k: us
 // The rows below row i.
 fn reduce_rows(m: &mut [[f32; 8]; 8], p: &[f32; 8], i: usize, inverse: f32)
     requires { i < 8 }
-    ensures { m.new ≡ reduceRows p.now i inverse m.old }
+    ensures { m.new ≡ reduce_rows p.now i inverse m.old }
 {
     let mut k = i + 1;
     while k < 8 {
@@ -87,7 +87,7 @@ fn reduce_rows(m: &mut [[f32; 8]; 8], p: &[f32; 8], i: usize, inverse: f32)
 // Column i: the pivot is searched, its row exchanged, and the rows below reduced. An all-zero column is passed over.
 fn eliminate(m: &mut [[f32; 8]; 8], y: &mut [f32; 8], i: usize)
     requires { i < 8 }
-    ensures { eliminateColumn i (record { rows = m.old; right = y.old }) ≡ record { rows = m.new; right = y.new } }
+    ensures { eliminate_column i (record { rows = m.old; right = y.old }) ≡ record { rows = m.new; right = y.new } }
 {
     let best = pivot_row(m, i);
     let pivot = m[best][i];
@@ -104,7 +104,7 @@ fn eliminate(m: &mut [[f32; 8]; 8], y: &mut [f32; 8], i: usize)
 }
 
 fn zero_diagonal(m: [[f32; 8]; 8]) -> bool
-    ensures { result ≡ zeroDiagonal m }
+    ensures { result ≡ zero_diagonal m }
 {
     let mut i = 0;
     while i < 8 {
@@ -119,7 +119,7 @@ fn zero_diagonal(m: [[f32; 8]; 8]) -> bool
 // The entries of x from `from` on and below `end`, each less t times that of column i.
 fn less_column(m: &[[f32; 8]; 8], i: usize, t: f32, x: &mut [f32; 8], from: usize, end: usize)
     requires { (i < 8) × (end ≤ 8) }
-    ensures { x.new ≡ run (lessEntry m.now i t) from end x.old }
+    ensures { x.new ≡ run (less_entry m.now i t) from end x.old }
 {
     let mut k = from;
     while k < end {
@@ -129,7 +129,7 @@ fn less_column(m: &[[f32; 8]; 8], i: usize, t: f32, x: &mut [f32; 8], from: usiz
 }
 
 fn forward(m: [[f32; 8]; 8], b: [f32; 8]) -> [f32; 8]
-    ensures { result ≡ forwardBy m b }
+    ensures { result ≡ forward_by m b }
 {
     let mut x = b;
     let mut i = 0;
@@ -142,7 +142,7 @@ fn forward(m: [[f32; 8]; 8], b: [f32; 8]) -> [f32; 8]
 }
 
 fn backward(m: [[f32; 8]; 8], b: [f32; 8]) -> [f32; 8]
-    ensures { result ≡ backwardBy m b }
+    ensures { result ≡ backward_by m b }
 {
     let mut x = b;
     let mut n = 8;
@@ -170,7 +170,7 @@ fn substitute(m: [[f32; 8]; 8], b: [f32; 8]) -> Solution
 }
 
 pub fn solve(a: [[f32; 8]; 8], b: [f32; 8]) -> Solution
-    ensures { result ≡ solutionOf a b }
+    ensures { result ≡ solution_of a b }
 {
     let mut m = a;
     let mut y = b;

@@ -14,27 +14,27 @@ use Rattle.folds.proofs.Below.{first_more, first-end, first-le, first-before, fi
 use Rattle.folds.specs.Lists.{Gathered}
 use Rattle.folds.proofs.Lists.{gathered-skip, get_d_any}
 use Rattle.folds.proofs.Column.{replicate-at}
-use Rattle.view.specs.View.{maxPoints, viewAt, Ranked}
-use Rattle.lines.specs.Flags.{lineNumber, isOn}
+use Rattle.view.specs.View.{max_points, view_at, Ranked}
+use Rattle.lines.specs.Flags.{line_number, is_on}
 use Rattle.lines.specs.Lines.{Chained, Onward, Linked}
 
 -- rows and columns are ranks
-pub line-below : {n : ℕ} {ranks : List ℕ} → Ranked n ranks → (rows : Bool) (k : ℕ) → k < n → lineNumber (viewAt n ranks [] []) rows k < n
+pub line-below : {n : ℕ} {ranks : List ℕ} → Ranked n ranks → (rows : Bool) (k : ℕ) → k < n → line_number (view_at n ranks [] []) rows k < n
 line-below r true k h = r.rows k h
 line-below r false k h = r.columns k h
 
 module _ (n : ℕ) (line : ℕ → ℕ) where
   -- no rank is chained yet
-  pub chain-start : (head : List ℕ) → head ≡ replicate maxPoints n → Chained n line n head (replicate maxPoints 0)
+  pub chain-start : (head : List ℕ) → head ≡ replicate max_points n → Chained n line n head (replicate max_points 0)
   chain-start head e = record {
-    heads = λ number l. rw e (get_d_any (replicate maxPoints n) number 0 n (omega (arith, length-replicate {A = ℕ} maxPoints n)) ∙ replicate-at maxPoints n number ∙ sym (first-end (isOn line number) n n (omega arith)));
+    heads = λ number l. rw e (get_d_any (replicate max_points n) number 0 n (omega (arith, length-replicate {A = ℕ} max_points n)) ∙ replicate-at max_points n number ∙ sym (first-end (is_on line number) n n (omega arith)));
     nexts = λ k l m. absurd (omega arith);
-    head-size = rw e (length-replicate {A = ℕ} maxPoints n);
-    next-size = length-replicate {A = ℕ} maxPoints 0;
+    head-size = rw e (length-replicate {A = ℕ} max_points n);
+    next-size = length-replicate {A = ℕ} max_points 0;
   }
 
   -- rank i is put before the others of its line
-  pub chain_more : (i number : ℕ) (head next : List ℕ) → i < n → i < maxPoints → number < maxPoints → number ≡ line i → Chained n line (i + 1) head next → Chained n line i (set head number i) (set next i (get_or head number 0))
+  pub chain_more : (i number : ℕ) (head next : List ℕ) → i < n → i < max_points → number < max_points → number ≡ line i → Chained n line (i + 1) head next → Chained n line i (set head number i) (set next i (get_or head number 0))
   chain_more i number head next l few h e t = record {
     heads = λ m g. at m g (ℕ_discrete m number);
     nexts = λ k g f. after k g f (ℕ_discrete k i);
@@ -42,21 +42,21 @@ module _ (n : ℕ) (line : ℕ → ℕ) where
     next-size = length-set next i (get_or head number 0) ∙ t.next-size;
   }
     where
-      at : (m : ℕ) → m < maxPoints → Dec (m ≡ number) → get_or (set head number i) m 0 ≡ first (isOn line m) i n
-      at m g (yes s) = rw (first_more (isOn line m) i n l, eq-eqb (line i) m (sym (s ∙ e)), s) (get_or-set_same head number i 0 (omega (arith, t.head-size)))
-      at m g (no s) = rw (first_more (isOn line m) i n l, ne_eqb (line i) m (λ r. s (sym (e ∙ r)))) (get_or-set_other head number m i 0 s ∙ t.heads m g)
+      at : (m : ℕ) → m < max_points → Dec (m ≡ number) → get_or (set head number i) m 0 ≡ first (is_on line m) i n
+      at m g (yes s) = rw (first_more (is_on line m) i n l, eq-eqb (line i) m (sym (s ∙ e)), s) (get_or-set_same head number i 0 (omega (arith, t.head-size)))
+      at m g (no s) = rw (first_more (is_on line m) i n l, ne_eqb (line i) m (λ r. s (sym (e ∙ r)))) (get_or-set_other head number m i 0 s ∙ t.heads m g)
 
-      after : (k : ℕ) → i ≤ k → k < n → Dec (k ≡ i) → get_or (set next i (get_or head number 0)) k 0 ≡ first (isOn line (line k)) (k + 1) n
+      after : (k : ℕ) → i ≤ k → k < n → Dec (k ≡ i) → get_or (set next i (get_or head number 0)) k 0 ≡ first (is_on line (line k)) (k + 1) n
       after k g f (yes s) = rw (s, get_or-set_same next i (get_or head number 0) 0 (omega (arith, t.next-size)), ← e) (t.heads number h)
       after k g f (no s) = get_or-set_other next i k (get_or head number 0) 0 s ∙ t.nexts k (omega (arith, s)) f
 
   -- each link of a whole chain leads up
   pub chain-onward : {head next : List ℕ} → Chained n line 0 head next → Onward n next
-  chain-onward t k l = rw (t.nexts k (omega arith) l) (omega (arith, first-from (isOn line (line k)) (k + 1) n), first-le (isOn line (line k)) (k + 1) n (omega arith))
+  chain-onward t k l = rw (t.nexts k (omega arith) l) (omega (arith, first-from (is_on line (line k)) (k + 1) n), first-le (is_on line (line k)) (k + 1) n (omega arith))
 
   -- the links of a whole chain lead through the ranks of each line
-  pub chain-linked : {head next : List ℕ} (number : ℕ) → Chained n line 0 head next → Linked (isOn line number) n next
-  chain-linked number t k l e = t.nexts k (omega arith) l ∙ ap (λ (m : ℕ). first (isOn line m) (k + 1) n) (eqb-true (line k) number e)
+  pub chain-linked : {head next : List ℕ} (number : ℕ) → Chained n line 0 head next → Linked (is_on line number) n next
+  chain-linked number t k l e = t.nexts k (omega arith) l ∙ ap (λ (m : ℕ). first (is_on line m) (k + 1) n) (eqb-true (line k) number e)
 
 -- from one rank with p to the next
 gathered-on : (p : ℕ → Bool) (i m : ℕ) (l : List ℕ) (c : ℕ) → ((j : ℕ) → i ≤ j → j < i + m → p j ≡ false) → Gathered p i l c → Gathered p (i + m) l c

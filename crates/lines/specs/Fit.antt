@@ -4,8 +4,8 @@ use Rattle.std.specs.Prelude.{cond, List, ℕ, pos, length, get_or, Float}
 use Rattle.std.specs.Float.{nan, binary32}
 use Rattle.std.specs.Float.Ieee.{of_bits, of_int, add, sub, mul, div, neg, lt, le}
 use Rattle.float.specs.Constants.{zero, quarter, half, one, epsilon}
-use Rattle.float.specs.Root.{rootOf}
-use Rattle.float.specs.Scalar.{absOf, max_of, normOf}
+use Rattle.float.specs.Root.{root_of}
+use Rattle.float.specs.Scalar.{abs_of, max_of, norm_of}
 use Rattle.folds.specs.Arith.{◌⊕◌, ◌⊖◌, ◌⊗◌, ◌⊘◌}
 use Rattle.folds.specs.Lists.{over}
 use Rattle.lines.specs.declared.Line.{Line}
@@ -16,55 +16,55 @@ abbrev pub value_at : List Float → ℕ → Float
 value_at l k = get_or l k nan
 
 -- the sum of f j over the ranks j of l, in their order, divided by how many they are
-unfoldable pub meanOver : (ℕ → Float) → List ℕ → Float
+unfoldable pub mean_over : (ℕ → Float) → List ℕ → Float
 unfolding over add div of_int of_bits
-meanOver f l = over (λ (s : Float) (j : ℕ). s ⊕ f j) zero l ⊘ of_int binary32 (pos (length l))
+mean_over f l = over (λ (s : Float) (j : ℕ). s ⊕ f j) zero l ⊘ of_int binary32 (pos (length l))
 
 -- the sum of (f j - a) * (g j - b) over the ranks j of l, in their order
-unfoldable pub momentOf : (ℕ → Float) → Float → (ℕ → Float) → Float → List ℕ → Float
+unfoldable pub moment_of : (ℕ → Float) → Float → (ℕ → Float) → Float → List ℕ → Float
 unfolding over add sub mul of_bits
-momentOf f a g b l = over (λ (s : Float) (j : ℕ). s ⊕ (f j ⊖ a) ⊗ (g j ⊖ b)) zero l
+moment_of f a g b l = over (λ (s : Float) (j : ℕ). s ⊕ (f j ⊖ a) ⊗ (g j ⊖ b)) zero l
 
 -- the larger eigenvalue of the matrix of the moments
-unfoldable pub largerEigenvalue : Float → Float → Float → Float
-unfolding add sub mul max_of rootOf of_bits
-largerEigenvalue sxx sxy syy =
+unfoldable pub larger_eigenvalue : Float → Float → Float → Float
+unfolding add sub mul max_of root_of of_bits
+larger_eigenvalue sxx sxy syy =
     let trace = sxx ⊕ syy in
     let det = sxx ⊗ syy ⊖ sxy ⊗ sxy in
-    let disc = rootOf (max_of (trace ⊗ trace ⊗ quarter ⊖ det) zero) in
+    let disc = root_of (max_of (trace ⊗ trace ⊗ quarter ⊖ det) zero) in
     trace ⊗ half ⊕ disc
 
 -- the direction of the largest spread: its eigenvector, or an axis where |sxy| is at most f32::EPSILON
-unfoldable pub directionOf : Float → Float → Float → Vector
-unfolding lt le absOf sub largerEigenvalue of_bits
-directionOf sxx sxy syy =
-    cond (lt epsilon (absOf sxy)) (record { x = sxy; y = largerEigenvalue sxx sxy syy ⊖ sxx })
+unfoldable pub direction_of : Float → Float → Float → Vector
+unfolding lt le abs_of sub larger_eigenvalue of_bits
+direction_of sxx sxy syy =
+    cond (lt epsilon (abs_of sxy)) (record { x = sxy; y = larger_eigenvalue sxx sxy syy ⊖ sxx })
     (cond (le syy sxx) (record { x = one; y = zero }) (record { x = zero; y = one }))
 
 -- "A line's centre and direction travel together as one record." The direction is divided by its length, or by f32::EPSILON if that is more.
-unfoldable pub lineThrough : Vector → Vector → Line
-unfolding max_of normOf div of_bits
-lineThrough c v =
-    let length = max_of (normOf v.x v.y) epsilon in
+unfoldable pub line_through : Vector → Vector → Line
+unfolding max_of norm_of div of_bits
+line_through c v =
+    let length = max_of (norm_of v.x v.y) epsilon in
     record { cx = c.x; cy = c.y; ux = v.x ⊘ length; uy = v.y ⊘ length }
 
 -- the line through the point c fitted to the points of l
-unfoldable pub lineAround : (ℕ → Float) → (ℕ → Float) → Vector → List ℕ → Line
-unfolding momentOf directionOf lineThrough
-lineAround x y c l =
-    lineThrough c (directionOf (momentOf x c.x x c.x l) (momentOf x c.x y c.y l) (momentOf y c.y y c.y l))
+unfoldable pub line_around : (ℕ → Float) → (ℕ → Float) → Vector → List ℕ → Line
+unfolding moment_of direction_of line_through
+line_around x y c l =
+    line_through c (direction_of (moment_of x c.x x c.x l) (moment_of x c.x y c.y l) (moment_of y c.y y c.y l))
 
 -- the centre of the points of l
-unfoldable pub centreOf : (ℕ → Float) → (ℕ → Float) → List ℕ → Vector
-unfolding meanOver
-centreOf x y l = record { x = meanOver x l; y = meanOver y l }
+unfoldable pub centre_of : (ℕ → Float) → (ℕ → Float) → List ℕ → Vector
+unfolding mean_over
+centre_of x y l = record { x = mean_over x l; y = mean_over y l }
 
 -- the line fitted to the points of l, through their centre
-unfoldable pub fitOf : (ℕ → Float) → (ℕ → Float) → List ℕ → Line
-unfolding centreOf lineAround
-fitOf x y l = lineAround x y (centreOf x y l) l
+unfoldable pub fit_of : (ℕ → Float) → (ℕ → Float) → List ℕ → Line
+unfolding centre_of line_around
+fit_of x y l = line_around x y (centre_of x y l) l
 
 -- the distance of the point (x, y) from a line
 unfoldable pub distance_of : Line → Float → Float → Float
-unfolding add sub mul neg absOf
-distance_of line x y = absOf ((x ⊖ line.cx) ⊗ neg line.uy ⊕ (y ⊖ line.cy) ⊗ line.ux)
+unfolding add sub mul neg abs_of
+distance_of line x y = abs_of ((x ⊖ line.cx) ⊗ neg line.uy ⊕ (y ⊖ line.cy) ⊗ line.ux)

@@ -6,7 +6,7 @@ use Rattle.folds.specs.Below.{tally}
 use Rattle.folds.specs.Lists.{listed, gather}
 use Rattle.folds.specs.Scattered.{counts}
 use Rattle.view.specs.View.{View}
-use Rattle.lines.specs.Fit.{value_at, fitOf, distance_of}
+use Rattle.lines.specs.Fit.{value_at, fit_of, distance_of}
 use Rattle.lines.specs.declared.Line.{Line}
 
 -- what a distance is held against: the positions, the scale of each rank's index, and the line tolerance
@@ -16,40 +16,40 @@ pub record LineRule : Type 0 where
   pub scale : ℕ → Float
   pub tolerance : Float
 
-abbrev pub ruleBy : List Float → List Float → List Float → Float → LineRule
-ruleBy xs ys scales tolerance = record { x = value_at xs; y = value_at ys; scale = value_at scales; tolerance = tolerance }
+abbrev pub rule_by : List Float → List Float → List Float → Float → LineRule
+rule_by xs ys scales tolerance = record { x = value_at xs; y = value_at ys; scale = value_at scales; tolerance = tolerance }
 
 -- rank k is "farther than tolerance times scale" from a line
-unfoldable pub isFar : LineRule → Line → ℕ → Bool
+unfoldable pub is_far : LineRule → Line → ℕ → Bool
 unfolding lt mul distance_of
-isFar rule line k = lt (rule.tolerance ⊗ rule.scale k) (distance_of line (rule.x k) (rule.y k))
+is_far rule line k = lt (rule.tolerance ⊗ rule.scale k) (distance_of line (rule.x k) (rule.y k))
 
 -- the line with the members l flags rank k
-unfoldable pub flaggedBy : LineRule → ℕ → List ℕ → ℕ → Bool
-unfolding isFar fitOf
-flaggedBy rule minimum l k = leb minimum (length l) && isFar rule (fitOf rule.x rule.y l) k
+unfoldable pub flagged_by : LineRule → ℕ → List ℕ → ℕ → Bool
+unfolding is_far fit_of
+flagged_by rule minimum l k = leb minimum (length l) && is_far rule (fit_of rule.x rule.y l) k
 
 -- the line of each rank: its row, or its column, by the line's first rank
-abbrev pub lineNumber : View → Bool → ℕ → ℕ
-lineNumber w rows = cond rows w.row w.column
+abbrev pub line_number : View → Bool → ℕ → ℕ
+line_number w rows = cond rows w.row w.column
 
 -- the line with this number has rank k
-abbrev pub isOn : (ℕ → ℕ) → ℕ → ℕ → Bool
-isOn line number k = eqb (line k) number
+abbrev pub is_on : (ℕ → ℕ) → ℕ → ℕ → Bool
+is_on line number k = eqb (line k) number
 
 -- "Rows and columns with at least the line minimum flag each member farther than tolerance times scale": rank k is flagged by the line
 -- of those of n ranks that are on its line, rising.
-unfoldable pub isFlagged : LineRule → ℕ → (ℕ → ℕ) → ℕ → ℕ → Bool
-unfolding listed flaggedBy
-isFlagged rule minimum line n k = flaggedBy rule minimum (gather (isOn line (line k)) n) k
+unfoldable pub is_flagged : LineRule → ℕ → (ℕ → ℕ) → ℕ → ℕ → Bool
+unfolding listed flagged_by
+is_flagged rule minimum line n k = flagged_by rule minimum (gather (is_on line (line k)) n) k
 
 -- how many cells of the index at place m their lines flag; an index stands at the last of its ranks
-unfoldable pub flagCount : (ℕ → ℕ) → LineRule → ℕ → (ℕ → ℕ) → ℕ → ℕ → ℕ
-unfolding tally isFlagged
-flagCount byIdx rule minimum line n m = tally (counts byIdx (isFlagged rule minimum line n) m) n
+unfoldable pub flag_count : (ℕ → ℕ) → LineRule → ℕ → (ℕ → ℕ) → ℕ → ℕ → ℕ
+unfolding tally is_flagged
+flag_count by_idx rule minimum line n m = tally (counts by_idx (is_flagged rule minimum line n) m) n
 
 -- "a flag from any cell stays": the line flags of the index at place m, from the rows and the columns of all its cells
-abbrev pub flagsAt : View → (ℕ → Float) → Float → ℕ → ℕ → ℕ
-flagsAt w scale tolerance minimum m =
+abbrev pub flags_at : View → (ℕ → Float) → Float → ℕ → ℕ → ℕ
+flags_at w scale tolerance minimum m =
     let rule : LineRule = record { x = w.x; y = w.y; scale = scale; tolerance = tolerance } in
-    flagCount w.byIdx rule minimum (lineNumber w true) w.count m + flagCount w.byIdx rule minimum (lineNumber w false) w.count m
+    flag_count w.by_idx rule minimum (line_number w true) w.count m + flag_count w.by_idx rule minimum (line_number w false) w.count m

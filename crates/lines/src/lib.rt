@@ -5,13 +5,13 @@ ghost use Rattle.std.specs.Prelude.{◌≡◌, Bool, true, ℕ, ◌+◌, ◌≤�
 ghost use Rattle.folds.specs.Below.{first};
 ghost use Rattle.folds.specs.Lists.{Gathered, over};
 ghost use Rattle.folds.specs.Marked.{bit};
-ghost use Rattle.folds.specs.Column.{column as columnOf};
-ghost use Rattle.folds.specs.Scattered.{Scattered, oneMore};
-ghost use Rattle.view.specs.View.{maxPoints, viewAt, Ranked};
+ghost use Rattle.folds.specs.Column.{column as column_of};
+ghost use Rattle.folds.specs.Scattered.{Scattered, one_more};
+ghost use Rattle.view.specs.View.{max_points, view_at, Ranked};
 ghost use Rattle.marks.specs.Marks.{is_set};
-ghost use Rattle.lines.specs.Fit.{value_at, largerEigenvalue, directionOf, lineThrough, centreOf, lineAround, fitOf, distance_of};
-ghost use Rattle.lines.specs.Flags.{ruleBy, isFar, flaggedBy, lineNumber, isFlagged, flagsAt};
-ghost use Rattle.lines.specs.Lines.{Members, Chained, Onward, Linked, markIf};
+ghost use Rattle.lines.specs.Fit.{value_at, larger_eigenvalue, direction_of, line_through, centre_of, line_around, fit_of, distance_of};
+ghost use Rattle.lines.specs.Flags.{rule_by, is_far, flagged_by, line_number, is_flagged, flags_at};
+ghost use Rattle.lines.specs.Lines.{Members, Chained, Onward, Linked, mark_if};
 
 use view::{Floats, MAX_POINTS, Marks, Places, Ranks, wide};
 
@@ -31,7 +31,7 @@ struct Vector {
 }
 
 fn larger_eigenvalue(sxx: f32, sxy: f32, syy: f32) -> f32
-    ensures { result ≡ largerEigenvalue sxx sxy syy }
+    ensures { result ≡ larger_eigenvalue sxx sxy syy }
 {
     let trace = sxx + syy;
     let det = sxx * syy - sxy * sxy;
@@ -41,7 +41,7 @@ fn larger_eigenvalue(sxx: f32, sxy: f32, syy: f32) -> f32
 
 // The direction of the largest spread.
 fn direction(sxx: f32, sxy: f32, syy: f32) -> Vector
-    ensures { result ≡ directionOf sxx sxy syy }
+    ensures { result ≡ direction_of sxx sxy syy }
 {
     if float::abs(sxy) > float::constants::EPSILON {
         let y = larger_eigenvalue(sxx, sxy, syy) - sxx;
@@ -55,7 +55,7 @@ fn direction(sxx: f32, sxy: f32, syy: f32) -> Vector
 
 // The line through c in the direction of v.
 fn line_through(c: Vector, v: Vector) -> Line
-    ensures { result ≡ lineThrough c v }
+    ensures { result ≡ line_through c v }
 {
     let length = float::max(float::norm(v.x, v.y), float::constants::EPSILON);
     Line {
@@ -77,7 +77,7 @@ fn distance(line: Line, x: f32, y: f32) -> f32
 // The centre of the points whose ranks are the first c of l.
 fn centre(x: &Floats, y: &Floats, l: &Places, c: usize) -> Vector
     requires { Members l.now c }
-    ensures { result ≡ centreOf (value_at x.now) (value_at y.now) (take c l.now) }
+    ensures { result ≡ centre_of (value_at x.now) (value_at y.now) (take c l.now) }
 {
     let mut cx = 0.0;
     let mut cy = 0.0;
@@ -98,7 +98,7 @@ fn centre(x: &Floats, y: &Floats, l: &Places, c: usize) -> Vector
 // The line through v fitted to the points whose ranks are the first c of l.
 fn line_around(x: &Floats, y: &Floats, v: Vector, l: &Places, c: usize) -> Line
     requires { Members l.now c }
-    ensures { result ≡ lineAround (value_at x.now) (value_at y.now) v (take c l.now) }
+    ensures { result ≡ line_around (value_at x.now) (value_at y.now) v (take c l.now) }
 {
     let cx = v.x;
     let cy = v.y;
@@ -121,7 +121,7 @@ fn line_around(x: &Floats, y: &Floats, v: Vector, l: &Places, c: usize) -> Line
 // The line fitted to the points whose ranks are the first c of l.
 fn fit(x: &Floats, y: &Floats, l: &Places, c: usize) -> Line
     requires { Members l.now c }
-    ensures { result ≡ fitOf (value_at x.now) (value_at y.now) (take c l.now) }
+    ensures { result ≡ fit_of (value_at x.now) (value_at y.now) (take c l.now) }
 {
     let v = centre(x, y, l, c);
     line_around(x, y, v, l, c)
@@ -129,8 +129,8 @@ fn fit(x: &Floats, y: &Floats, l: &Places, c: usize) -> Line
 
 // Whether rank j is too far from a line.
 fn is_far(x: &Floats, y: &Floats, scale: &Floats, tolerance: f32, line: Line, j: usize) -> bool
-    requires { j < maxPoints }
-    ensures { result ≡ isFar (ruleBy x.now y.now scale.now tolerance) line j }
+    requires { j < max_points }
+    ensures { result ≡ is_far (rule_by x.now y.now scale.now tolerance) line j }
 {
     let limit = tolerance * scale[j];
     distance(line, x[j], y[j]) > limit
@@ -147,8 +147,8 @@ fn mark_flagged(
     c: usize,
     out: &mut Marks,
 )
-    requires { Members l.now c × (length out.old ≡ maxPoints) }
-    ensures { out.new ≡ over (markIf (flaggedBy (ruleBy x.now y.now scale.now tolerance) minimum (take c l.now))) out.old (take c l.now) }
+    requires { Members l.now c × (length out.old ≡ max_points) }
+    ensures { out.new ≡ over (mark_if (flagged_by (rule_by x.now y.now scale.now tolerance) minimum (take c l.now))) out.old (take c l.now) }
 {
     if c == 0 {
         return;
@@ -169,8 +169,8 @@ fn mark_flagged(
 
 // The line of rank k: the first rank of its row, or of its column.
 fn line_of(ranks: &Ranks, rows: bool, k: usize) -> usize
-    requires { k < maxPoints }
-    ensures { result ≡ lineNumber (viewAt 0 ranks.now [] []) rows k }
+    requires { k < max_points }
+    ensures { result ≡ line_number (view_at 0 ranks.now [] []) rows k }
 {
     if rows {
         return view::row_of(ranks, k);
@@ -180,8 +180,8 @@ fn line_of(ranks: &Ranks, rows: bool, k: usize) -> usize
 
 // The next rank on the same line, for each rank, or n where there is none; and in `head` the first rank of each line.
 fn chain(ranks: &Ranks, rows: bool, n: usize, head: &mut Places) -> Places
-    requires { Ranked n ranks.now × (head.old ≡ replicate maxPoints n) }
-    ensures { Chained n (lineNumber (viewAt n ranks.now [] []) rows) 0 head.new result }
+    requires { Ranked n ranks.now × (head.old ≡ replicate max_points n) }
+    ensures { Chained n (line_number (view_at n ranks.now [] []) rows) 0 head.new result }
 {
     let mut next = [0u16; MAX_POINTS];
     let mut i = n;
@@ -196,8 +196,8 @@ fn chain(ranks: &Ranks, rows: bool, n: usize, head: &mut Places) -> Places
 
 // Writes the ranks from `from` on along the chain, and returns how many they are.
 fn members(next: &Places, n: usize, from: usize, out: &mut Places) -> usize
-    requires { (n ≤ maxPoints) × Onward n next.now × (from ≤ n) × (length out.old ≡ maxPoints) }
-    ensures { (length out.new ≡ maxPoints) × ((p : ℕ → Bool) → Linked p n next.now → first p 0 n ≡ from → Gathered p n out.new result) }
+    requires { (n ≤ max_points) × Onward n next.now × (from ≤ n) × (length out.old ≡ max_points) }
+    ensures { (length out.new ≡ max_points) × ((p : ℕ → Bool) → Linked p n next.now → first p 0 n ≡ from → Gathered p n out.new result) }
 {
     let mut c: usize = 0;
     let mut k = from;
@@ -221,7 +221,7 @@ fn flagged(
     minimum: u16,
 ) -> Marks
     requires { Ranked n ranks.now }
-    ensures { result ≡ columnOf maxPoints 0 n (λ (k : ℕ). bit (isFlagged (ruleBy x.now y.now scale.now tolerance) minimum (lineNumber (viewAt n ranks.now [] []) rows) n k)) }
+    ensures { result ≡ column_of max_points 0 n (λ (k : ℕ). bit (is_flagged (rule_by x.now y.now scale.now tolerance) minimum (line_number (view_at n ranks.now [] []) rows) n k)) }
 {
     let mut head = [n as u16; MAX_POINTS];
     let next = chain(ranks, rows, n, &mut head);
@@ -239,8 +239,8 @@ fn flagged(
 
 // Adds to the count of each index its ranks with a mark.
 fn count(mark: &Marks, ranks: &Ranks, n: usize, flags: &mut Places)
-    requires { Ranked n ranks.now × (length flags.old ≡ maxPoints) × ((m : ℕ) → m < maxPoints → get_or flags.old m 0 ≤ maxPoints) }
-    ensures { Scattered 0 (viewAt n ranks.now [] []).byIdx (is_set mark.now) oneMore flags.old n flags.new }
+    requires { Ranked n ranks.now × (length flags.old ≡ max_points) × ((m : ℕ) → m < max_points → get_or flags.old m 0 ≤ max_points) }
+    ensures { Scattered 0 (view_at n ranks.now [] []).by_idx (is_set mark.now) one_more flags.old n flags.new }
 {
     let mut i: usize = 0;
     while i < n {
@@ -264,7 +264,7 @@ pub fn line_flags(
     minimum: u16,
 ) -> Places
     requires { Ranked n ranks.now }
-    ensures { result ≡ columnOf maxPoints 0 n (flagsAt (viewAt n ranks.now x.now y.now) (value_at scale.now) tolerance minimum) }
+    ensures { result ≡ column_of max_points 0 n (flags_at (view_at n ranks.now x.now y.now) (value_at scale.now) tolerance minimum) }
 {
     let rows = flagged(ranks, true, x, y, scale, n, tolerance, minimum);
     let columns = flagged(ranks, false, x, y, scale, n, tolerance, minimum);

@@ -3,110 +3,110 @@ use Rattle.std.specs.Prelude.{cond, ◌&&◌, List, [], ◌++◌, ℕ, ◌+◌, 
 use Rattle.std.proofs.Math.Option.{Option, none, some}
 use Rattle.std.specs.Float.{binary32}
 use Rattle.std.specs.Float.Ieee.{to_bits}
-use Rattle.view.specs.View.{maxPoints}
+use Rattle.view.specs.View.{max_points}
 use Rattle.cells.specs.Cell.{Cell}
-use Rattle.edge_shape.specs.Figures.{reasonNumber}
-use Rattle.judged.specs.Shown.{Shown, shownAt}
+use Rattle.edge_shape.specs.Figures.{reason_number}
+use Rattle.judged.specs.Shown.{Shown, shown_at}
 use Rattle.judged.specs.Judged.{Judged}
-use Rattle.marks.specs.Filters.{filterAt, filterCount}
-use Rattle.marks.specs.Byte.{hasMark}
+use Rattle.marks.specs.Filters.{filter_at, filter_count}
+use Rattle.marks.specs.Byte.{has_mark}
 use Rattle.predict.specs.declared.PredictedPosition.{PredictedPosition}
 use Rattle.predict.specs.declared.Prediction.{Prediction}
 use Rattle.predict.specs.declared.Prediction.TheVariants.{NoPair, Pairs}
 use Rattle.text.specs.Text.{bytes, each, digit, decimal, whole, hex}
 
 -- "u, v"
-unfoldable pub cellText : Cell → List ℕ
+unfoldable pub cell_text : Cell → List ℕ
 unfolding whole
-cellText c = whole c.u ++ bytes " " ++ whole c.v
+cell_text c = whole c.u ++ bytes " " ++ whole c.v
 
 -- "marks (VOWC)", with "letter L between W and C": the letter of each filter that has marked the point, else a dash
-abbrev pub markText : ℕ → ℕ → List ℕ
-markText marks f = cond (hasMark f marks) (bytes (filterAt f).letter) (bytes "-")
+abbrev pub mark_text : ℕ → ℕ → List ℕ
+mark_text marks f = cond (has_mark f marks) (bytes (filter_at f).letter) (bytes "-")
 
-unfoldable pub marksText : ℕ → List ℕ
+unfoldable pub marks_text : ℕ → List ℕ
 unfolding each
-marksText marks = each (markText marks) filterCount
+marks_text marks = each (mark_text marks) filter_count
 
 -- "reason 1 to 3 or a dash"
-abbrev pub reasonText : ℕ → List ℕ
-reasonText reason = cond (leb 1 reason && leb reason 3) (digit reason) (bytes "-")
+abbrev pub reason_text : ℕ → List ℕ
+reason_text reason = cond (leb 1 reason && leb reason 3) (digit reason) (bytes "-")
 
 -- "residual in eight hexadecimal digits with capitals or a dash"; "NaN is 0x7FC00000"
-unfoldable pub residualText : Option Float → List ℕ
+unfoldable pub residual_text : Option Float → List ℕ
 unfolding hex to_bits
-residualText none = bytes "-"
-residualText (some x) = hex 8 (to_bits binary32 x)
+residual_text none = bytes "-"
+residual_text (some x) = hex 8 (to_bits binary32 x)
 
-unfoldable pub shownText : ℕ → ℕ → Option Float → List ℕ
-unfolding marksText residualText
-shownText marks reason residual = marksText marks ++ bytes " " ++ reasonText reason ++ bytes " " ++ residualText residual
+unfoldable pub shown_text : ℕ → ℕ → Option Float → List ℕ
+unfolding marks_text residual_text
+shown_text marks reason residual = marks_text marks ++ bytes " " ++ reason_text reason ++ bytes " " ++ residual_text residual
 
 -- "Per point: u, v, index, marks (VOWC), reason 1 to 3 or a dash, residual in eight hexadecimal digits with capitals or a dash."
-unfoldable pub lineText : Cell → ℕ → ℕ → ℕ → Option Float → List ℕ
-unfolding cellText decimal shownText
-lineText cell index marks reason residual = cellText cell ++ bytes " " ++ decimal index ++ bytes " " ++ shownText marks reason residual ++ bytes "\n"
+unfoldable pub line_text : Cell → ℕ → ℕ → ℕ → Option Float → List ℕ
+unfolding cell_text decimal shown_text
+line_text cell index marks reason residual = cell_text cell ++ bytes " " ++ decimal index ++ bytes " " ++ shown_text marks reason residual ++ bytes "\n"
 
 abbrev pub line_of : Cell → ℕ → Shown → List ℕ
-line_of cell index s = lineText cell index s.marks (reasonNumber s.figures.reason) s.residual
+line_of cell index s = line_text cell index s.marks (reason_number s.figures.reason) s.residual
 
 -- "points 5 components 2"; "the first line of the listing ends with `rounds` and the number of rounds that removed something"
-unfoldable pub headText : ℕ → ℕ → ℕ → List ℕ
+unfoldable pub head_text : ℕ → ℕ → ℕ → List ℕ
 unfolding decimal
-headText n components rounds = bytes "points " ++ decimal n ++ bytes " components " ++ decimal components ++ bytes " rounds " ++ decimal rounds ++ bytes "\n"
+head_text n components rounds = bytes "points " ++ decimal n ++ bytes " components " ++ decimal components ++ bytes " rounds " ++ decimal rounds ++ bytes "\n"
 
-abbrev pub countText : ℕ → ℕ → List ℕ
-countText f count = bytes " " ++ bytes (filterAt f).word ++ bytes " " ++ decimal count
+abbrev pub count_text : ℕ → ℕ → List ℕ
+count_text f count = bytes " " ++ bytes (filter_at f).word ++ bytes " " ++ decimal count
 
 -- "kept 4 validate 0 orientation 0 wrong 0 component 1", with "`leaf` before `component`"
-unfoldable pub tallyText : List ℕ → List ℕ
+unfoldable pub tally_text : List ℕ → List ℕ
 unfolding decimal each
-tallyText counts =
+tally_text counts =
     bytes "kept "
-    ++ decimal (get_or counts filterCount 0)
-    ++ each (λ f. countText f (get_or counts f 0)) filterCount
+    ++ decimal (get_or counts filter_count 0)
+    ++ each (λ f. count_text f (get_or counts f 0)) filter_count
     ++ bytes "\n"
 
 -- a line for each of n ranks
 abbrev pub lines_of : (ℕ → Cell) → List ℕ → Judged → ℕ → List ℕ
-lines_of cell indices j n = each (λ k. line_of (cell k) (get_or indices k 0) (shownAt j k)) n
+lines_of cell indices j n = each (λ k. line_of (cell k) (get_or indices k 0) (shown_at j k)) n
 
 -- "u, v, pairs, x and y in hexadecimal bits, or u, v, 0"
-unfoldable pub positionText : PredictedPosition → List ℕ
+unfoldable pub position_text : PredictedPosition → List ℕ
 unfolding decimal hex to_bits
-positionText p = decimal p.n_axis_pairs ++ bytes " " ++ hex 8 (to_bits binary32 p.x) ++ bytes " " ++ hex 8 (to_bits binary32 p.y)
+position_text p = decimal p.n_axis_pairs ++ bytes " " ++ hex 8 (to_bits binary32 p.x) ++ bytes " " ++ hex 8 (to_bits binary32 p.y)
 
-abbrev pub predictionText : Prediction → List ℕ
-predictionText NoPair = bytes "0"
-predictionText (Pairs p) = positionText p
+abbrev pub prediction_text : Prediction → List ℕ
+prediction_text NoPair = bytes "0"
+prediction_text (Pairs p) = position_text p
 
-unfoldable pub fillText : Cell → Prediction → List ℕ
-unfolding cellText positionText
-fillText cell fill = cellText cell ++ bytes " " ++ predictionText fill ++ bytes "\n"
+unfoldable pub fill_text : Cell → Prediction → List ℕ
+unfolding cell_text position_text
+fill_text cell fill = cell_text cell ++ bytes " " ++ prediction_text fill ++ bytes "\n"
 
 -- "for each dropped cell": a point without a mark has no such line
-abbrev pub fillLine : Cell → ℕ → Prediction → List ℕ
-fillLine cell marks fill = cond (eqb marks 0) [] (fillText cell fill)
+abbrev pub fill_line : Cell → ℕ → Prediction → List ℕ
+fill_line cell marks fill = cond (eqb marks 0) [] (fill_text cell fill)
 
 -- "It is listed after the tally in cell order"
-abbrev pub fillLines : (ℕ → Cell) → List ℕ → List Prediction → ℕ → List ℕ
-fillLines cell marks fills n = each (λ k. fillLine (cell k) (get_or marks k 0) (get_or fills k NoPair)) n
+abbrev pub fill_lines : (ℕ → Cell) → List ℕ → List Prediction → ℕ → List ℕ
+fill_lines cell marks fills n = each (λ k. fill_line (cell k) (get_or marks k 0) (get_or fills k NoPair)) n
 
 -- the first line, a line for each rank in cell order, the tally, and a line for each dropped one
-unfoldable pub listingOf : ℕ → (ℕ → Cell) → List ℕ → Judged → List Prediction → List ℕ
-unfolding headText each lineText shownAt tallyText fillText
-listingOf n cell indices j fills =
-    headText n j.components j.rounds
+unfoldable pub listing_of : ℕ → (ℕ → Cell) → List ℕ → Judged → List Prediction → List ℕ
+unfolding head_text each line_text shown_at tally_text fill_text
+listing_of n cell indices j fills =
+    head_text n j.components j.rounds
     ++ lines_of cell indices j n
-    ++ tallyText j.tally
-    ++ fillLines cell j.marks fills n
+    ++ tally_text j.tally
+    ++ fill_lines cell j.marks fills n
 
 -- no line of a point is longer, no line of a dropped one, and no listing: the first line has at most 40 bytes (proved in proofs/Size.antt)
-abbrev pub lineSize : ℕ
-lineSize = 36 + filterCount
+abbrev pub line_size : ℕ
+line_size = 36 + filter_count
 
-abbrev pub fillLineSize : ℕ
-fillLineSize = 33
+abbrev pub fill_line_size : ℕ
+fill_line_size = 33
 
-abbrev pub listingSize : ℕ
-listingSize = 40 + lineSize * maxPoints + (10 + 17 * filterCount) + fillLineSize * maxPoints
+abbrev pub listing_size : ℕ
+listing_size = 40 + line_size * max_points + (10 + 17 * filter_count) + fill_line_size * max_points

@@ -1,13 +1,13 @@
 // The line of a dropped point: its cell, and what is predicted for it.
-ghost use Rattle.cells.specs.Cell.{cellOfKey};
+ghost use Rattle.cells.specs.Cell.{cell_of_key};
 ghost use Rattle.text.specs.Stored.{Stored};
-ghost use Rattle.listing.specs.Listing.{positionText, predictionText, fillLine};
+ghost use Rattle.listing.specs.Listing.{position_text, prediction_text, fill_line};
 
 use crate::line;
 use predict::{PredictedPosition, Prediction};
 
 fn put_position(p: PredictedPosition, out: &mut [u8], at: usize) -> usize
-    ensures { Stored out.old at (positionText p) out.new result }
+    ensures { Stored out.old at (position_text p) out.new result }
 {
     let a = text::put_decimal(p.n_axis_pairs as usize, out, at);
     let b = text::put_byte(b' ', out, a);
@@ -17,7 +17,7 @@ fn put_position(p: PredictedPosition, out: &mut [u8], at: usize) -> usize
 }
 
 fn put_prediction(p: Prediction, out: &mut [u8], at: usize) -> usize
-    ensures { Stored out.old at (predictionText p) out.new result }
+    ensures { Stored out.old at (prediction_text p) out.new result }
 {
     match p {
         Prediction::NoPair => text::put_byte(b'0', out, at),
@@ -27,7 +27,7 @@ fn put_prediction(p: Prediction, out: &mut [u8], at: usize) -> usize
 
 // The line of the point whose cell has this key, if it has a mark.
 pub(crate) fn put_fill(key: u32, marks: u8, fill: Prediction, out: &mut [u8], at: usize) -> usize
-    ensures { Stored out.old at (fillLine (cellOfKey key) marks fill) out.new result }
+    ensures { Stored out.old at (fill_line (cell_of_key key) marks fill) out.new result }
 {
     if marks == 0 {
         return at;

@@ -5,14 +5,14 @@ mod fill;
 mod line;
 
 ghost use Rattle.std.specs.Prelude.{◌≡◌, List, ◌≤◌, get_or, Float};
-ghost use Rattle.view.specs.View.{maxPoints};
-ghost use Rattle.cells.specs.Cell.{cellsAt};
-ghost use Rattle.marks.specs.Filters.{filterCount};
+ghost use Rattle.view.specs.View.{max_points};
+ghost use Rattle.cells.specs.Cell.{cells_at};
+ghost use Rattle.marks.specs.Filters.{filter_count};
 ghost use Rattle.text.specs.Answer.{Shows};
 ghost use Rattle.text.specs.Stored.{Stored};
 ghost use Rattle.text.specs.Text.{each};
-ghost use Rattle.judged.specs.Judged.{judgedFrom};
-ghost use Rattle.listing.specs.Listing.{headText, lines_of, tallyText, fillLines, listingOf, listingSize, countText};
+ghost use Rattle.judged.specs.Judged.{judged_from};
+ghost use Rattle.listing.specs.Listing.{head_text, lines_of, tally_text, fill_lines, listing_of, listing_size, count_text};
 
 use judged::Findings;
 use judged::figures::FigureCounts;
@@ -30,13 +30,13 @@ pub const LISTING_SIZE: usize = 40
 
 // The number that the specifications use is the code's.
 pub fn listing_size() -> usize
-    ensures { result ≡ listingSize }
+    ensures { result ≡ listing_size }
 {
     LISTING_SIZE
 }
 
 fn put_head(n: usize, components: usize, rounds: usize, out: &mut [u8], at: usize) -> usize
-    ensures { Stored out.old at (headText n components rounds) out.new result }
+    ensures { Stored out.old at (head_text n components rounds) out.new result }
 {
     let a = text::put_text(b"points ", out, at);
     let b = text::put_decimal(n, out, a);
@@ -57,8 +57,8 @@ fn put_lines(
     out: &mut [u8],
     at: usize,
 ) -> usize
-    requires { n ≤ maxPoints }
-    ensures { (measures : List Float) → Stored out.old at (lines_of (cellsAt keys.now) idx.now (judgedFrom j counts.now measures) n) out.new result }
+    requires { n ≤ max_points }
+    ensures { (measures : List Float) → Stored out.old at (lines_of (cells_at keys.now) idx.now (judged_from j counts.now measures) n) out.new result }
 {
     let mut to = at;
     let mut k = 0;
@@ -74,7 +74,7 @@ fn put_lines(
 }
 
 fn put_counts(counts: &Tally, out: &mut [u8], at: usize) -> usize
-    ensures { Stored out.old at (each (λ f. countText f (get_or counts.now f 0)) filterCount) out.new result }
+    ensures { Stored out.old at (each (λ f. count_text f (get_or counts.now f 0)) filter_count) out.new result }
 {
     let mut to = at;
     let mut f = 0;
@@ -88,7 +88,7 @@ fn put_counts(counts: &Tally, out: &mut [u8], at: usize) -> usize
 }
 
 fn put_tally(counts: &Tally, out: &mut [u8], at: usize) -> usize
-    ensures { Stored out.old at (tallyText counts.now) out.new result }
+    ensures { Stored out.old at (tally_text counts.now) out.new result }
 {
     let a = text::put_text(b"kept ", out, at);
     let b = text::put_decimal(counts[FILTERS], out, a);
@@ -105,8 +105,8 @@ fn put_fills(
     out: &mut [u8],
     at: usize,
 ) -> usize
-    requires { n ≤ maxPoints }
-    ensures { Stored out.old at (fillLines (cellsAt keys.now) marks.now fills n) out.new result }
+    requires { n ≤ max_points }
+    ensures { Stored out.old at (fill_lines (cells_at keys.now) marks.now fills n) out.new result }
 {
     let mut to = at;
     let mut k = 0;
@@ -129,8 +129,8 @@ pub fn write_listing<'a>(
     counts: &FigureCounts,
     out: &mut [u8],
 ) -> Written
-    requires { n ≤ maxPoints }
-    ensures { (measures : List Float) → Shows (listingOf n (cellsAt keys.now) idx.now (judgedFrom j counts.now measures) fills) out.old out.new result }
+    requires { n ≤ max_points }
+    ensures { (measures : List Float) → Shows (listing_of n (cells_at keys.now) idx.now (judged_from j counts.now measures) fills) out.old out.new result }
 {
     let a = put_head(n, j.components, j.rounds, out, 0);
     let b = put_lines(n, keys, idx, j, counts, out, a);

@@ -1,12 +1,12 @@
 // The line of a point: its cell, its index and what is shown of it.
 ghost use Rattle.std.specs.Prelude.{◌≡◌, [], ◌∷◌, ◌<◌, pos, ◌-ℤ◌};
 ghost use Rattle.cells.specs.Points.{bias};
-ghost use Rattle.cells.specs.Cell.{cellOfKey};
-ghost use Rattle.judged.specs.Shown.{residualOf};
-ghost use Rattle.marks.specs.Filters.{filterCount};
+ghost use Rattle.cells.specs.Cell.{cell_of_key};
+ghost use Rattle.judged.specs.Shown.{residual_of};
+ghost use Rattle.marks.specs.Filters.{filter_count};
 ghost use Rattle.text.specs.Stored.{Stored};
 ghost use Rattle.text.specs.Text.{whole};
-ghost use Rattle.listing.specs.Listing.{cellText, markText, marksText, reasonText, residualText, shownText, lineText};
+ghost use Rattle.listing.specs.Listing.{cell_text, mark_text, marks_text, reason_text, residual_text, shown_text, line_text};
 
 use marks::filters;
 use marks::filters::FILTERS;
@@ -18,8 +18,8 @@ fn wide(x: u32) -> usize
 }
 
 fn mark_byte(marks: u8, f: usize) -> u8
-    requires { f < filterCount }
-    ensures { (result ∷ []) ≡ markText marks f }
+    requires { f < filter_count }
+    ensures { (result ∷ []) ≡ mark_text marks f }
 {
     if filters::has_mark(marks, f) {
         return filters::letter(f);
@@ -28,7 +28,7 @@ fn mark_byte(marks: u8, f: usize) -> u8
 }
 
 fn put_marks(marks: u8, out: &mut [u8], at: usize) -> usize
-    ensures { Stored out.old at (marksText marks) out.new result }
+    ensures { Stored out.old at (marks_text marks) out.new result }
 {
     let mut to = at;
     let mut f = 0;
@@ -41,7 +41,7 @@ fn put_marks(marks: u8, out: &mut [u8], at: usize) -> usize
 }
 
 fn reason_byte(reason: u8) -> u8
-    ensures { (result ∷ []) ≡ reasonText reason }
+    ensures { (result ∷ []) ≡ reason_text reason }
 {
     if reason < 1 {
         return b'-';
@@ -53,7 +53,7 @@ fn reason_byte(reason: u8) -> u8
 }
 
 fn put_residual(has: u8, value: f32, out: &mut [u8], at: usize) -> usize
-    ensures { Stored out.old at (residualText (residualOf has value)) out.new result }
+    ensures { Stored out.old at (residual_text (residual_of has value)) out.new result }
 {
     if has == 1 {
         return text::put_hex(8, float::to_bits(value), out, at);
@@ -69,7 +69,7 @@ fn put_cell_number(b: u32, out: &mut [u8], at: usize) -> usize
 }
 
 pub(crate) fn put_cell(key: u32, out: &mut [u8], at: usize) -> usize
-    ensures { Stored out.old at (cellText (cellOfKey key)) out.new result }
+    ensures { Stored out.old at (cell_text (cell_of_key key)) out.new result }
 {
     let a = put_cell_number(cells::u_part(key), out, at);
     let b = text::put_byte(b' ', out, a);
@@ -77,7 +77,7 @@ pub(crate) fn put_cell(key: u32, out: &mut [u8], at: usize) -> usize
 }
 
 fn put_shown(marks: u8, reason: u8, has: u8, value: f32, out: &mut [u8], at: usize) -> usize
-    ensures { Stored out.old at (shownText marks reason (residualOf has value)) out.new result }
+    ensures { Stored out.old at (shown_text marks reason (residual_of has value)) out.new result }
 {
     let a = put_marks(marks, out, at);
     let b = text::put_byte(b' ', out, a);
@@ -97,7 +97,7 @@ pub(crate) fn put_line(
     out: &mut [u8],
     at: usize,
 ) -> usize
-    ensures { Stored out.old at (lineText (cellOfKey key) index marks reason (residualOf has value)) out.new result }
+    ensures { Stored out.old at (line_text (cell_of_key key) index marks reason (residual_of has value)) out.new result }
 {
     let a = put_cell(key, out, at);
     let b = text::put_byte(b' ', out, a);

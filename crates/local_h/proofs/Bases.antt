@@ -14,15 +14,15 @@ use Rattle.folds.proofs.Below.{first_more, first-before, first_holds, and_left, 
 use Rattle.offsets.specs.declared.Offset.{Offset}
 use Rattle.offsets.specs.Offsets.{own}
 use Rattle.cells.specs.Cell.{Cell}
-use Rattle.view.specs.View.{View, maxPoints, viewAt}
+use Rattle.view.specs.View.{View, max_points, view_at}
 use Rattle.local_h.specs.declared.Base.{Base}
 use Rattle.local_h.specs.declared.Residual.TheVariants.{NoFit}
-use Rattle.local_h.specs.Order.{offsetAt, same}
-use Rattle.local_h.specs.Base.{memberAt, onLine, isOtherRank, areOthers, isOther, isServing, isFourth, base_of}
+use Rattle.local_h.specs.Order.{offset_at, same}
+use Rattle.local_h.specs.Base.{member_at, on_line, is_other_rank, are_others, is_other, is_serving, is_fourth, base_of}
 use Rattle.local_h.specs.Places.{FoundFrom, BaseFound, FiveRanks}
 use Rattle.local_h.specs.declared.Found.{Found}
 use Rattle.local_h.specs.declared.FoundBase.{FoundBase}
-use Rattle.local_h.specs.Residual.{residualFrom, residualAt}
+use Rattle.local_h.specs.Residual.{residual_from, residual_at}
 use Rattle.local_h.proofs.Ordered.{offsets-differ}
 
 -- four places of the order, rising, with points of other indices that are not all on one lattice line
@@ -31,74 +31,74 @@ pub record FourOthers (w : View) (k : ℕ) (b : Base) : Type 0 where
   pub second-third : b.b < b.c
   pub third-fourth : b.c < b.d
   pub within : b.d < 24
-  pub one : isOther w k b.a ≡ true
-  pub two : isOther w k b.b ≡ true
-  pub three : isOther w k b.c ≡ true
-  pub four : isOther w k b.d ≡ true
-  pub off-line : onLine (offsetAt b.a) (offsetAt b.b) (offsetAt b.c) && onLine (offsetAt b.a) (offsetAt b.b) (offsetAt b.d) ≡ false
+  pub one : is_other w k b.a ≡ true
+  pub two : is_other w k b.b ≡ true
+  pub three : is_other w k b.c ≡ true
+  pub four : is_other w k b.d ≡ true
+  pub off-line : on_line (offset_at b.a) (offset_at b.b) (offset_at b.c) && on_line (offset_at b.a) (offset_at b.b) (offset_at b.d) ≡ false
 
 -- Of the places before the third only the first and the second have points of other indices, and of those between the third and the fourth
 -- none would have served.
 pub record Four (w : View) (k : ℕ) (b : Base) : Type 0 where
   pub others : FourOthers w k b
-  pub no_other : (p : ℕ) → p < b.c → (p ≡ b.a → ⊥) → (p ≡ b.b → ⊥) → isOther w k p ≡ false
-  pub no-fourth : (p : ℕ) → b.c < p → p < b.d → isFourth w k b.a b.b b.c p ≡ false
+  pub no_other : (p : ℕ) → p < b.c → (p ≡ b.a → ⊥) → (p ≡ b.b → ⊥) → is_other w k p ≡ false
+  pub no-fourth : (p : ℕ) → b.c < p → p < b.d → is_fourth w k b.a b.b b.c p ≡ false
 
 -- two places of the order lead to different cells
 abbrev differ : ℕ → ℕ → Type 0
-differ p q = same (offsetAt p) (offsetAt q) ≡ false
+differ p q = same (offset_at p) (offset_at q) ≡ false
 
 -- "Three are taken; the fourth is the next that leaves the four not all on one lattice line."
 module _ (w : View) (k : ℕ) where
   pub base-four : (base_of w k).d < 24 → Four w k (base_of w k)
-  unfolding base_of isServing
+  unfolding base_of is_serving
   base-four h = record {
     others = record {
       first-second = omega (arith, bc, cd, ab);
       second-third = omega (arith, bc);
       third-fourth = omega (arith, cd);
       within = h;
-      one = first_holds (isOther w k) 0 24 (omega (arith, ab, bc, cd));
-      two = first_holds (isOther w k) (a + 1) 24 (omega (arith, bc, cd));
-      three = first_holds (isOther w k) (b + 1) 24 (omega (arith, cd));
-      four = and_right (not (straight d)) (isOther w k d) (serves d (first_holds (isFourth w k a b c) (c + 1) 24 h));
-      off-line = not-true (straight d) (and_left (not (straight d)) (isOther w k d) (serves d (first_holds (isFourth w k a b c) (c + 1) 24 h)));
+      one = first_holds (is_other w k) 0 24 (omega (arith, ab, bc, cd));
+      two = first_holds (is_other w k) (a + 1) 24 (omega (arith, bc, cd));
+      three = first_holds (is_other w k) (b + 1) 24 (omega (arith, cd));
+      four = and_right (not (straight d)) (is_other w k d) (serves d (first_holds (is_fourth w k a b c) (c + 1) 24 h));
+      off-line = not-true (straight d) (and_left (not (straight d)) (is_other w k d) (serves d (first_holds (is_fourth w k a b c) (c + 1) 24 h)));
     };
     no_other = λ p l na nb. between p l na nb (dec_lt p a) (dec_lt p b);
-    no-fourth = λ p l m. first-before (isFourth w k a b c) (c + 1) 24 p (omega arith) m;
+    no-fourth = λ p l m. first-before (is_fourth w k a b c) (c + 1) 24 p (omega arith) m;
   }
     where
       a : ℕ
-      a = first (isOther w k) 0 24
+      a = first (is_other w k) 0 24
 
       b : ℕ
-      b = first (isOther w k) (a + 1) 24
+      b = first (is_other w k) (a + 1) 24
 
       c : ℕ
-      c = first (isOther w k) (b + 1) 24
+      c = first (is_other w k) (b + 1) 24
 
       d : ℕ
-      d = first (isFourth w k a b c) (c + 1) 24
+      d = first (is_fourth w k a b c) (c + 1) 24
 
       ab : a + 1 ≤ b
-      ab = first-from (isOther w k) (a + 1) 24
+      ab = first-from (is_other w k) (a + 1) 24
 
       bc : b + 1 ≤ c
-      bc = first-from (isOther w k) (b + 1) 24
+      bc = first-from (is_other w k) (b + 1) 24
 
       cd : c + 1 ≤ d
-      cd = first-from (isFourth w k a b c) (c + 1) 24
+      cd = first-from (is_fourth w k a b c) (c + 1) 24
 
       straight : ℕ → Bool
-      straight p = onLine (offsetAt a) (offsetAt b) (offsetAt c) && onLine (offsetAt a) (offsetAt b) (offsetAt p)
+      straight p = on_line (offset_at a) (offset_at b) (offset_at c) && on_line (offset_at a) (offset_at b) (offset_at p)
 
-      serves : (p : ℕ) → isFourth w k a b c p ≡ true → not (straight p) && isOther w k p ≡ true
+      serves : (p : ℕ) → is_fourth w k a b c p ≡ true → not (straight p) && is_other w k p ≡ true
       serves p e = e
 
-      between : (p : ℕ) → p < c → (p ≡ a → ⊥) → (p ≡ b → ⊥) → Dec (p < a) → Dec (p < b) → isOther w k p ≡ false
-      between p l na nb (yes m) q = first-before (isOther w k) 0 24 p (omega arith) m
-      between p l na nb (no f) (yes m) = first-before (isOther w k) (a + 1) 24 p (omega (arith, f, na)) m
-      between p l na nb (no f) (no g) = first-before (isOther w k) (b + 1) 24 p (omega (arith, g, nb)) l
+      between : (p : ℕ) → p < c → (p ≡ a → ⊥) → (p ≡ b → ⊥) → Dec (p < a) → Dec (p < b) → is_other w k p ≡ false
+      between p l na nb (yes m) q = first-before (is_other w k) 0 24 p (omega arith) m
+      between p l na nb (no f) (yes m) = first-before (is_other w k) (a + 1) 24 p (omega (arith, f, na)) m
+      between p l na nb (no f) (no g) = first-before (is_other w k) (b + 1) 24 p (omega (arith, g, nb)) l
 
   pub four-of : (b : Base) → b ≡ base_of w k → b.d < 24 → FourOthers w k b
   four-of b e h = rw e (base-four (rw e at h)).others
@@ -118,25 +118,25 @@ module _ (w : View) (k : ℕ) where
       )
 
   -- whether place p serves, from its offset and the rank there
-  pub serving-is : (leave : Bool) (e f : Offset) (p : ℕ) {o : Offset} {j : ℕ} → o ≡ offsetAt p → j ≡ memberAt w k p → not (leave && onLine e f o) && isOtherRank w k j ≡ isServing w k leave e f p
-  unfolding isServing isOther
+  pub serving-is : (leave : Bool) (e f : Offset) (p : ℕ) {o : Offset} {j : ℕ} → o ≡ offset_at p → j ≡ member_at w k p → not (leave && on_line e f o) && is_other_rank w k j ≡ is_serving w k leave e f p
+  unfolding is_serving is_other
   serving-is leave e f p eo ej = rw (eo, ej)
 
   -- a place with a point of another index has a rank
-  pub other-rank : (p : ℕ) → isOther w k p ≡ true → memberAt w k p < w.count
-  unfolding isOther
-  other-rank p e = ltb-true (memberAt w k p) w.count (and_left (ltb (memberAt w k p) w.count) _ e)
+  pub other-rank : (p : ℕ) → is_other w k p ≡ true → member_at w k p < w.count
+  unfolding is_other
+  other-rank p e = ltb-true (member_at w k p) w.count (and_left (ltb (member_at w k p) w.count) _ e)
 
-  pub serving-rank : (leave : Bool) (e f : Offset) (p : ℕ) → isServing w k leave e f p ≡ true → memberAt w k p < w.count
-  unfolding isServing
-  serving-rank leave e f p h = other-rank p (and_right (not (leave && onLine e f (offsetAt p))) (isOther w k p) h)
+  pub serving-rank : (leave : Bool) (e f : Offset) (p : ℕ) → is_serving w k leave e f p ≡ true → member_at w k p < w.count
+  unfolding is_serving
+  serving-rank leave e f p h = other-rank p (and_right (not (leave && on_line e f (offset_at p))) (is_other w k p) h)
 
 -- the nearest four are not all on one lattice line
-nearest-base : (w : View) (k : ℕ) → isOtherRank w k (memberAt w k 0) ≡ true → isOtherRank w k (memberAt w k 1) ≡ true → isOtherRank w k (memberAt w k 2) ≡ true → isOtherRank w k (memberAt w k 3) ≡ true
+nearest-base : (w : View) (k : ℕ) → is_other_rank w k (member_at w k 0) ≡ true → is_other_rank w k (member_at w k 1) ≡ true → is_other_rank w k (member_at w k 2) ≡ true → is_other_rank w k (member_at w k 3) ≡ true
     → ◌≡◌ {A = Base} (record { a = 0; b = 1; c = 2; d = 3 }) (base_of w k)
-unfolding base_of isServing isOther onLine
+unfolding base_of is_serving is_other on_line
 nearest-base w k a b c d =
-    rw (here (isOther w k) 0 (omega arith) a, here (isOther w k) 1 (omega arith) b, here (isOther w k) 2 (omega arith) c, here (isFourth w k 0 1 2) 3 (omega arith) d)
+    rw (here (is_other w k) 0 (omega arith) a, here (is_other w k) 1 (omega arith) b, here (is_other w k) 2 (omega arith) c, here (is_fourth w k 0 1 2) 3 (omega arith) d)
   where
     here : (p : ℕ → Bool) (i : ℕ) → i < 24 → p i ≡ true → first p i 24 ≡ i
     here p i h e = first_more p i 24 h ∙ ap (λ (t : Bool). cond t i (first p (i + 1) 24)) e
@@ -144,12 +144,12 @@ nearest-base w k a b c d =
 -- the base of rank k, from the places that the code found
 module _ (n : ℕ) (ranks : List ℕ) (k : ℕ) where
   abbrev found : Bool → Offset → Offset → ℕ → Found → Type 0
-  found leave e f start r = FoundFrom (viewAt n ranks [] []) k leave e f start r
+  found leave e f start r = FoundFrom (view_at n ranks [] []) k leave e f start r
 
   pub base-found : (xs ys : List Float) {a b c d : Found} {leave : Bool} → found false own own 0 a → found false own own (a.place + 1) b → found false own own (b.place + 1) c
-      → leave ≡ onLine a.offset b.offset c.offset → found leave a.offset b.offset (c.place + 1) d
-      → BaseFound (viewAt n ranks xs ys) k (record { base = record { a = a.place; b = b.place; c = c.place; d = d.place }; i = a.rank; j = b.rank; l = c.rank; m = d.rank })
-  unfolding base_of isServing isOther
+      → leave ≡ on_line a.offset b.offset c.offset → found leave a.offset b.offset (c.place + 1) d
+      → BaseFound (view_at n ranks xs ys) k (record { base = record { a = a.place; b = b.place; c = c.place; d = d.place }; i = a.rank; j = b.rank; l = c.rank; m = d.rank })
+  unfolding base_of is_serving is_other
   base-found xs ys {a} {b} {c} {d} pa pb pc pl pd =
       let bc = pc.place.from in
       let cd = pd.place.from in
@@ -162,25 +162,25 @@ module _ (n : ℕ) (ranks : List ℕ) (k : ℕ) where
       }
 
   -- where the nearest four have points of other indices, they are the base
-  pub nearest-found : (xs ys : List Float) {i j l m : ℕ} → i ≡ memberAt (viewAt n ranks [] []) k 0 → j ≡ memberAt (viewAt n ranks [] []) k 1 → l ≡ memberAt (viewAt n ranks [] []) k 2 → m ≡ memberAt (viewAt n ranks [] []) k 3
-      → areOthers (viewAt n ranks [] []) k i j l m ≡ true → BaseFound (viewAt n ranks xs ys) k (record { base = record { a = 0; b = 1; c = 2; d = 3 }; i = i; j = j; l = l; m = m })
+  pub nearest-found : (xs ys : List Float) {i j l m : ℕ} → i ≡ member_at (view_at n ranks [] []) k 0 → j ≡ member_at (view_at n ranks [] []) k 1 → l ≡ member_at (view_at n ranks [] []) k 2 → m ≡ member_at (view_at n ranks [] []) k 3
+      → are_others (view_at n ranks [] []) k i j l m ≡ true → BaseFound (view_at n ranks xs ys) k (record { base = record { a = 0; b = 1; c = 2; d = 3 }; i = i; j = j; l = l; m = m })
   nearest-found xs ys {i} {j} {l} {m} ei ej el em t =
-      let w = viewAt n ranks [] [] in
-      let tj = and_right (isOtherRank w k i) _ t in
-      let tl = and_right (isOtherRank w k j) _ tj in
+      let w = view_at n ranks [] [] in
+      let tj = and_right (is_other_rank w k i) _ t in
+      let tl = and_right (is_other_rank w k j) _ tj in
       record {
-        base = nearest-base (viewAt n ranks xs ys) k (other 0 ei (and_left (isOtherRank w k i) _ t)) (other 1 ej (and_left (isOtherRank w k j) _ tj)) (other 2 el (and_left (isOtherRank w k l) _ tl)) (other 3 em (and_right (isOtherRank w k l) _ tl));
+        base = nearest-base (view_at n ranks xs ys) k (other 0 ei (and_left (is_other_rank w k i) _ t)) (other 1 ej (and_left (is_other_rank w k j) _ tj)) (other 2 el (and_left (is_other_rank w k l) _ tl)) (other 3 em (and_right (is_other_rank w k l) _ tl));
         first = λ h. ei;
         second = λ h. ej;
         third = λ h. el;
         fourth = λ h. em;
       }
     where
-      other : (p : ℕ) {r : ℕ} → r ≡ memberAt (viewAt n ranks [] []) k p → isOtherRank (viewAt n ranks [] []) k r ≡ true → isOtherRank (viewAt n ranks [] []) k (memberAt (viewAt n ranks [] []) k p) ≡ true
+      other : (p : ℕ) {r : ℕ} → r ≡ member_at (view_at n ranks [] []) k p → is_other_rank (view_at n ranks [] []) k r ≡ true → is_other_rank (view_at n ranks [] []) k (member_at (view_at n ranks [] []) k p) ≡ true
       other p e o = rw (← e) o
 
 -- the members of a base with its fourth are ranks
-pub members-ranked : (w : View) (k : ℕ) (r : FoundBase) → BaseFound w k r → r.base.d < 24 → w.count ≤ maxPoints → k < maxPoints → FiveRanks k r.i r.j r.l r.m
+pub members-ranked : (w : View) (k : ℕ) (r : FoundBase) → BaseFound w k r → r.base.d < 24 → w.count ≤ max_points → k < max_points → FiveRanks k r.i r.j r.l r.m
 members-ranked w k r f h few below =
     let o = four-of w k r.base f.base h in
     record {
@@ -192,11 +192,11 @@ members-ranked w k r f h few below =
     }
 
 -- the residual, from a base
-module _ (n : ℕ) (ranks : List ℕ) (xs ys : List Float) (cell : ℕ → Cell) (k : ℕ) (r : FoundBase) (f : BaseFound (viewAt n ranks xs ys) k r) where
-  pub fitted : r.base.d < 24 → residualFrom (viewAt 0 [] xs ys) cell k r.i r.j r.l r.m ≡ residualAt (viewAt n ranks xs ys) cell k
-  unfolding residualAt residualFrom
+module _ (n : ℕ) (ranks : List ℕ) (xs ys : List Float) (cell : ℕ → Cell) (k : ℕ) (r : FoundBase) (f : BaseFound (view_at n ranks xs ys) k r) where
+  pub fitted : r.base.d < 24 → residual_from (view_at 0 [] xs ys) cell k r.i r.j r.l r.m ≡ residual_at (view_at n ranks xs ys) cell k
+  unfolding residual_at residual_from
   fitted h = rw (← f.base, lt-ltb r.base.d 24 h, ← f.first h, ← f.second h, ← f.third h, ← f.fourth h)
 
-  pub unfitted : 24 ≤ r.base.d → NoFit ≡ residualAt (viewAt n ranks xs ys) cell k
-  unfolding residualAt
+  pub unfitted : 24 ≤ r.base.d → NoFit ≡ residual_at (view_at n ranks xs ys) cell k
+  unfolding residual_at
   unfitted h = rw (← f.base, le-ltb r.base.d 24 h)

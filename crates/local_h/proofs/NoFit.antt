@@ -7,13 +7,13 @@ use lib.Ieee.{Float}
 use Rattle.homography.specs.declared.PlanePoint.{PlanePoint}
 use Rattle.homography.specs.declared.Homography.{Homography}
 use Rattle.homography.specs.declared.HomographyFit.TheVariants as fit
-use Rattle.homography.specs.NoFit.{isUnfit}
+use Rattle.homography.specs.NoFit.{is_unfit}
 use Rattle.homography.proofs.NoFit.{fit-unless}
 use Rattle.cells.specs.Cell.{Cell}
 use Rattle.view.specs.View.{View}
-use Rattle.local_h.specs.Base.{hasFour}
-use Rattle.local_h.specs.Residual.{distanceBy, residualBy, residualFrom, residualAt}
-use Rattle.local_h.specs.NoFit.{isUnfitAt}
+use Rattle.local_h.specs.Base.{has_four}
+use Rattle.local_h.specs.Residual.{distance_by, residual_by, residual_from, residual_at}
+use Rattle.local_h.specs.NoFit.{is_unfit_at}
 use Rattle.local_h.specs.declared.Residual.{Residual}
 use Rattle.local_h.specs.declared.Residual.TheVariants.{Value, NoFit}
 
@@ -21,11 +21,11 @@ use Rattle.local_h.specs.declared.Residual.TheVariants.{Value, NoFit}
 abbrev Unless : Bool → Residual → Type 0
 Unless b r = (x : Float) × (r ≡ cond b NoFit (Value x))
 
-unless : (four unfit : Bool) (h : Homography) (p q : PlanePoint) → Unless (not four || unfit) (cond four (residualBy (cond unfit fit.NoFit (fit.Found h)) p q) NoFit)
-unfolding residualBy
-unless true true h p q = (distanceBy h p q, refl)
-unless true false h p q = (distanceBy h p q, refl)
-unless false unfit h p q = (distanceBy h p q, refl)
+unless : (four unfit : Bool) (h : Homography) (p q : PlanePoint) → Unless (not four || unfit) (cond four (residual_by (cond unfit fit.NoFit (fit.Found h)) p q) NoFit)
+unfolding residual_by
+unless true true h p q = (distance_by h p q, refl)
+unless true false h p q = (distance_by h p q, refl)
+unless false unfit h p q = (distance_by h p q, refl)
 
 data IsNone : Residual → Type 0 where
   none : IsNone NoFit
@@ -39,18 +39,18 @@ none_of true x e = refl
 none_of false x e = elim e [ ]
 
 module _ (w : View) (cell : ℕ → Cell) (k : ℕ) where
-  residual-unless : Unless (isUnfitAt w cell k) (residualAt w cell k)
-  unfolding residualAt residualFrom isUnfitAt
-  residual-unless = rw (fit-unless _ _) (unless (hasFour w k) (isUnfit _ _) _ _ _)
+  residual-unless : Unless (is_unfit_at w cell k) (residual_at w cell k)
+  unfolding residual_at residual_from is_unfit_at
+  residual-unless = rw (fit-unless _ _) (unless (has_four w k) (is_unfit _ _) _ _ _)
 
   -- no fit is found in these cases only
-  pub no-fit-only : residualAt w cell k ≡ NoFit → isUnfitAt w cell k ≡ true
-  no-fit-only e = none_of (isUnfitAt w cell k) residual-unless.0 (subst IsNone (sym e ∙ residual-unless.1) none)
+  pub no-fit-only : residual_at w cell k ≡ NoFit → is_unfit_at w cell k ≡ true
+  no-fit-only e = none_of (is_unfit_at w cell k) residual-unless.0 (subst IsNone (sym e ∙ residual-unless.1) none)
 
   -- and in all of them
-  pub no-fit-all : isUnfitAt w cell k ≡ true → residualAt w cell k ≡ NoFit
+  pub no-fit-all : is_unfit_at w cell k ≡ true → residual_at w cell k ≡ NoFit
   no-fit-all e = residual-unless.1 ∙ rw e refl
 
   -- in all others the residual is a number
-  pub value-else : isUnfitAt w cell k ≡ false → IsValue (residualAt w cell k)
+  pub value-else : is_unfit_at w cell k ≡ false → IsValue (residual_at w cell k)
   value-else e = rw (residual-unless.1, e) (value residual-unless.0)

@@ -14,14 +14,14 @@ use borrow.Author.Rules.{sfits_of}
 use borrow.Author.Tests.{eqb-true, eq-eqb}
 use Rattle.folds.proofs.Below.{both_ways}
 use Rattle.offsets.specs.declared.Offset.{Offset}
-use Rattle.offsets.specs.Offsets.{−2, −1, ±0, +1, +2, isWithin2, isNear}
+use Rattle.offsets.specs.Offsets.{−2, −1, ±0, +1, +2, is_within2, is_near}
 use Rattle.offsets.proofs.Places.{each-within-2, within-u, within-v}
 use Rattle.cells.specs.Cell.{agree}
 use Rattle.cells.proofs.Edges.{agree_same, agree-true}
-use Rattle.local_h.specs.Base.{stepProduct}
+use Rattle.local_h.specs.Base.{step_product}
 
 -- a difference is at most 4
-pub difference-small : (x y : ℤ) → isWithin2 x ≡ true → isWithin2 y ≡ true → nat_abs (x -ℤ y) ≤ 4
+pub difference-small : (x y : ℤ) → is_within2 x ≡ true → is_within2 y ≡ true → nat_abs (x -ℤ y) ≤ 4
 difference-small x y h l =
     each-within-2 (λ (x : ℤ). nat_abs (x -ℤ y) ≤ 4) (less −2 (omega arith, omega arith, omega arith, omega arith, omega arith)) (less −1 (omega arith, omega arith, omega arith, omega arith, omega arith))
     (less ±0 (omega arith, omega arith, omega arith, omega arith, omega arith)) (less +1 (omega arith, omega arith, omega arith, omega arith, omega arith)) (less +2 (omega arith, omega arith, omega arith, omega arith, omega arith)) x h
@@ -36,7 +36,7 @@ mag-abs : (z : ℤ) → mag z ≤ nat_abs z
 mag-abs (pos n) = omega arith
 mag-abs (negsuc n) = omega arith
 
-pub difference-fits : (x y : ℤ) → isWithin2 x ≡ true → isWithin2 y ≡ true → SFits w8 (x -ℤ y)
+pub difference-fits : (x y : ℤ) → is_within2 x ≡ true → is_within2 y ≡ true → SFits w8 (x -ℤ y)
 difference-fits x y h l = sfits_of (omega (arith, mag-abs (x -ℤ y), difference-small x y h l))
 
 pub small-held : (z : ℤ) → nat_abs z ≤ 4 → to_z w8 (of_z w8 z) ≡ z
@@ -56,7 +56,7 @@ product_small (negsuc m) (negsuc n) h l = mul-le-mul {n₂ = 4} {m₂ = 4} h l
 pub product-fits : (x y : ℤ) → nat_abs x ≤ 4 → nat_abs y ≤ 4 → SFits w8 (x *ℤ y)
 product-fits x y h l = sfits_of (omega (arith, product_small x y h l))
 
-pub step_fits : (a b c : Offset) → isNear a ≡ true → isNear b ≡ true → isNear c ≡ true → SFits w8 (stepProduct a b c)
+pub step_fits : (a b c : Offset) → is_near a ≡ true → is_near b ≡ true → is_near c ≡ true → SFits w8 (step_product a b c)
 step_fits a b c ha hb hc =
     product-fits (b.du -ℤ a.du) (c.dv -ℤ a.dv) (difference-small b.du a.du (within-u b hb) (within-u a ha)) (difference-small c.dv a.dv (within-v c hc) (within-v a ha))
 

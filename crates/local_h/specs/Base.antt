@@ -4,50 +4,50 @@ use Rattle.folds.specs.Below.{first}
 use Rattle.offsets.specs.declared.Offset.{Offset}
 use Rattle.view.specs.View.{View, rank_at, alike}
 use Rattle.cells.specs.Cell.{agree}
-use Rattle.local_h.specs.Order.{offsetAt}
+use Rattle.local_h.specs.Order.{offset_at}
 use Rattle.local_h.specs.declared.Base.{Base}
 
 -- the step from a to b along u times that from a to c along v
-abbrev pub stepProduct : Offset → Offset → Offset → ℤ
-stepProduct a b c = (b.du -ℤ a.du) *ℤ (c.dv -ℤ a.dv)
+abbrev pub step_product : Offset → Offset → Offset → ℤ
+step_product a b c = (b.du -ℤ a.du) *ℤ (c.dv -ℤ a.dv)
 
 -- three offsets on one lattice line: their triangle has no area
-unfoldable pub onLine : Offset → Offset → Offset → Bool
-onLine a b c = agree (stepProduct a b c) (stepProduct a c b)
+unfoldable pub on_line : Offset → Offset → Offset → Bool
+on_line a b c = agree (step_product a b c) (step_product a c b)
 
 module _ (w : View) where
   -- the rank at place p of the order round rank k
-  abbrev pub memberAt : ℕ → ℕ → ℕ
-  memberAt k p = rank_at w k (offsetAt p)
+  abbrev pub member_at : ℕ → ℕ → ℕ
+  member_at k p = rank_at w k (offset_at p)
 
   -- "cells with the corner's own index are skipped": j is a rank with another index
-  abbrev pub isOtherRank : ℕ → ℕ → Bool
-  isOtherRank k j = ltb j w.count && not (alike w j k)
+  abbrev pub is_other_rank : ℕ → ℕ → Bool
+  is_other_rank k j = ltb j w.count && not (alike w j k)
 
   -- each of i, j, l and m is one
-  abbrev pub areOthers : ℕ → ℕ → ℕ → ℕ → ℕ → Bool
-  areOthers k i j l m = isOtherRank k i && (isOtherRank k j && (isOtherRank k l && isOtherRank k m))
+  abbrev pub are_others : ℕ → ℕ → ℕ → ℕ → ℕ → Bool
+  are_others k i j l m = is_other_rank k i && (is_other_rank k j && (is_other_rank k l && is_other_rank k m))
 
   -- there is such a point at place p
-  unfoldable pub isOther : ℕ → ℕ → Bool
-  isOther k p = isOtherRank k (memberAt k p)
+  unfoldable pub is_other : ℕ → ℕ → Bool
+  is_other k p = is_other_rank k (member_at k p)
 
   -- place p serves, where the line through the offsets e and f is to be left or not
-  unfoldable pub isServing : ℕ → Bool → Offset → Offset → ℕ → Bool
-  isServing k leave e f p = not (leave && onLine e f (offsetAt p)) && isOther k p
+  unfoldable pub is_serving : ℕ → Bool → Offset → Offset → ℕ → Bool
+  is_serving k leave e f p = not (leave && on_line e f (offset_at p)) && is_other k p
 
   -- it serves as the fourth, after the places a, b and c
-  abbrev pub isFourth : ℕ → ℕ → ℕ → ℕ → ℕ → Bool
-  isFourth k a b c p = isServing k (onLine (offsetAt a) (offsetAt b) (offsetAt c)) (offsetAt a) (offsetAt b) p
+  abbrev pub is_fourth : ℕ → ℕ → ℕ → ℕ → ℕ → Bool
+  is_fourth k a b c p = is_serving k (on_line (offset_at a) (offset_at b) (offset_at c)) (offset_at a) (offset_at b) p
 
   -- the base of rank k, by places in the order; a place of 24 or more is none, and then so are those after it
   unfoldable pub base_of : ℕ → Base
   base_of k =
-      let a = first (isOther k) 0 24 in
-      let b = first (isOther k) (a + 1) 24 in
-      let c = first (isOther k) (b + 1) 24 in
-      record { a = a; b = b; c = c; d = first (isFourth k a b c) (c + 1) 24 }
+      let a = first (is_other k) 0 24 in
+      let b = first (is_other k) (a + 1) 24 in
+      let c = first (is_other k) (b + 1) 24 in
+      record { a = a; b = b; c = c; d = first (is_fourth k a b c) (c + 1) 24 }
 
   -- the base of rank k has its fourth, and so four members; where it has not, there are no four such points (proofs/Fewer.antt)
-  abbrev pub hasFour : ℕ → Bool
-  hasFour k = ltb (base_of k).d 24
+  abbrev pub has_four : ℕ → Bool
+  has_four k = ltb (base_of k).d 24

@@ -3,16 +3,16 @@ use Rattle.std.specs.Prelude.{Bool, true, cond, List, [], ◌∷◌, ℕ, ℤ, F
 use Rattle.std.specs.Float.{binary32}
 use Rattle.std.specs.Float.Ieee.{of_int}
 use Rattle.folds.specs.Arith.{◌⊖◌}
-use Rattle.folds.specs.Below.{first, firstIn}
-use Rattle.float.specs.Scalar.{normOf}
+use Rattle.folds.specs.Below.{first, first_in}
+use Rattle.float.specs.Scalar.{norm_of}
 use Rattle.homography.specs.declared.PlanePoint.{PlanePoint}
 use Rattle.homography.specs.declared.Homography.{Homography}
 use Rattle.homography.specs.declared.HomographyFit.{HomographyFit}
 use Rattle.homography.specs.declared.HomographyFit.TheVariants as fit
-use Rattle.homography.specs.Fit.{homographyFrom4pt, appliedTo, fit-computes}
+use Rattle.homography.specs.Fit.{homography_from4pt, applied_to, fit-computes}
 use Rattle.cells.specs.Cell.{Cell}
 use Rattle.view.specs.View.{View}
-use Rattle.local_h.specs.Base.{memberAt, onLine, isOther, isServing, base_of, hasFour}
+use Rattle.local_h.specs.Base.{member_at, on_line, is_other, is_serving, base_of, has_four}
 use Rattle.local_h.specs.declared.Residual.{Residual}
 use Rattle.local_h.specs.declared.Residual.TheVariants.{Value, NoFit}
 
@@ -21,41 +21,41 @@ abbrev pub coordinate : ℤ → Float
 coordinate z = of_int binary32 z
 
 -- a cell as a point
-abbrev pub cellPoint : Cell → PlanePoint
-cellPoint c = record { x = coordinate c.u; y = coordinate c.v }
+abbrev pub cell_point : Cell → PlanePoint
+cell_point c = record { x = coordinate c.u; y = coordinate c.v }
 
 -- how far the map h takes p from q
-abbrev pub distanceBy : Homography → PlanePoint → PlanePoint → Float
-distanceBy h p q = normOf ((appliedTo h p).x ⊖ q.x) ((appliedTo h p).y ⊖ q.y)
+abbrev pub distance_by : Homography → PlanePoint → PlanePoint → Float
+distance_by h p q = norm_of ((applied_to h p).x ⊖ q.x) ((applied_to h p).y ⊖ q.y)
 
 -- "A residual is a number or the finding that no fit exists": how far the map takes p from q
-unfoldable pub residualBy : HomographyFit → PlanePoint → PlanePoint → Residual
-residualBy (fit.Found h) p q = Value (distanceBy h p q)
-residualBy fit.NoFit p q = NoFit
+unfoldable pub residual_by : HomographyFit → PlanePoint → PlanePoint → Residual
+residual_by (fit.Found h) p q = Value (distance_by h p q)
+residual_by fit.NoFit p q = NoFit
 
 -- where rank k is seen. "One index stands at positions with different bits" is refused, so this is its index's position.
 abbrev pub seen_at : View → ℕ → PlanePoint
 seen_at w k = record { x = w.x k; y = w.y k }
 
 -- the cells of the ranks i, j, l and m as points, and where these ranks are seen
-abbrev pub fourCells : (ℕ → Cell) → ℕ → ℕ → ℕ → ℕ → List PlanePoint
-fourCells cell i j l m = cellPoint (cell i) ∷ cellPoint (cell j) ∷ cellPoint (cell l) ∷ cellPoint (cell m) ∷ []
+abbrev pub four_cells : (ℕ → Cell) → ℕ → ℕ → ℕ → ℕ → List PlanePoint
+four_cells cell i j l m = cell_point (cell i) ∷ cell_point (cell j) ∷ cell_point (cell l) ∷ cell_point (cell m) ∷ []
 
-abbrev pub fourSeen : View → ℕ → ℕ → ℕ → ℕ → List PlanePoint
-fourSeen w i j l m = seen_at w i ∷ seen_at w j ∷ seen_at w l ∷ seen_at w m ∷ []
+abbrev pub four_seen : View → ℕ → ℕ → ℕ → ℕ → List PlanePoint
+four_seen w i j l m = seen_at w i ∷ seen_at w j ∷ seen_at w l ∷ seen_at w m ∷ []
 
 module _ (w : View) (cell : ℕ → Cell) where
   -- the residual of rank k by the ranks i, j, l and m
-  unfoldable pub residualFrom : ℕ → ℕ → ℕ → ℕ → ℕ → Residual
-  residualFrom k i j l m = residualBy (homographyFrom4pt (fourCells cell i j l m) (fourSeen w i j l m)) (cellPoint (cell k)) (seen_at w k)
+  unfoldable pub residual_from : ℕ → ℕ → ℕ → ℕ → ℕ → Residual
+  residual_from k i j l m = residual_by (homography_from4pt (four_cells cell i j l m) (four_seen w i j l m)) (cell_point (cell k)) (seen_at w k)
 
   -- "With fewer than four there is no fit."
-  unfoldable pub residualAt : ℕ → Residual
-  residualAt k =
+  unfoldable pub residual_at : ℕ → Residual
+  residual_at k =
       let b = base_of w k in
-      cond (hasFour w k) (residualFrom k (memberAt w k b.a) (memberAt w k b.b) (memberAt w k b.c) (memberAt w k b.d)) NoFit
+      cond (has_four w k) (residual_from k (member_at w k b.a) (member_at w k b.b) (member_at w k b.c) (member_at w k b.d)) NoFit
 
 -- This name on an `unfolding` line opens every definition that a residual computes by.
 unfoldable pub residuals-compute : Bool
-unfolding fit-computes of_int first firstIn onLine isOther isServing base_of residualBy residualFrom residualAt
+unfolding fit-computes of_int first first_in on_line is_other is_serving base_of residual_by residual_from residual_at
 residuals-compute = true

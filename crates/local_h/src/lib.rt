@@ -2,14 +2,14 @@
 #![tactic(auto)]
 
 ghost use Rattle.std.specs.Prelude.{◌≡◌, true, not, ◌&&◌, List, [], ◌+◌, ◌*◌, ◌≤◌, ◌<◌, get_or, Float, pos, nat_abs, ◌-ℤ◌};
-ghost use Rattle.offsets.specs.Offsets.{isWithin2, isNear, place_of};
-ghost use Rattle.view.specs.View.{maxPoints, viewAt};
+ghost use Rattle.offsets.specs.Offsets.{is_within2, is_near, place_of};
+ghost use Rattle.view.specs.View.{max_points, view_at};
 ghost use Rattle.cells.specs.Points.{bias};
-ghost use Rattle.cells.specs.Cell.{cellOfKey, cellsAt};
-ghost use Rattle.local_h.specs.Order.{offsetAt};
-ghost use Rattle.local_h.specs.Base.{stepProduct, onLine, isOtherRank, areOthers, base_of};
+ghost use Rattle.cells.specs.Cell.{cell_of_key, cells_at};
+ghost use Rattle.local_h.specs.Order.{offset_at};
+ghost use Rattle.local_h.specs.Base.{step_product, on_line, is_other_rank, are_others, base_of};
 ghost use Rattle.local_h.specs.Places.{FoundFrom, BaseFound, FiveRanks};
-ghost use Rattle.local_h.specs.Residual.{coordinate, cellPoint, seen_at, residualBy, residualFrom, residualAt};
+ghost use Rattle.local_h.specs.Residual.{coordinate, cell_point, seen_at, residual_by, residual_from, residual_at};
 
 use homography::{HomographyFit, PlanePoint};
 use offsets::{OWN, Offset};
@@ -80,23 +80,23 @@ const NEAREST_FIRST: [Offset; 24] = [
 // The offset at place p of the order.
 fn offset_at(p: usize) -> Offset
     requires { p < 24 }
-    ensures { (result ≡ offsetAt p) × (isNear result ≡ true) }
+    ensures { (result ≡ offset_at p) × (is_near result ≡ true) }
 {
     NEAREST_FIRST[p]
 }
 
 // The rank at place p of the order round rank k; a number of points or more is none.
 pub fn member(ranks: &Ranks, k: usize, p: usize) -> usize
-    requires { (k < maxPoints) × (p < 24) }
-    ensures { result ≡ get_or ranks.now (25 * k + place_of (offsetAt p)) 0 }
+    requires { (k < max_points) × (p < 24) }
+    ensures { result ≡ get_or ranks.now (25 * k + place_of (offset_at p)) 0 }
 {
     view::rank_at(ranks, k, offset_at(p))
 }
 
 // Whether j is a rank whose index is not rank k's.
 fn is_other(ranks: &Ranks, n: usize, k: usize, j: usize) -> bool
-    requires { (n ≤ maxPoints) × (k < n) }
-    ensures { result ≡ isOtherRank (viewAt n ranks.now [] []) k j }
+    requires { (n ≤ max_points) × (k < n) }
+    ensures { result ≡ is_other_rank (view_at n ranks.now [] []) k j }
 {
     if j < n {
         return view::index_of(ranks, j) != view::index_of(ranks, k);
@@ -106,7 +106,7 @@ fn is_other(ranks: &Ranks, n: usize, k: usize, j: usize) -> bool
 
 // What is added to y for x, of two parts of offsets.
 fn difference(x: i8, y: i8) -> i8
-    requires { (isWithin2 x ≡ true) × (isWithin2 y ≡ true) }
+    requires { (is_within2 x ≡ true) × (is_within2 y ≡ true) }
     ensures { (result ≡ x -ℤ y) × (nat_abs result ≤ 4) }
 {
     x - y
@@ -114,16 +114,16 @@ fn difference(x: i8, y: i8) -> i8
 
 // The step from a to b along u times that from a to c along v.
 fn product(a: Offset, b: Offset, c: Offset) -> i8
-    requires { (isNear a ≡ true) × (isNear b ≡ true) × (isNear c ≡ true) }
-    ensures { result ≡ stepProduct a b c }
+    requires { (is_near a ≡ true) × (is_near b ≡ true) × (is_near c ≡ true) }
+    ensures { result ≡ step_product a b c }
 {
     difference(b.du, a.du) * difference(c.dv, a.dv)
 }
 
 // Whether three offsets are on one lattice line.
 fn on_line(a: Offset, b: Offset, c: Offset) -> bool
-    requires { (isNear a ≡ true) × (isNear b ≡ true) × (isNear c ≡ true) }
-    ensures { result ≡ onLine a b c }
+    requires { (is_near a ≡ true) × (is_near b ≡ true) × (is_near c ≡ true) }
+    ensures { result ≡ on_line a b c }
 {
     product(a, b, c) == product(a, c, b)
 }
@@ -139,8 +139,8 @@ fn serves(
     o: Offset,
     j: usize,
 ) -> bool
-    requires { (n ≤ maxPoints) × (k < n) × (isNear e ≡ true) × (isNear f ≡ true) × (isNear o ≡ true) }
-    ensures { result ≡ not (leave && onLine e f o) && isOtherRank (viewAt n ranks.now [] []) k j }
+    requires { (n ≤ max_points) × (k < n) × (is_near e ≡ true) × (is_near f ≡ true) × (is_near o ≡ true) }
+    ensures { result ≡ not (leave && on_line e f o) && is_other_rank (view_at n ranks.now [] []) k j }
 {
     if is_other(ranks, n, k, j) {
         if leave {
@@ -161,8 +161,8 @@ fn next_place(
     f: Offset,
     start: usize,
 ) -> Found
-    requires { (n ≤ maxPoints) × (k < n) × (isNear e ≡ true) × (isNear f ≡ true) × (start < 100) }
-    ensures { FoundFrom (viewAt n ranks.now [] []) k leave e f start result }
+    requires { (n ≤ max_points) × (k < n) × (is_near e ≡ true) × (is_near f ≡ true) × (start < 100) }
+    ensures { FoundFrom (view_at n ranks.now [] []) k leave e f start result }
 {
     let mut p = start;
     while p < 24 {
@@ -186,8 +186,8 @@ fn next_place(
 
 // The base of rank k, with the ranks of its members.
 fn search_base(ranks: &Ranks, n: usize, k: usize) -> FoundBase
-    requires { (n ≤ maxPoints) × (k < n) }
-    ensures { (xs ys : List Float) → BaseFound (viewAt n ranks.now xs ys) k result }
+    requires { (n ≤ max_points) × (k < n) }
+    ensures { (xs ys : List Float) → BaseFound (view_at n ranks.now xs ys) k result }
 {
     let a = next_place(ranks, n, k, false, OWN, OWN, 0);
     let b = next_place(ranks, n, k, false, OWN, OWN, a.place + 1);
@@ -210,8 +210,8 @@ fn search_base(ranks: &Ranks, n: usize, k: usize) -> FoundBase
 
 // Whether each of four is a rank whose index is not rank k's.
 fn are_others(ranks: &Ranks, n: usize, k: usize, i: usize, j: usize, l: usize, m: usize) -> bool
-    requires { (n ≤ maxPoints) × (k < n) }
-    ensures { result ≡ areOthers (viewAt n ranks.now [] []) k i j l m }
+    requires { (n ≤ max_points) × (k < n) }
+    ensures { result ≡ are_others (view_at n ranks.now [] []) k i j l m }
 {
     if is_other(ranks, n, k, i) {
         if is_other(ranks, n, k, j) {
@@ -227,8 +227,8 @@ fn are_others(ranks: &Ranks, n: usize, k: usize, i: usize, j: usize, l: usize, m
 
 // The same, without a search where the nearest four cells have points of other indices: they are the base.
 fn find_base(ranks: &Ranks, n: usize, k: usize) -> FoundBase
-    requires { (n ≤ maxPoints) × (k < n) }
-    ensures { (xs ys : List Float) → BaseFound (viewAt n ranks.now xs ys) k result }
+    requires { (n ≤ max_points) × (k < n) }
+    ensures { (xs ys : List Float) → BaseFound (view_at n ranks.now xs ys) k result }
 {
     let i = member(ranks, k, 0);
     let j = member(ranks, k, 1);
@@ -253,8 +253,8 @@ fn find_base(ranks: &Ranks, n: usize, k: usize) -> FoundBase
 
 // The base of rank k.
 pub fn pick_local_h_base(ranks: &Ranks, n: usize, k: usize) -> Base
-    requires { (n ≤ maxPoints) × (k < n) }
-    ensures { (xs ys : List Float) → result ≡ base_of (viewAt n ranks.now xs ys) k }
+    requires { (n ≤ max_points) × (k < n) }
+    ensures { (xs ys : List Float) → result ≡ base_of (view_at n ranks.now xs ys) k }
 {
     let f = find_base(ranks, n, k);
     f.base
@@ -273,7 +273,7 @@ fn coordinate_of(b: u32) -> f32
 
 // The cell with this key as a point.
 fn key_point(key: u32) -> PlanePoint
-    ensures { result ≡ cellPoint (cellOfKey key) }
+    ensures { result ≡ cell_point (cell_of_key key) }
 {
     PlanePoint {
         x: coordinate_of(cells::u_part(key)),
@@ -283,23 +283,23 @@ fn key_point(key: u32) -> PlanePoint
 
 // That of rank k.
 fn cell_point(keys: &Words, k: usize) -> PlanePoint
-    requires { k < maxPoints }
-    ensures { result ≡ cellPoint (cellsAt keys.now k) }
+    requires { k < max_points }
+    ensures { result ≡ cell_point (cells_at keys.now k) }
 {
     key_point(keys[k])
 }
 
 // Where rank k is seen.
 fn seen_point(x: &Floats, y: &Floats, k: usize) -> PlanePoint
-    requires { k < maxPoints }
-    ensures { result ≡ seen_at (viewAt 0 [] x.now y.now) k }
+    requires { k < max_points }
+    ensures { result ≡ seen_at (view_at 0 [] x.now y.now) k }
 {
     PlanePoint { x: x[k], y: y[k] }
 }
 
 // How far the map takes p from q.
 fn residual_by(fit: HomographyFit, p: PlanePoint, q: PlanePoint) -> Residual
-    ensures { result ≡ residualBy fit p q }
+    ensures { result ≡ residual_by fit p q }
 {
     match fit {
         HomographyFit::Found(h) => {
@@ -322,7 +322,7 @@ fn residual_from(
     m: usize,
 ) -> Residual
     requires { FiveRanks k i j l m }
-    ensures { result ≡ residualFrom (viewAt 0 [] x.now y.now) (cellsAt keys.now) k i j l m }
+    ensures { result ≡ residual_from (view_at 0 [] x.now y.now) (cells_at keys.now) k i j l m }
 {
     let cells = [
         cell_point(keys, i),
@@ -349,8 +349,8 @@ pub fn local_h_residual(
     n: usize,
     k: usize,
 ) -> Residual
-    requires { (n ≤ maxPoints) × (k < n) }
-    ensures { result ≡ residualAt (viewAt n ranks.now x.now y.now) (cellsAt keys.now) k }
+    requires { (n ≤ max_points) × (k < n) }
+    ensures { result ≡ residual_at (view_at n ranks.now x.now y.now) (cells_at keys.now) k }
 {
     let f = find_base(ranks, n, k);
     if f.base.d < 24 {

@@ -8,28 +8,28 @@ use native.Mathlib.Omega.{arith}
 use lib.Ieee.{of_int, round, to_bits}
 use Rattle.folds.specs.Lists.{list_of}
 use Rattle.folds.proofs.Lists.{length-list}
-use Rattle.view.specs.View.{maxPoints}
-use Rattle.ruling.specs.Ruling.{Ruling, refused, accepted, rulingOf}
-use Rattle.written_file.specs.File.{weighedFile}
+use Rattle.view.specs.View.{max_points}
+use Rattle.ruling.specs.Ruling.{Ruling, refused, accepted, ruling_of}
+use Rattle.written_file.specs.File.{weighed_file}
 use Rattle.written_file.proofs.Framed.{SettingsSize}
 use Rattle.written_file.proofs.ReadBack.{many-refused, room-refused}
 use Rattle.kept.specs.Answer.{answer_of}
 use Rattle.kept.specs.declared.Answer.TheVariants.{Accepted}
-use Rattle.worst_sheet.specs.Worst.{floatBits, pointAt, worstPoints, settingsData, worstFile}
-use Rattle.worst_row.specs.Sheet.{worstSettings}
-use Rattle.promises.specs.Words.{roundsOf}
+use Rattle.worst_sheet.specs.Worst.{float_bits, point_at, worst_points, settings_data, worst_file}
+use Rattle.worst_row.specs.Sheet.{worst_settings}
+use Rattle.promises.specs.Words.{rounds_of}
 use Rattle.promises.specs.Worst.{Reaches}
 use Rattle.promises.proofs.Worst.{worst}
 use Rattle.stars.specs.Stars.{rules-compute}
-use Rattle.stars.specs.Listed.{rowFile, row-answered}
+use Rattle.stars.specs.Listed.{row_file, row-answered}
 
 -- ---- three points, byte for byte
 
-pub three-is : worstFile 3 ≡ rowFile
-unfolding worstFile to_bits of_int round
+pub three-is : worst_file 3 ≡ row_file
+unfolding worst_file to_bits of_int round
 three-is = refl
 
-pub three-answered : answer_of (worstFile 3) 84 ≡ Accepted (record { points = 3; components = 1; rounds = 2 })
+pub three-answered : answer_of (worst_file 3) 84 ≡ Accepted (record { points = 3; components = 1; rounds = 2 })
 three-answered = ap (λ (file : List ℕ). answer_of file 84) three-is ∙ row-answered
 
 -- ---- the most points
@@ -37,41 +37,41 @@ three-answered = ap (λ (file : List ℕ). answer_of file 84) three-is ∙ row-a
 pub most-reaches : Reaches 2304 64512
 most-reaches = worst 2304 64512 (omega arith) (omega arith) (omega arith)
 
-pub most-rounds : roundsOf worstSettings (worstPoints 2304) ≡ 2303
+pub most-rounds : rounds_of worst_settings (worst_points 2304) ≡ 2303
 most-rounds = most-reaches.rounds
 
 -- ---- one point: it is weak, since its strength is the median, and goes
 
-pub one-rounds : roundsOf worstSettings (worstPoints 1) ≡ 1
+pub one-rounds : rounds_of worst_settings (worst_points 1) ≡ 1
 unfolding rules-compute list_of to_bits of_int round
 one-rounds = refl
 
-pub two-points-needed : ((n room : ℕ) → n ≤ maxPoints → 28 * n ≤ room → Reaches n room) → ⊥
+pub two-points-needed : ((n room : ℕ) → n ≤ max_points → 28 * n ≤ room → Reaches n room) → ⊥
 two-points-needed f = omega (arith, (f 1 28 (omega arith) (omega arith)).rounds, one-rounds)
 
 -- ---- a point too many, and a byte too few
 
-abbrev ruledAs : Ruling → ℕ
-ruledAs (refused k) = k
-ruledAs (accepted s ps) = 0
+abbrev ruled_as : Ruling → ℕ
+ruled_as (refused k) = k
+ruled_as (accepted s ps) = 0
 
-worst-size : SettingsSize settingsData
+worst-size : SettingsSize settings_data
 worst-size = inr refl
 
-worst-is : (n : ℕ) → worstFile n ≡ weighedFile settingsData (floatBits 2) (worstPoints n)
-unfolding worstFile
+worst-is : (n : ℕ) → worst_file n ≡ weighed_file settings_data (float_bits 2) (worst_points n)
+unfolding worst_file
 worst-is n = refl
 
-pub too_many : (n room : ℕ) → maxPoints < n → rulingOf (worstFile n) room ≡ refused 2
-too_many n room h = ap (λ (file : List ℕ). rulingOf file room) (worst-is n) ∙ many-refused settingsData (floatBits 2) (worstPoints n) room worst-size (omega (arith, length-list n (pointAt n)))
+pub too-many : (n room : ℕ) → max_points < n → ruling_of (worst_file n) room ≡ refused 2
+too-many n room h = ap (λ (file : List ℕ). ruling_of file room) (worst-is n) ∙ many-refused settings_data (float_bits 2) (worst_points n) room worst-size (omega (arith, length-list n (point_at n)))
 
 pub limit-needed : ((n room : ℕ) → 2 ≤ n → 28 * n ≤ room → Reaches n room) → ⊥
-limit-needed f = let z : ◌≡◌ {A = ℕ} 2 0 = ap ruledAs (sym (too_many 2305 64540 (omega arith)) ∙ (f 2305 64540 (omega arith) (omega arith)).ruling) in omega arith
+limit-needed f = let z : ◌≡◌ {A = ℕ} 2 0 = ap ruled_as (sym (too-many 2305 64540 (omega arith)) ∙ (f 2305 64540 (omega arith) (omega arith)).ruling) in omega arith
 
-pub too_short : (n room : ℕ) → n ≤ maxPoints → room < 28 * n → rulingOf (worstFile n) room ≡ refused 3
-too_short n room few h =
-    ap (λ (file : List ℕ). rulingOf file room) (worst-is n)
-    ∙ room-refused settingsData (floatBits 2) (worstPoints n) room worst-size (omega (arith, length-list n (pointAt n))) (omega (arith, length-list n (pointAt n)))
+pub too-short : (n room : ℕ) → n ≤ max_points → room < 28 * n → ruling_of (worst_file n) room ≡ refused 3
+too-short n room few h =
+    ap (λ (file : List ℕ). ruling_of file room) (worst-is n)
+    ∙ room-refused settings_data (float_bits 2) (worst_points n) room worst-size (omega (arith, length-list n (point_at n))) (omega (arith, length-list n (point_at n)))
 
-pub room-needed : ((n room : ℕ) → 2 ≤ n → n ≤ maxPoints → Reaches n room) → ⊥
-room-needed f = let z : ◌≡◌ {A = ℕ} 3 0 = ap ruledAs (sym (too_short 2 55 (omega arith) (omega arith)) ∙ (f 2 55 (omega arith) (omega arith)).ruling) in omega arith
+pub room-needed : ((n room : ℕ) → 2 ≤ n → n ≤ max_points → Reaches n room) → ⊥
+room-needed f = let z : ◌≡◌ {A = ℕ} 3 0 = ap ruled_as (sym (too-short 2 55 (omega arith) (omega arith)) ∙ (f 2 55 (omega arith) (omega arith)).ruling) in omega arith

@@ -11,7 +11,7 @@ use lib.Signed.{lt_z}
 use Rattle.folds.specs.Below.{fold}
 use Rattle.folds.proofs.Below.{fold-none, fold_more, fold-ext, fold-keeps}
 use Rattle.map_lines.specs.Map.{smallest, largest, span}
-use Rattle.map_lines.specs.Page.{lowerOf, higherOf}
+use Rattle.map_lines.specs.Page.{lower_of, higher_of}
 use Rattle.map_lines.proofs.Whole.{difference-moved, less-moved, distance}
 
 -- a function that goes through every step goes through the fold
@@ -87,34 +87,34 @@ ends-start p =
       inside = λ j h. absurd (omega arith);
     }
 
-lower-bounds : (c a : ℕ) → (lowerOf c a ≤ c) × (lowerOf c a ≤ a)
+lower-bounds : (c a : ℕ) → (lower_of c a ≤ c) × (lower_of c a ≤ a)
 lower-bounds c a = go (ltb c a) refl
   where
     go : (t : Bool) → ltb c a ≡ t → (cond t c a ≤ c) × (cond t c a ≤ a)
     go true e = (omega arith, omega (arith, ltb-true c a e))
     go false e = (omega (arith, ltb-false c a e), omega arith)
 
-higher-bounds : (c b : ℕ) → (c ≤ higherOf c b) × (b ≤ higherOf c b)
+higher-bounds : (c b : ℕ) → (c ≤ higher_of c b) × (b ≤ higher_of c b)
 higher-bounds c b = go (ltb b c) refl
   where
     go : (t : Bool) → ltb b c ≡ t → (c ≤ cond t c b) × (b ≤ cond t c b)
     go true e = (omega arith, omega (arith, ltb-true b c e))
     go false e = (omega (arith, ltb-false b c e), omega arith)
 
-pub higher-below : (c b m : ℕ) → c < m → b < m → higherOf c b < m
+pub higher-below : (c b m : ℕ) → c < m → b < m → higher_of c b < m
 higher-below c b m f g = go (ltb b c)
   where
     go : (t : Bool) → cond t c b < m
     go true = f
     go false = g
 
-pub ends_more : (p : ℕ → ℕ) (k a b : ℕ) → Ends p k a b → Ends p (k + 1) (lowerOf (p k) a) (higherOf (p k) b)
+pub ends_more : (p : ℕ → ℕ) (k a b : ℕ) → Ends p k a b → Ends p (k + 1) (lower_of (p k) a) (higher_of (p k) b)
 ends_more p k a b h =
     let l = lower-bounds (p k) a in
     let m = higher-bounds (p k) b in
     record {
-      least-is = ap (lowerOf (p k)) h.least-is ∙ sym (fold_more (λ k a. cond (ltb (p k) a) (p k) a) (p 0) k);
-      most-is = ap (higherOf (p k)) h.most-is ∙ sym (fold_more (λ k a. cond (ltb a (p k)) (p k) a) (p 0) k);
+      least-is = ap (lower_of (p k)) h.least-is ∙ sym (fold_more (λ k a. cond (ltb (p k) a) (p k) a) (p 0) k);
+      most-is = ap (higher_of (p k)) h.most-is ∙ sym (fold_more (λ k a. cond (ltb a (p k)) (p k) a) (p 0) k);
       ordered = omega (arith, l, m);
       inside = λ j g. elim (dec_lt j k) [
         | yes i ↦ (omega (arith, (h.inside j i).0, l), omega (arith, (h.inside j i).1, m))

@@ -50,8 +50,8 @@ module _ (less : ℤ → ℤ → Bool) (itself : (a : ℤ) → less a a ≡ fals
   abbrev step : ℕ → ℤ → ℤ
   step k a = cond (less (z k) a) (z k) a
 
-  one_more : (k : ℕ) (a : ℤ) → Foremost k a → Foremost (k + 1) (step k a)
-  one_more k a h = go (less (z k) a) refl
+  one-more : (k : ℕ) (a : ℤ) → Foremost k a → Foremost (k + 1) (step k a)
+  one-more k a h = go (less (z k) a) refl
     where
       go : (b : Bool) → less (z k) a ≡ b → Foremost (k + 1) (cond b (z k) a)
       go true e = record {
@@ -74,7 +74,7 @@ module _ (less : ℤ → ℤ → Bool) (itself : (a : ℤ) → less a a ≡ fals
       }
 
   foremost : (n : ℕ) → Foremost n (fold step (z 0) n)
-  foremost n = fold-keeps Foremost step (z 0) n (record { none_before = λ j l. absurd (omega arith); at = 0; early = omega arith; is = refl }) (λ k l b h. one_more k b h)
+  foremost n = fold-keeps Foremost step (z 0) n (record { none_before = λ j l. absurd (omega arith); at = 0; early = omega arith; is = refl }) (λ k l b h. one-more k b h)
 
 module _ (z : ℕ → ℤ) (n : ℕ) where
   smallest-first : Foremost lt_z not-below-itself not-both not-below-then z n (smallest z n)

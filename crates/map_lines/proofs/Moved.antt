@@ -14,42 +14,42 @@ use Rattle.cells.specs.Cell.{Cell, moved, coincide}
 use Rattle.cells.proofs.Edges.{agree-moved, same-cell}
 use Rattle.text.specs.Text.{bytes, each}
 use Rattle.text.proofs.Stores.{each_none}
-use Rattle.map_lines.specs.Map.{columns, mostLines, cellIn, smallestU, smallestV, span, spanU, spanV, tooWide, pointCharacter, cellCharacter, lineText, lines_from, lineCharacters, mapOf}
+use Rattle.map_lines.specs.Map.{columns, most_lines, cell_in, smallest_u, smallest_v, span, span_u, span_v, too_wide, point_character, cell_character, line_text, lines_from, line_characters, map_of}
 use Rattle.map_lines.proofs.Whole.{moves-swap}
 use Rattle.map_lines.proofs.Ends.{smallest-moved, span-moved}
 use Rattle.map_lines.proofs.Extremes.{span_none}
 use Rattle.map_lines.proofs.Size.{characters-are}
 
 -- the map, as one step
-pub map-lines : (n : ℕ) (cell : ℕ → Cell) (marks : List ℕ) → mapOf n cell marks ≡ lines_from (smallestV n cell) (lineCharacters n cell marks) (spanV n cell)
-unfolding mapOf
+pub map-lines : (n : ℕ) (cell : ℕ → Cell) (marks : List ℕ) → map_of n cell marks ≡ lines_from (smallest_v n cell) (line_characters n cell marks) (span_v n cell)
+unfolding map_of
 map-lines n cell marks = refl
 
 pub no_lines : (v : ℤ) (characters : ℕ → List ℕ) → lines_from v characters 0 ≡ []
 unfolding lines_from
-no_lines v characters = each_none (λ i. lineText (v +ℤ pos i) (characters i))
+no_lines v characters = each_none (λ i. line_text (v +ℤ pos i) (characters i))
 
 -- "No points give no lines."
-pub no-points : (cell : ℕ → Cell) (marks : List ℕ) → mapOf 0 cell marks ≡ []
-no-points cell marks = map-lines 0 cell marks ∙ ap (lines_from (smallestV 0 cell) (lineCharacters 0 cell marks)) (span_none (λ (k : ℕ). (cell k).v) 0 refl) ∙ no_lines (smallestV 0 cell) (lineCharacters 0 cell marks)
+pub no-points : (cell : ℕ → Cell) (marks : List ℕ) → map_of 0 cell marks ≡ []
+no-points cell marks = map-lines 0 cell marks ∙ ap (lines_from (smallest_v 0 cell) (line_characters 0 cell marks)) (span_none (λ (k : ℕ). (cell k).v) 0 refl) ∙ no_lines (smallest_v 0 cell) (line_characters 0 cell marks)
 
-character-same : (n : ℕ) (cell : ℕ → Cell) (marks more : List ℕ) → ((k : ℕ) → k < n → get_or more k 0 ≡ get_or marks k 0) → (c : Cell) → cellCharacter n cell more c ≡ cellCharacter n cell marks c
-unfolding cellCharacter
+character-same : (n : ℕ) (cell : ℕ → Cell) (marks more : List ℕ) → ((k : ℕ) → k < n → get_or more k 0 ≡ get_or marks k 0) → (c : Cell) → cell_character n cell more c ≡ cell_character n cell marks c
+unfolding cell_character
 character-same n cell marks more same c =
-    fold-ext (λ k t. cond (coincide (cell k) c) (pointCharacter (get_or more k 0)) t) (λ k t. cond (coincide (cell k) c) (pointCharacter (get_or marks k 0)) t) (bytes ".") n
-    (λ k l t. ap (λ (m : ℕ). cond (coincide (cell k) c) (pointCharacter m) t) (same k l))
+    fold-ext (λ k t. cond (coincide (cell k) c) (point_character (get_or more k 0)) t) (λ k t. cond (coincide (cell k) c) (point_character (get_or marks k 0)) t) (bytes ".") n
+    (λ k l t. ap (λ (m : ℕ). cond (coincide (cell k) c) (point_character m) t) (same k l))
 
 -- the map goes by the marks of its points alone
-pub map_same : (n : ℕ) (cell : ℕ → Cell) (marks more : List ℕ) → ((k : ℕ) → k < n → get_or more k 0 ≡ get_or marks k 0) → mapOf n cell more ≡ mapOf n cell marks
+pub map_same : (n : ℕ) (cell : ℕ → Cell) (marks more : List ℕ) → ((k : ℕ) → k < n → get_or more k 0 ≡ get_or marks k 0) → map_of n cell more ≡ map_of n cell marks
 map_same n cell marks more same =
     map-lines n cell more
-    ∙ ap (λ (f : ℕ → List ℕ). lines_from (smallestV n cell) f (spanV n cell)) (fun_ext line)
+    ∙ ap (λ (f : ℕ → List ℕ). lines_from (smallest_v n cell) f (span_v n cell)) (fun_ext line)
     ∙ sym (map-lines n cell marks)
   where
-    line : (i : ℕ) → lineCharacters n cell more i ≡ lineCharacters n cell marks i
+    line : (i : ℕ) → line_characters n cell more i ≡ line_characters n cell marks i
     line i =
         characters-are n cell more i
-        ∙ ap (λ (f : ℕ → List ℕ). each f columns) (fun_ext (λ (j : ℕ). character-same n cell marks more same (cellIn n cell i j)))
+        ∙ ap (λ (f : ℕ → List ℕ). each f columns) (fun_ext (λ (j : ℕ). character-same n cell marks more same (cell_in n cell i j)))
         ∙ sym (characters-are n cell marks i)
 
 coincide-moved : (a b : ℤ) (c d : Cell) → coincide (moved a b c) (moved a b d) ≡ coincide c d
@@ -69,47 +69,47 @@ module _ (a b : ℤ) (n : ℕ) (cell other : ℕ → Cell) (at : (k : ℕ) → k
   v-at : (k : ℕ) → k < n → (other k).v ≡ (cell k).v +ℤ b
   v-at k l = ap (λ (c : Cell). c.v) (at k l)
 
-  spanU-moved : spanU n other ≡ spanU n cell
-  spanU-moved = spans (λ (k : ℕ). (cell k).u) (λ (k : ℕ). (other k).u) a u-at
+  span_u-moved : span_u n other ≡ span_u n cell
+  span_u-moved = spans (λ (k : ℕ). (cell k).u) (λ (k : ℕ). (other k).u) a u-at
 
-  spanV-moved : spanV n other ≡ spanV n cell
-  spanV-moved = spans (λ (k : ℕ). (cell k).v) (λ (k : ℕ). (other k).v) b v-at
+  span_v-moved : span_v n other ≡ span_v n cell
+  span_v-moved = spans (λ (k : ℕ). (cell k).v) (λ (k : ℕ). (other k).v) b v-at
 
   -- moved points are refused with 10 where the points are
-  pub wide-moved : tooWide n other ≡ tooWide n cell
-  wide-moved = ap (λ (s : ℕ). ltb columns s || ltb mostLines (spanV n other)) spanU-moved ∙ ap (λ (s : ℕ). ltb columns (spanU n cell) || ltb mostLines s) spanV-moved
+  pub wide-moved : too_wide n other ≡ too_wide n cell
+  wide-moved = ap (λ (s : ℕ). ltb columns s || ltb most_lines (span_v n other)) span_u-moved ∙ ap (λ (s : ℕ). ltb columns (span_u n cell) || ltb most_lines s) span_v-moved
 
   module _ (some : 0 < n) (marks more : List ℕ) (same : (k : ℕ) → k < n → get_or more k 0 ≡ get_or marks k 0) where
-    firstU : smallestU n other ≡ smallestU n cell +ℤ a
-    firstU = smallest-moved (λ (k : ℕ). (cell k).u) (λ (k : ℕ). (other k).u) a n (u-at 0 some) u-at
+    first_u : smallest_u n other ≡ smallest_u n cell +ℤ a
+    first_u = smallest-moved (λ (k : ℕ). (cell k).u) (λ (k : ℕ). (other k).u) a n (u-at 0 some) u-at
 
-    firstV : smallestV n other ≡ smallestV n cell +ℤ b
-    firstV = smallest-moved (λ (k : ℕ). (cell k).v) (λ (k : ℕ). (other k).v) b n (v-at 0 some) v-at
+    first_v : smallest_v n other ≡ smallest_v n cell +ℤ b
+    first_v = smallest-moved (λ (k : ℕ). (cell k).v) (λ (k : ℕ). (other k).v) b n (v-at 0 some) v-at
 
-    cell_in : (i j : ℕ) → cellIn n other i j ≡ moved a b (cellIn n cell i j)
-    cell_in i j =
+    cell-in : (i j : ℕ) → cell_in n other i j ≡ moved a b (cell_in n cell i j)
+    cell-in i j =
         same-cell
-        (ap (λ (z : ℤ). z +ℤ pos j) firstU ∙ moves-swap (smallestU n cell) a (pos j))
-        (ap (λ (z : ℤ). z +ℤ pos i) firstV ∙ moves-swap (smallestV n cell) b (pos i))
+        (ap (λ (z : ℤ). z +ℤ pos j) first_u ∙ moves-swap (smallest_u n cell) a (pos j))
+        (ap (λ (z : ℤ). z +ℤ pos i) first_v ∙ moves-swap (smallest_v n cell) b (pos i))
 
-    character-moved : (c : Cell) → cellCharacter n other more (moved a b c) ≡ cellCharacter n cell marks c
-    unfolding cellCharacter
+    character-moved : (c : Cell) → cell_character n other more (moved a b c) ≡ cell_character n cell marks c
+    unfolding cell_character
     character-moved c =
-        fold-ext (λ k t. cond (coincide (other k) (moved a b c)) (pointCharacter (get_or more k 0)) t) (λ k t. cond (coincide (cell k) c) (pointCharacter (get_or marks k 0)) t) (bytes ".") n
-        (λ k l t. ap (λ (x : Cell). cond (coincide x (moved a b c)) (pointCharacter (get_or more k 0)) t) (at k l)
-        ∙ ap (λ (x : Bool). cond x (pointCharacter (get_or more k 0)) t) (coincide-moved a b (cell k) c)
-        ∙ ap (λ (m : ℕ). cond (coincide (cell k) c) (pointCharacter m) t) (same k l))
+        fold-ext (λ k t. cond (coincide (other k) (moved a b c)) (point_character (get_or more k 0)) t) (λ k t. cond (coincide (cell k) c) (point_character (get_or marks k 0)) t) (bytes ".") n
+        (λ k l t. ap (λ (x : Cell). cond (coincide x (moved a b c)) (point_character (get_or more k 0)) t) (at k l)
+        ∙ ap (λ (x : Bool). cond x (point_character (get_or more k 0)) t) (coincide-moved a b (cell k) c)
+        ∙ ap (λ (m : ℕ). cond (coincide (cell k) c) (point_character m) t) (same k l))
 
-    characters-moved : lineCharacters n other more ≡ lineCharacters n cell marks
+    characters-moved : line_characters n other more ≡ line_characters n cell marks
     characters-moved =
         fun_ext (λ (i : ℕ).
         characters-are n other more i
-        ∙ ap (λ (f : ℕ → List ℕ). each f columns) (fun_ext (λ (j : ℕ). ap (cellCharacter n other more) (cell_in i j) ∙ character-moved (cellIn n cell i j)))
+        ∙ ap (λ (f : ℕ → List ℕ). each f columns) (fun_ext (λ (j : ℕ). ap (cell_character n other more) (cell-in i j) ∙ character-moved (cell_in n cell i j)))
         ∙ sym (characters-are n cell marks i))
 
-    pub map-moved : mapOf n other more ≡ lines_from (smallestV n cell +ℤ b) (lineCharacters n cell marks) (spanV n cell)
+    pub map-moved : map_of n other more ≡ lines_from (smallest_v n cell +ℤ b) (line_characters n cell marks) (span_v n cell)
     map-moved =
         map-lines n other more
-        ∙ ap (λ (v : ℤ). lines_from v (lineCharacters n other more) (spanV n other)) firstV
-        ∙ ap (λ (f : ℕ → List ℕ). lines_from (smallestV n cell +ℤ b) f (spanV n other)) characters-moved
-        ∙ ap (lines_from (smallestV n cell +ℤ b) (lineCharacters n cell marks)) spanV-moved
+        ∙ ap (λ (v : ℤ). lines_from v (line_characters n other more) (span_v n other)) first_v
+        ∙ ap (λ (f : ℕ → List ℕ). lines_from (smallest_v n cell +ℤ b) f (span_v n other)) characters-moved
+        ∙ ap (lines_from (smallest_v n cell +ℤ b) (line_characters n cell marks)) span_v-moved

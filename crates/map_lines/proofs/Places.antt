@@ -15,9 +15,9 @@ use lib.Seq.{get_or-append-add}
 use lib.Signed.{lt_z}
 use Rattle.cells.specs.Cell.{Cell, within}
 use Rattle.cells.proofs.Edges.{same-cell}
-use Rattle.text.specs.Text.{bytes, each, whole, rightAligned}
+use Rattle.text.specs.Text.{bytes, each, whole, right_aligned}
 use Rattle.text.proofs.Stores.{each_more, each_long, right-length}
-use Rattle.map_lines.specs.Map.{labelWidth, columns, lineLength, smallest, largest, span, smallestV, spanV, tooWide, cellIn, placeInText, pointCharacter, cellCharacter, lineCharacters, mapOf}
+use Rattle.map_lines.specs.Map.{label_width, columns, line_length, smallest, largest, span, smallest_v, span_v, too_wide, cell_in, place_in_text, point_character, cell_character, line_characters, map_of}
 use Rattle.map_lines.proofs.Whole.{distance, less-moved}
 use Rattle.map_lines.proofs.Extremes.{smallest-among, none_below, none_above, span-some, line-within}
 use Rattle.map_lines.proofs.Characters.{point-shown, none-shown}
@@ -45,10 +45,10 @@ nearer s u l p q r =
 
 module _ (z : ℕ → ℤ) (n : ℕ) where
   -- how far number k is from the smallest
-  abbrev stepsFrom : ℕ → ℕ
-  stepsFrom k = nat_abs (z k -ℤ smallest z n)
+  abbrev steps_from : ℕ → ℕ
+  steps_from k = nat_abs (z k -ℤ smallest z n)
 
-  steps-inside : (k : ℕ) → k < n → stepsFrom k < span z n
+  steps-inside : (k : ℕ) → k < n → steps_from k < span z n
   steps-inside k l =
       let a = smallest-among z n (omega arith) in
       omega (
@@ -57,7 +57,7 @@ module _ (z : ℕ → ℤ) (n : ℕ) where
         nearer (smallest z n) (z k) (largest z n) (none_below z n k l) (ap (lt_z (largest z n)) a.2 ∙ none_above z n a.0 a.1) (none_above z n k l),
       )
 
-  steps-reach : (k : ℕ) → k < n → smallest z n +ℤ pos (stepsFrom k) ≡ z k
+  steps-reach : (k : ℕ) → k < n → smallest z n +ℤ pos (steps_from k) ≡ z k
   steps-reach k l = steps_up (smallest z n) (z k) (none_below z n k l)
 
 -- ---- texts of equal parts
@@ -83,68 +83,68 @@ one_byte (c ∷ d ∷ t) e = absurd (omega arith)
 
 module _ (n : ℕ) (cell : ℕ → Cell) (marks : List ℕ) where
   abbrev char_at : ℕ → ℕ → List ℕ
-  char_at i j = cellCharacter n cell marks (cellIn n cell i j)
+  char_at i j = cell_character n cell marks (cell_in n cell i j)
 
-  in-characters : (i j : ℕ) → j < columns → get_or (lineCharacters n cell marks i) j 0 ≡ get_or (char_at i j) 0 0
+  in-characters : (i j : ℕ) → j < columns → get_or (line_characters n cell marks i) j 0 ≡ get_or (char_at i j) 0 0
   in-characters i j m =
       let index : j ≡ 1 * j + 0 = omega arith in
-      ap (λ (k : ℕ). get_or (lineCharacters n cell marks i) k 0) index
+      ap (λ (k : ℕ). get_or (line_characters n cell marks i) k 0) index
       ∙ ap (λ (t : List ℕ). get_or t (1 * j + 0) 0) (characters-are n cell marks i)
-      ∙ each_at (char_at i) 1 columns (λ k g. cell-long n cell marks (cellIn n cell i k)) j 0 m (omega arith)
+      ∙ each_at (char_at i) 1 columns (λ k g. cell-long n cell marks (cell_in n cell i k)) j 0 m (omega arith)
 
   module _ (inside : (k : ℕ) → k < n → within (cell k).v ≡ true) where
     -- v and a space
-    pub margin-wide : (i : ℕ) → i < spanV n cell → length (rightAligned labelWidth (whole (smallestV n cell +ℤ pos i)) ++ bytes " ") ≡ labelWidth + 1
+    pub margin-wide : (i : ℕ) → i < span_v n cell → length (right_aligned label_width (whole (smallest_v n cell +ℤ pos i)) ++ bytes " ") ≡ label_width + 1
     margin-wide i l =
-        let v = smallestV n cell +ℤ pos i in
-        length-append (rightAligned labelWidth (whole v)) (bytes " ")
-        ∙ omega (arith, right-length labelWidth (whole v) (omega (arith, whole-short v (line-within (λ (k : ℕ). (cell k).v) n inside i l))))
+        let v = smallest_v n cell +ℤ pos i in
+        length-append (right_aligned label_width (whole v)) (bytes " ")
+        ∙ omega (arith, right-length label_width (whole v) (omega (arith, whole-short v (line-within (λ (k : ℕ). (cell k).v) n inside i l))))
 
-    in-line : (i j : ℕ) → i < spanV n cell → j < columns → get_or (line_at n cell marks i ++ bytes "\n") (labelWidth + 1 + j) 0 ≡ get_or (lineCharacters n cell marks i) j 0
+    in-line : (i j : ℕ) → i < span_v n cell → j < columns → get_or (line_at n cell marks i ++ bytes "\n") (label_width + 1 + j) 0 ≡ get_or (line_characters n cell marks i) j 0
     in-line i j l m =
-        let characters = lineCharacters n cell marks i in
-        let margin = rightAligned labelWidth (whole (smallestV n cell +ℤ pos i)) ++ bytes " " in
-        get_or-append (line_at n cell marks i) (bytes "\n") 0 (labelWidth + 1 + j) (omega (arith, line-size n cell marks inside i l))
-        ∙ get_or-append (margin ++ characters) (bytes " ") 0 (labelWidth + 1 + j) (omega (arith, length-append margin characters, margin-wide i l, characters-long n cell marks i))
+        let characters = line_characters n cell marks i in
+        let margin = right_aligned label_width (whole (smallest_v n cell +ℤ pos i)) ++ bytes " " in
+        get_or-append (line_at n cell marks i) (bytes "\n") 0 (label_width + 1 + j) (omega (arith, line-size n cell marks inside i l))
+        ∙ get_or-append (margin ++ characters) (bytes " ") 0 (label_width + 1 + j) (omega (arith, length-append margin characters, margin-wide i l, characters-long n cell marks i))
         ∙ ap (λ (k : ℕ). get_or (margin ++ characters) (k + j) 0) (sym (margin-wide i l))
         ∙ get_or-append-add margin characters j 0
 
-    in_map : (i j : ℕ) → i < spanV n cell → j < columns → get_or (mapOf n cell marks) (placeInText i j) 0 ≡ get_or (line_at n cell marks i ++ bytes "\n") (labelWidth + 1 + j) 0
+    in_map : (i j : ℕ) → i < span_v n cell → j < columns → get_or (map_of n cell marks) (place_in_text i j) 0 ≡ get_or (line_at n cell marks i ++ bytes "\n") (label_width + 1 + j) 0
     in_map i j l m =
-        ap (λ (t : List ℕ). get_or t (placeInText i j) 0) (map_is n cell marks)
-        ∙ each_at (λ i. line_at n cell marks i ++ bytes "\n") (lineLength + 1) (spanV n cell) (line-whole n cell marks inside) i (labelWidth + 1 + j) l (omega arith)
+        ap (λ (t : List ℕ). get_or t (place_in_text i j) 0) (map_is n cell marks)
+        ∙ each_at (λ i. line_at n cell marks i ++ bytes "\n") (line_length + 1) (span_v n cell) (line-whole n cell marks inside) i (label_width + 1 + j) l (omega arith)
 
     -- the byte at line i and column j is the character of their cell
-    map-byte : (i j : ℕ) → i < spanV n cell → j < columns → get_or (mapOf n cell marks) (placeInText i j) 0 ∷ [] ≡ cellCharacter n cell marks (cellIn n cell i j)
-    map-byte i j l m = ap (λ (c : ℕ). c ∷ []) (in_map i j l m ∙ in-line i j l m ∙ in-characters i j m) ∙ one_byte (char_at i j) (cell-long n cell marks (cellIn n cell i j))
+    map-byte : (i j : ℕ) → i < span_v n cell → j < columns → get_or (map_of n cell marks) (place_in_text i j) 0 ∷ [] ≡ cell_character n cell marks (cell_in n cell i j)
+    map-byte i j l m = ap (λ (c : ℕ). c ∷ []) (in_map i j l m ∙ in-line i j l m ∙ in-characters i j m) ∙ one_byte (char_at i j) (cell-long n cell marks (cell_in n cell i j))
 
 module _ (n : ℕ) (cell : ℕ → Cell) where
   -- the line and the column of rank k
-  abbrev pub lineOfRank : ℕ → ℕ
-  lineOfRank k = stepsFrom (λ (k : ℕ). (cell k).v) n k
+  abbrev pub line_of_rank : ℕ → ℕ
+  line_of_rank k = steps_from (λ (k : ℕ). (cell k).v) n k
 
-  abbrev pub columnOfRank : ℕ → ℕ
-  columnOfRank k = stepsFrom (λ (k : ℕ). (cell k).u) n k
+  abbrev pub column_of_rank : ℕ → ℕ
+  column_of_rank k = steps_from (λ (k : ℕ). (cell k).u) n k
 
-  pub cell-of-rank : (k : ℕ) → k < n → cellIn n cell (lineOfRank k) (columnOfRank k) ≡ cell k
+  pub cell-of-rank : (k : ℕ) → k < n → cell_in n cell (line_of_rank k) (column_of_rank k) ≡ cell k
   cell-of-rank k l = same-cell (steps-reach (λ (k : ℕ). (cell k).u) n k l) (steps-reach (λ (k : ℕ). (cell k).v) n k l)
 
-  pub line-drawn : (k : ℕ) → k < n → lineOfRank k < spanV n cell
+  pub line-drawn : (k : ℕ) → k < n → line_of_rank k < span_v n cell
   line-drawn = steps-inside (λ (k : ℕ). (cell k).v) n
 
-  pub column-drawn : tooWide n cell ≡ false → (k : ℕ) → k < n → columnOfRank k < columns
+  pub column-drawn : too_wide n cell ≡ false → (k : ℕ) → k < n → column_of_rank k < columns
   column-drawn narrow k l = omega (arith, steps-inside (λ (k : ℕ). (cell k).u) n k l, few-columns n cell narrow)
 
-module _ (n : ℕ) (cell : ℕ → Cell) (marks : List ℕ) (inside : (k : ℕ) → k < n → within (cell k).v ≡ true) (narrow : tooWide n cell ≡ false)
+module _ (n : ℕ) (cell : ℕ → Cell) (marks : List ℕ) (inside : (k : ℕ) → k < n → within (cell k).v ≡ true) (narrow : too_wide n cell ≡ false)
     (apart : (j k : ℕ) → j < n → k < n → cell j ≡ cell k → j ≡ k) where
   -- every point is on the map, at its line and column, by the character of its marks
-  pub point-byte : (k : ℕ) → k < n → get_or (mapOf n cell marks) (placeInText (lineOfRank n cell k) (columnOfRank n cell k)) 0 ∷ [] ≡ pointCharacter (get_or marks k 0)
+  pub point-byte : (k : ℕ) → k < n → get_or (map_of n cell marks) (place_in_text (line_of_rank n cell k) (column_of_rank n cell k)) 0 ∷ [] ≡ point_character (get_or marks k 0)
   point-byte k l =
-      map-byte n cell marks inside (lineOfRank n cell k) (columnOfRank n cell k) (line-drawn n cell k l) (column-drawn n cell narrow k l)
-      ∙ ap (cellCharacter n cell marks) (cell-of-rank n cell k l)
+      map-byte n cell marks inside (line_of_rank n cell k) (column_of_rank n cell k) (line-drawn n cell k l) (column-drawn n cell narrow k l)
+      ∙ ap (cell_character n cell marks) (cell-of-rank n cell k l)
       ∙ point-shown n cell marks (cell k) k l refl (λ j m e. apart j k m l e)
 
 -- a cell of the map that no point has is a full stop
-pub empty-byte : (n : ℕ) (cell : ℕ → Cell) (marks : List ℕ) → ((k : ℕ) → k < n → within (cell k).v ≡ true) → (i j : ℕ) → i < spanV n cell → j < columns
-    → ((k : ℕ) → k < n → cell k ≡ cellIn n cell i j → ⊥) → get_or (mapOf n cell marks) (placeInText i j) 0 ∷ [] ≡ bytes "."
-empty-byte n cell marks inside i j l m none = map-byte n cell marks inside i j l m ∙ none-shown n cell marks (cellIn n cell i j) none
+pub empty-byte : (n : ℕ) (cell : ℕ → Cell) (marks : List ℕ) → ((k : ℕ) → k < n → within (cell k).v ≡ true) → (i j : ℕ) → i < span_v n cell → j < columns
+    → ((k : ℕ) → k < n → cell k ≡ cell_in n cell i j → ⊥) → get_or (map_of n cell marks) (place_in_text i j) 0 ∷ [] ≡ bytes "."
+empty-byte n cell marks inside i j l m none = map-byte n cell marks inside i j l m ∙ none-shown n cell marks (cell_in n cell i j) none

@@ -3,29 +3,29 @@ use Rattle.std.specs.Prelude.{Bool, cond, ◌||◌, List, ◌++◌, ℕ, ◌+◌
 use Rattle.std.specs.Int.Signed.{lt_z}
 use Rattle.folds.specs.Below.{fold}
 use Rattle.cells.specs.Cell.{Cell, coincide}
-use Rattle.marks.specs.Filters.{filterAt, filterCount}
-use Rattle.marks.specs.Byte.{firstMark}
-use Rattle.text.specs.Text.{bytes, each, whole, rightAligned}
+use Rattle.marks.specs.Filters.{filter_at, filter_count}
+use Rattle.marks.specs.Byte.{first_mark}
+use Rattle.text.specs.Text.{bytes, each, whole, right_aligned}
 
 -- "v right-aligned in 6"
-abbrev pub labelWidth : ℕ
-labelWidth = 6
+abbrev pub label_width : ℕ
+label_width = 6
 
 -- "72 cell characters"
 abbrev pub columns : ℕ
 columns = 72
 
 -- "Each line is 80 characters": v, a space, the cells, a space
-abbrev pub lineLength : ℕ
-lineLength = labelWidth + 1 + columns + 1
+abbrev pub line_length : ℕ
+line_length = label_width + 1 + columns + 1
 
 -- "60 of v"
-abbrev pub mostLines : ℕ
-mostLines = 60
+abbrev pub most_lines : ℕ
+most_lines = 60
 
 -- no map is longer, with a newline after each line (proved in proofs/Size.antt)
-abbrev pub mapSize : ℕ
-mapSize = (lineLength + 1) * mostLines
+abbrev pub map_size : ℕ
+map_size = (line_length + 1) * most_lines
 
 -- ---- what the points span
 
@@ -44,68 +44,68 @@ unfolding smallest largest
 span z n = cond (eqb n 0) 0 (nat_abs (largest z n -ℤ smallest z n) + 1)
 
 module _ (n : ℕ) (cell : ℕ → Cell) where
-  abbrev pub smallestU : ℤ
-  smallestU = smallest (λ (k : ℕ). (cell k).u) n
+  abbrev pub smallest_u : ℤ
+  smallest_u = smallest (λ (k : ℕ). (cell k).u) n
 
-  abbrev pub smallestV : ℤ
-  smallestV = smallest (λ (k : ℕ). (cell k).v) n
+  abbrev pub smallest_v : ℤ
+  smallest_v = smallest (λ (k : ℕ). (cell k).v) n
 
-  abbrev pub spanU : ℕ
-  spanU = span (λ (k : ℕ). (cell k).u) n
+  abbrev pub span_u : ℕ
+  span_u = span (λ (k : ℕ). (cell k).u) n
 
-  abbrev pub spanV : ℕ
-  spanV = span (λ (k : ℕ). (cell k).v) n
+  abbrev pub span_v : ℕ
+  span_v = span (λ (k : ℕ). (cell k).v) n
 
   -- "points that span more than 72 values of u or 60 of v"
-  abbrev pub tooWide : Bool
-  tooWide = ltb columns spanU || ltb mostLines spanV
+  abbrev pub too_wide : Bool
+  too_wide = ltb columns span_u || ltb most_lines span_v
 
 -- ---- where a cell stands
 
 -- the cell of line i and column j, where the first line and column are those of (u, v)
-abbrev pub cellFrom : ℤ → ℤ → ℕ → ℕ → Cell
-cellFrom u v i j = record { u = u +ℤ pos j; v = v +ℤ pos i }
+abbrev pub cell_from : ℤ → ℤ → ℕ → ℕ → Cell
+cell_from u v i j = record { u = u +ℤ pos j; v = v +ℤ pos i }
 
 -- on the map of n cells: "Lines run from the smallest v .., cells from the smallest u"
-abbrev pub cellIn : ℕ → (ℕ → Cell) → ℕ → ℕ → Cell
-cellIn n cell = cellFrom (smallestU n cell) (smallestV n cell)
+abbrev pub cell_in : ℕ → (ℕ → Cell) → ℕ → ℕ → Cell
+cell_in n cell = cell_from (smallest_u n cell) (smallest_v n cell)
 
 -- the place of its byte in the text: each line has its newline, and v and a space before its first cell
-abbrev pub placeInText : ℕ → ℕ → ℕ
-placeInText i j = (lineLength + 1) * i + (labelWidth + 1 + j)
+abbrev pub place_in_text : ℕ → ℕ → ℕ
+place_in_text i j = (line_length + 1) * i + (label_width + 1 + j)
 
 -- ---- the text
 
 -- "# a kept one, else the letter of the first filter"
-abbrev pub pointCharacter : ℕ → List ℕ
-pointCharacter marks = cond (ltb (firstMark marks) filterCount) (bytes (filterAt (firstMark marks)).letter) (bytes "#")
+abbrev pub point_character : ℕ → List ℕ
+point_character marks = cond (ltb (first_mark marks) filter_count) (bytes (filter_at (first_mark marks)).letter) (bytes "#")
 
 -- "a full stop is no point": the character of the cell c
-unfoldable pub cellCharacter : ℕ → (ℕ → Cell) → List ℕ → Cell → List ℕ
-unfolding fold firstMark
-cellCharacter n cell marks c = fold (λ k t. cond (coincide (cell k) c) (pointCharacter (get_or marks k 0)) t) (bytes ".") n
+unfoldable pub cell_character : ℕ → (ℕ → Cell) → List ℕ → Cell → List ℕ
+unfolding fold first_mark
+cell_character n cell marks c = fold (λ k t. cond (coincide (cell k) c) (point_character (get_or marks k 0)) t) (bytes ".") n
 
 -- "Each line is 80 characters: v right-aligned in 6, a space, 72 cell characters, a space."
 abbrev pub line_of : ℤ → List ℕ → List ℕ
-line_of v characters = rightAligned labelWidth (whole v) ++ bytes " " ++ characters ++ bytes " "
+line_of v characters = right_aligned label_width (whole v) ++ bytes " " ++ characters ++ bytes " "
 
 -- every line ends in a newline
-unfoldable pub lineText : ℤ → List ℕ → List ℕ
-unfolding rightAligned whole
-lineText v characters = line_of v characters ++ bytes "\n"
+unfoldable pub line_text : ℤ → List ℕ → List ℕ
+unfolding right_aligned whole
+line_text v characters = line_of v characters ++ bytes "\n"
 
 -- lines, the first of them that of v
 unfoldable pub lines_from : ℤ → (ℕ → List ℕ) → ℕ → List ℕ
-unfolding each lineText
-lines_from v characters count = each (λ i. lineText (v +ℤ pos i) (characters i)) count
+unfolding each line_text
+lines_from v characters count = each (λ i. line_text (v +ℤ pos i) (characters i)) count
 
 module _ (n : ℕ) (cell : ℕ → Cell) (marks : List ℕ) where
   -- the cell characters of line i: "cells from the smallest u"
-  unfoldable pub lineCharacters : ℕ → List ℕ
-  unfolding each smallest cellCharacter
-  lineCharacters i = each (λ j. cellCharacter n cell marks (cellIn n cell i j)) columns
+  unfoldable pub line_characters : ℕ → List ℕ
+  unfolding each smallest cell_character
+  line_characters i = each (λ j. cell_character n cell marks (cell_in n cell i j)) columns
 
   -- "Lines run from the smallest v to the largest"; "No points give no lines."
-  unfoldable pub mapOf : List ℕ
-  unfolding smallest span lines_from lineCharacters
-  mapOf = lines_from (smallestV n cell) lineCharacters (spanV n cell)
+  unfoldable pub map_of : List ℕ
+  unfolding smallest span lines_from line_characters
+  map_of = lines_from (smallest_v n cell) line_characters (span_v n cell)

@@ -1,9 +1,9 @@
--- For the code: what the keys of n cells span, and the page, columns times mostLines characters, line by line. Assumes nothing.
+-- For the code: what the keys of n cells span, and the page, columns times most_lines characters, line by line. Assumes nothing.
 use Rattle.std.specs.Prelude.{◌≡◌, cond, List, [], ◌∷◌, ℕ, ◌+◌, ◌*◌, ◌/◌, ◌%◌, ◌^◌, ◌≤◌, ◌<◌, ltb, ℤ, pos, ◌-ℤ◌, length, get_or}
 use Rattle.cells.specs.Points.{bias, stride}
-use Rattle.cells.specs.Cell.{Cell, cellsAt}
+use Rattle.cells.specs.Cell.{Cell, cells_at}
 use Rattle.text.specs.Text.{each}
-use Rattle.map_lines.specs.Map.{columns, mostLines, smallest, span, cellFrom, cellCharacter}
+use Rattle.map_lines.specs.Map.{columns, most_lines, smallest, span, cell_from, cell_character}
 use Rattle.map_lines.specs.declared.spans.Axis.{Axis}
 use Rattle.map_lines.specs.declared.spans.Axis.TheVariants.{AlongU, AlongV}
 use Rattle.map_lines.specs.declared.spans.Span.{Span}
@@ -17,30 +17,30 @@ abbrev pub part : Axis → ℕ → ℕ
 part AlongU key = key / stride
 part AlongV key = key % stride
 
-abbrev pub lowerOf : ℕ → ℕ → ℕ
-lowerOf a b = cond (ltb a b) a b
+abbrev pub lower_of : ℕ → ℕ → ℕ
+lower_of a b = cond (ltb a b) a b
 
-abbrev pub higherOf : ℕ → ℕ → ℕ
-higherOf a b = cond (ltb b a) a b
+abbrev pub higher_of : ℕ → ℕ → ℕ
+higher_of a b = cond (ltb b a) a b
 
 -- what n keys span along an axis: the smallest with the bias added, and how many values
 pub record Spans (axis : Axis) (keys : List ℕ) (n : ℕ) (r : Span) : Type 0 where
-  pub least-is : pos r.least -ℤ pos bias ≡ smallest (λ (k : ℕ). along axis (cellsAt keys k)) n
-  pub count-is : r.count ≡ span (λ (k : ℕ). along axis (cellsAt keys k)) n
+  pub least-is : pos r.least -ℤ pos bias ≡ smallest (λ (k : ℕ). along axis (cells_at keys k)) n
+  pub count-is : r.count ≡ span (λ (k : ℕ). along axis (cells_at keys k)) n
   pub small : r.least < 2 ^ 32
   pub inside : (k : ℕ) → k < n → (r.least ≤ part axis (get_or keys k 0)) × (part axis (get_or keys k 0) < r.least + r.count)
 
 -- each key is that of a cell of the page whose first cell is (u, v), the bias added to both
 pub record OnPage (keys : List ℕ) (n u v : ℕ) : Type 0 where
   pub in-columns : (k : ℕ) → k < n → (u ≤ get_or keys k 0 / stride) × (get_or keys k 0 / stride < u + columns)
-  pub in_lines : (k : ℕ) → k < n → (v ≤ get_or keys k 0 % stride) × (get_or keys k 0 % stride < v + mostLines)
+  pub in_lines : (k : ℕ) → k < n → (v ≤ get_or keys k 0 % stride) × (get_or keys k 0 % stride < v + most_lines)
 
 -- the characters of line i of a page
-unfoldable pub pageLine : List ℕ → ℕ → List ℕ
+unfoldable pub page_line : List ℕ → ℕ → List ℕ
 unfolding each
-pageLine page i = each (λ j. get_or page (columns * i + j) 0 ∷ []) columns
+page_line page i = each (λ j. get_or page (columns * i + j) 0 ∷ []) columns
 
 -- the page whose first cell is (u, v) shows n points
 pub record Drawn (n : ℕ) (cell : ℕ → Cell) (marks : List ℕ) (u v : ℤ) (page : List ℕ) : Type 0 where
-  pub long : length page ≡ columns * mostLines
-  pub shows : (i j : ℕ) → i < mostLines → j < columns → (get_or page (columns * i + j) 0 ∷ []) ≡ cellCharacter n cell marks (cellFrom u v i j)
+  pub long : length page ≡ columns * most_lines
+  pub shows : (i j : ℕ) → i < most_lines → j < columns → (get_or page (columns * i + j) 0 ∷ []) ≡ cell_character n cell marks (cell_from u v i j)

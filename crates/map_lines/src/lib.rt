@@ -4,15 +4,15 @@
 pub mod spans;
 
 ghost use Rattle.std.specs.Prelude.{◌≡◌, false, ◌||◌, [], ◌∷◌, ℕ, ◌+◌, ◌^◌, ◌≤◌, ◌<◌, ltb, pos, ◌-ℤ◌};
-ghost use Rattle.view.specs.View.{maxPoints};
+ghost use Rattle.view.specs.View.{max_points};
 ghost use Rattle.cells.specs.Points.{bias};
-ghost use Rattle.cells.specs.Cell.{cellsAt};
+ghost use Rattle.cells.specs.Cell.{cells_at};
 ghost use Rattle.text.specs.Answer.{Shows};
 ghost use Rattle.text.specs.Stored.{Stored};
 ghost use Rattle.text.specs.Text.{each};
-ghost use Rattle.map_lines.specs.Map.{columns, mostLines, tooWide, pointCharacter, lineText, mapOf, mapSize};
+ghost use Rattle.map_lines.specs.Map.{columns, most_lines, too_wide, point_character, line_text, map_of, map_size};
 ghost use Rattle.map_lines.specs.declared.spans.Axis.TheVariants.{AlongU, AlongV};
-ghost use Rattle.map_lines.specs.Page.{Spans, OnPage, Drawn, pageLine};
+ghost use Rattle.map_lines.specs.Page.{Spans, OnPage, Drawn, page_line};
 
 use marks::filters;
 use marks::filters::FILTERS;
@@ -40,14 +40,14 @@ pub const MAP_SIZE: usize = (LINE_LENGTH + 1) * MOST_LINES;
 
 // The number that the specifications use is the code's.
 pub fn map_size() -> usize
-    ensures { result ≡ mapSize }
+    ensures { result ≡ map_size }
 {
     MAP_SIZE
 }
 
 // Whether what is spanned is too wide for a page.
 pub fn too_wide(u: Span, v: Span) -> bool
-    ensures { result ≡ ltb columns u.count || ltb mostLines v.count }
+    ensures { result ≡ ltb columns u.count || ltb most_lines v.count }
 {
     if COLUMNS < u.count {
         return true;
@@ -56,7 +56,7 @@ pub fn too_wide(u: Span, v: Span) -> bool
 }
 
 fn character(marks: u8) -> u8
-    ensures { (result ∷ []) ≡ pointCharacter marks }
+    ensures { (result ∷ []) ≡ point_character marks }
 {
     let f = filters::first_mark(marks);
     if f < FILTERS {
@@ -67,8 +67,8 @@ fn character(marks: u8) -> u8
 
 // The page from cell (u, v) on, both plus BIAS, with the characters of n points.
 fn draw(keys: &Words, marks: &Marks, n: usize, u: usize, v: usize) -> Page
-    requires { (n ≤ maxPoints) × OnPage keys.now n u v }
-    ensures { Drawn n (cellsAt keys.now) marks.now (pos u -ℤ pos bias) (pos v -ℤ pos bias) result }
+    requires { (n ≤ max_points) × OnPage keys.now n u v }
+    ensures { Drawn n (cells_at keys.now) marks.now (pos u -ℤ pos bias) (pos v -ℤ pos bias) result }
 {
     let mut page = [b'.'; PAGE_SIZE];
     let mut k = 0;
@@ -83,8 +83,8 @@ fn draw(keys: &Words, marks: &Marks, n: usize, u: usize, v: usize) -> Page
 
 // The characters of line i.
 fn put_characters(page: &Page, i: usize, out: &mut [u8], at: usize) -> usize
-    requires { i < mostLines }
-    ensures { Stored out.old at (pageLine page.now i) out.new result }
+    requires { i < most_lines }
+    ensures { Stored out.old at (page_line page.now i) out.new result }
 {
     let mut to = at;
     let mut j = 0;
@@ -98,8 +98,8 @@ fn put_characters(page: &Page, i: usize, out: &mut [u8], at: usize) -> usize
 
 // Line i, which is that of v, plus BIAS.
 fn put_line(page: &Page, i: usize, v: usize, out: &mut [u8], at: usize) -> usize
-    requires { i < mostLines }
-    ensures { Stored out.old at (lineText (pos v -ℤ pos bias) (pageLine page.now i)) out.new result }
+    requires { i < most_lines }
+    ensures { Stored out.old at (line_text (pos v -ℤ pos bias) (page_line page.now i)) out.new result }
 {
     let a = text::put_right(LABEL_WIDTH, v, cells::BIAS as usize, out, at);
     let b = text::put_byte(b' ', out, a);
@@ -110,8 +110,8 @@ fn put_line(page: &Page, i: usize, v: usize, out: &mut [u8], at: usize) -> usize
 
 // So many lines, the first of them that of v, plus BIAS.
 fn put_lines(page: &Page, count: usize, v: usize, out: &mut [u8], at: usize) -> usize
-    requires { (count ≤ mostLines) × (v < 2 ^ 32) }
-    ensures { Stored out.old at (each (λ (i : ℕ). lineText (pos (v + i) -ℤ pos bias) (pageLine page.now i)) count) out.new result }
+    requires { (count ≤ most_lines) × (v < 2 ^ 32) }
+    ensures { Stored out.old at (each (λ (i : ℕ). line_text (pos (v + i) -ℤ pos bias) (page_line page.now i)) count) out.new result }
 {
     let mut to = at;
     let mut i = 0;
@@ -125,8 +125,8 @@ fn put_lines(page: &Page, count: usize, v: usize, out: &mut [u8], at: usize) -> 
 
 // The map of n points in cell order: the keys of their cells, their marks, and what they span.
 pub fn write_map(n: usize, keys: &Words, marks: &Marks, u: Span, v: Span, out: &mut [u8]) -> Written
-    requires { (n ≤ maxPoints) × Spans AlongU keys.now n u × Spans AlongV keys.now n v × (tooWide n (cellsAt keys.now) ≡ false) }
-    ensures { Shows (mapOf n (cellsAt keys.now) marks.now) out.old out.new result }
+    requires { (n ≤ max_points) × Spans AlongU keys.now n u × Spans AlongV keys.now n v × (too_wide n (cells_at keys.now) ≡ false) }
+    ensures { Shows (map_of n (cells_at keys.now) marks.now) out.old out.new result }
 {
     let page = draw(keys, marks, n, u.least, v.least);
     let a = put_lines(&page, v.count, v.least, out, 0);

@@ -1,7 +1,7 @@
 // What the cells of a sheet span in u and in v.
 ghost use Rattle.std.specs.Prelude.{◌≡◌, ◌^◌, ◌≤◌, ◌<◌};
-ghost use Rattle.view.specs.View.{maxPoints};
-ghost use Rattle.map_lines.specs.Page.{part, lowerOf, higherOf, Spans};
+ghost use Rattle.view.specs.View.{max_points};
+ghost use Rattle.map_lines.specs.Page.{part, lower_of, higher_of, Spans};
 
 use view::Words;
 
@@ -29,20 +29,20 @@ fn coordinate(key: u32, axis: Axis) -> usize
 }
 
 fn lower(a: usize, b: usize) -> usize
-    ensures { result ≡ lowerOf a b }
+    ensures { result ≡ lower_of a b }
 {
     if a < b { a } else { b }
 }
 
 fn higher(a: usize, b: usize) -> usize
-    ensures { result ≡ higherOf a b }
+    ensures { result ≡ higher_of a b }
 {
     if b < a { a } else { b }
 }
 
 // What the cells with the first n keys span.
 pub fn span_along(keys: &Words, n: usize, axis: Axis) -> Span
-    requires { n ≤ maxPoints }
+    requires { n ≤ max_points }
     ensures { Spans axis keys.now n result }
 {
     let mut least = coordinate(keys[0], axis);

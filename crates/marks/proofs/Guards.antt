@@ -15,8 +15,8 @@ use Rattle.folds.specs.Column.{column}
 use Rattle.folds.proofs.Column.{column-ext, column-at}
 use Rattle.folds.specs.Marked.{bit, Marked}
 use Rattle.folds.proofs.Marked.{bit_is, marked-column}
-use Rattle.view.specs.View.{View, maxPoints, alike, indexHas}
-use Rattle.marks.specs.Marks.{is_set, indexMarks}
+use Rattle.view.specs.View.{View, max_points, alike, index_has}
+use Rattle.marks.specs.Marks.{is_set, index_marks}
 
 pub guard : (a m n : ℕ) → m < n → ltb a n && eqb a m ≡ eqb a m
 guard a m n h = elim (ℕ_discrete a m) [ yes e ↦ rw (lt-ltb a n (omega arith)) | no f ↦ rw (ne_eqb a m f) (and-false (ltb a n)) ]
@@ -43,8 +43,8 @@ pub set_is : (size n : ℕ) (t : ℕ → Bool) (mark : List ℕ) → mark ≡ co
 set_is size n t mark e k h = rw (e, column-at size 0 n (λ (k : ℕ). bit (t k)) k h) (bit_is (t k))
 
 -- and the marks of indices that are gathered of it are what the test says of the index
-pub index-marks : (w : View) (t : ℕ → Bool) (mark : List ℕ) → mark ≡ column maxPoints 0 w.count (λ (k : ℕ). bit (t k)) → indexMarks w mark ≡ column maxPoints 0 w.count (λ (k : ℕ). bit (indexHas w t k))
-unfolding indexMarks
+pub index-marks : (w : View) (t : ℕ → Bool) (mark : List ℕ) → mark ≡ column max_points 0 w.count (λ (k : ℕ). bit (t k)) → index_marks w mark ≡ column max_points 0 w.count (λ (k : ℕ). bit (index_has w t k))
+unfolding index_marks
 index-marks w t mark e =
-    column-ext maxPoints 0 w.count (λ (k : ℕ). bit (indexHas w (is_set mark) k)) (λ (k : ℕ). bit (indexHas w t k))
-    (λ k h. ap bit (some-ext (λ (j : ℕ). is_set mark j && alike w j k) (λ (j : ℕ). t j && alike w j k) w.count (λ j l. rw (set_is maxPoints w.count t mark e j l))))
+    column-ext max_points 0 w.count (λ (k : ℕ). bit (index_has w (is_set mark) k)) (λ (k : ℕ). bit (index_has w t k))
+    (λ k h. ap bit (some-ext (λ (j : ℕ). is_set mark j && alike w j k) (λ (j : ℕ). t j && alike w j k) w.count (λ j l. rw (set_is max_points w.count t mark e j l))))

@@ -24,12 +24,12 @@ filters =
     ∷ filter 3 "C" "component"
     ∷ []
 
-abbrev pub filterCount : ℕ
-filterCount = length filters
+abbrev pub filter_count : ℕ
+filter_count = length filters
 
 -- A filter is named by its place in the table.
-abbrev pub filterAt : ℕ → Filter
-filterAt f = get_or filters f (filter 0 "" "")
+abbrev pub filter_at : ℕ → Filter
+filter_at f = get_or filters f (filter 0 "" "")
 
 abbrev pub validate : ℕ
 validate = 0

@@ -2,8 +2,8 @@
 ghost use Rattle.std.specs.Prelude.{◌≡◌, [], ◌∷◌, ◌++◌, ◌<◌, ◌≤◌, ◌^◌};
 ghost use Rattle.text.specs.Stored.{Stored};
 ghost use Rattle.text.specs.Text.{bytes};
-ghost use Rattle.marks.specs.Filters.{filterAt, filterCount};
-ghost use Rattle.marks.specs.Byte.{hasMark, withMark, firstMark};
+ghost use Rattle.marks.specs.Filters.{filter_at, filter_count};
+ghost use Rattle.marks.specs.Byte.{has_mark, with_mark, first_mark};
 
 pub const FILTERS: usize = 5;
 
@@ -65,24 +65,24 @@ const TABLE: [Filter; FILTERS] = [
 
 // The value of filter f's bit.
 fn bit_value(f: usize) -> u8
-    requires { f < filterCount }
-    ensures { (result ≡ 2 ^ (filterAt f).bit) × (0 < result) }
+    requires { f < filter_count }
+    ensures { (result ≡ 2 ^ (filter_at f).bit) × (0 < result) }
 {
     TABLE[f].bit_value
 }
 
 // The letter of filter f.
 pub fn letter(f: usize) -> u8
-    requires { f < filterCount }
-    ensures { (result ∷ []) ≡ bytes (filterAt f).letter }
+    requires { f < filter_count }
+    ensures { (result ∷ []) ≡ bytes (filter_at f).letter }
 {
     TABLE[f].letter
 }
 
 // The word of filter f, with a space on each side.
 pub fn put_word(f: usize, out: &mut [u8], at: usize) -> usize
-    requires { f < filterCount }
-    ensures { Stored out.old at (bytes " " ++ bytes (filterAt f).word ++ bytes " ") out.new result }
+    requires { f < filter_count }
+    ensures { Stored out.old at (bytes " " ++ bytes (filter_at f).word ++ bytes " ") out.new result }
 {
     let filter = TABLE[f];
     let word = filter.word;
@@ -91,16 +91,16 @@ pub fn put_word(f: usize, out: &mut [u8], at: usize) -> usize
 
 // Whether filter f has marked a point with these marks.
 pub fn has_mark(marks: u8, f: usize) -> bool
-    requires { f < filterCount }
-    ensures { result ≡ hasMark f marks }
+    requires { f < filter_count }
+    ensures { result ≡ has_mark f marks }
 {
     marks / bit_value(f) % 2 == 1
 }
 
 // The marks with that of filter f.
 pub fn with_mark(marks: u8, f: usize) -> u8
-    requires { f < filterCount }
-    ensures { result ≡ withMark f marks }
+    requires { f < filter_count }
+    ensures { result ≡ with_mark f marks }
 {
     if has_mark(marks, f) {
         return marks;
@@ -110,7 +110,7 @@ pub fn with_mark(marks: u8, f: usize) -> u8
 
 // The first filter that has marked the point, or FILTERS.
 pub fn first_mark(marks: u8) -> usize
-    ensures { (result ≡ firstMark marks) × (result ≤ filterCount) }
+    ensures { (result ≡ first_mark marks) × (result ≤ filter_count) }
 {
     let mut f = 0;
     while f < FILTERS {

@@ -6,11 +6,11 @@ pub mod filters;
 ghost use Rattle.std.specs.Prelude.{◌≡◌, cond, ◌&&◌, List, [], ℕ, ◌+◌, ◌≤◌, ◌<◌, eqb, ltb, Float};
 ghost use Rattle.folds.specs.Column.{column};
 ghost use Rattle.folds.specs.Marked.{bit, Marked};
-ghost use Rattle.view.specs.View.{maxPoints, viewAt, Ranked};
-ghost use Rattle.marks.specs.Marks.{is_set, placeHas, indexMarks};
-ghost use Rattle.marks.specs.Filters.{filterCount};
-ghost use Rattle.marks.specs.Byte.{withMark, markedBy};
-ghost use Rattle.marks.specs.Tally.{countsOf};
+ghost use Rattle.view.specs.View.{max_points, view_at, Ranked};
+ghost use Rattle.marks.specs.Marks.{is_set, place_has, index_marks};
+ghost use Rattle.marks.specs.Filters.{filter_count};
+ghost use Rattle.marks.specs.Byte.{with_mark, marked_by};
+ghost use Rattle.marks.specs.Tally.{counts_of};
 
 use view::{MAX_POINTS, Marks, Ranks};
 
@@ -23,7 +23,7 @@ pub fn bit_of(b: bool) -> u8
 
 // One more, if t.
 pub fn one_more(t: bool, c: usize) -> usize
-    requires { c < maxPoints }
+    requires { c < max_points }
     ensures { result ≡ cond t (c + 1) c }
 {
     if t { c + 1 } else { c }
@@ -31,7 +31,7 @@ pub fn one_more(t: bool, c: usize) -> usize
 
 // Sets the mark m, if it is to be set and m is below n.
 pub fn set_if(set: bool, m: usize, n: usize, mark: &mut Marks)
-    requires { n ≤ maxPoints }
+    requires { n ≤ max_points }
     ensures { Marked (λ (i : ℕ). set && (ltb m n && eqb m i)) mark.old mark.new }
 {
     if set {
@@ -44,8 +44,8 @@ pub fn set_if(set: bool, m: usize, n: usize, mark: &mut Marks)
 
 // The marks, each at the place of its index.
 fn at_index(ranks: &Ranks, mark: &Marks, n: usize) -> Marks
-    requires { n ≤ maxPoints }
-    ensures { result ≡ column maxPoints 0 n (λ (m : ℕ). bit (placeHas (viewAt n ranks.now [] []) mark.now m)) }
+    requires { n ≤ max_points }
+    ensures { result ≡ column max_points 0 n (λ (m : ℕ). bit (place_has (view_at n ranks.now [] []) mark.now m)) }
 {
     let mut out = [0u8; MAX_POINTS];
     let mut k = 0;
@@ -59,7 +59,7 @@ fn at_index(ranks: &Ranks, mark: &Marks, n: usize) -> Marks
 // At each rank the mark of its index: whether some point with that index is marked.
 pub fn by_index(ranks: &Ranks, mark: &Marks, n: usize) -> Marks
     requires { Ranked n ranks.now }
-    ensures { (xs ys : List Float) → result ≡ indexMarks (viewAt n ranks.now xs ys) mark.now }
+    ensures { (xs ys : List Float) → result ≡ index_marks (view_at n ranks.now xs ys) mark.now }
 {
     let held = at_index(ranks, mark, n);
     let mut out = [0u8; MAX_POINTS];
@@ -72,8 +72,8 @@ pub fn by_index(ranks: &Ranks, mark: &Marks, n: usize) -> Marks
 }
 
 fn marked_byte(marks: u8, mark: u8, f: usize) -> u8
-    requires { f < filterCount }
-    ensures { result ≡ cond (eqb mark 1) (withMark f marks) marks }
+    requires { f < filter_count }
+    ensures { result ≡ cond (eqb mark 1) (with_mark f marks) marks }
 {
     if mark == 1 {
         return filters::with_mark(marks, f);
@@ -83,8 +83,8 @@ fn marked_byte(marks: u8, mark: u8, f: usize) -> u8
 
 // The bytes of marks after filter f has marked the points whose mark is set.
 pub fn marked_by(marks: &Marks, mark: &Marks, f: usize, n: usize) -> Marks
-    requires { (n ≤ maxPoints) × (f < filterCount) }
-    ensures { result ≡ markedBy n f (is_set mark.now) marks.now }
+    requires { (n ≤ max_points) × (f < filter_count) }
+    ensures { result ≡ marked_by n f (is_set mark.now) marks.now }
 {
     let mut out = [0u8; MAX_POINTS];
     let mut k = 0;
@@ -102,8 +102,8 @@ pub type Tally = [usize; COUNTS];
 
 // How many indices each filter is the first to mark, and how many are kept. An index is counted at its place, the last of its ranks.
 pub fn tally(ranks: &Ranks, marks: &Marks, n: usize) -> Tally
-    requires { n ≤ maxPoints }
-    ensures { (xs ys : List Float) → result ≡ countsOf (viewAt n ranks.now xs ys) marks.now }
+    requires { n ≤ max_points }
+    ensures { (xs ys : List Float) → result ≡ counts_of (view_at n ranks.now xs ys) marks.now }
 {
     let mut counts = [0usize; COUNTS];
     let mut k = 0;

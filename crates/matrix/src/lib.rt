@@ -2,10 +2,10 @@
 #![tactic(auto)]
 
 ghost use Rattle.std.specs.Prelude.{◌≡◌, ◌<◌};
-ghost use Rattle.matrix.specs.Matrix.{innerSum, rowTimes, productEntry, productOf, minor, determinantOf, inverseOf};
+ghost use Rattle.matrix.specs.Matrix.{inner_sum, row_times, product_entry, product_of, minor, determinant_of, inverse_of};
 
 fn inner_sum(a: f32, b: f32, c: f32, x: f32, y: f32, z: f32) -> f32
-    ensures { result ≡ innerSum a b c x y z }
+    ensures { result ≡ inner_sum a b c x y z }
 {
     a * x + b * y + c * z
 }
@@ -13,20 +13,20 @@ fn inner_sum(a: f32, b: f32, c: f32, x: f32, y: f32, z: f32) -> f32
 // Row i of m times (x, y, 1).
 pub fn row_times(m: [[f32; 3]; 3], i: usize, x: f32, y: f32) -> f32
     requires { i < 3 }
-    ensures { result ≡ rowTimes m i x y }
+    ensures { result ≡ row_times m i x y }
 {
     inner_sum(m[i][0], m[i][1], m[i][2], x, y, 1.0)
 }
 
 fn product_entry(a: [[f32; 3]; 3], b: [[f32; 3]; 3], i: usize, j: usize) -> f32
     requires { (i < 3) × (j < 3) }
-    ensures { result ≡ productEntry a b i j }
+    ensures { result ≡ product_entry a b i j }
 {
     inner_sum(a[i][0], a[i][1], a[i][2], b[0][j], b[1][j], b[2][j])
 }
 
 pub fn product(a: [[f32; 3]; 3], b: [[f32; 3]; 3]) -> [[f32; 3]; 3]
-    ensures { result ≡ productOf a b }
+    ensures { result ≡ product_of a b }
 {
     [
         [
@@ -54,7 +54,7 @@ fn minor_of(a: f32, b: f32, c: f32, d: f32) -> f32
 }
 
 pub fn determinant(m: [[f32; 3]; 3]) -> f32
-    ensures { result ≡ determinantOf m }
+    ensures { result ≡ determinant_of m }
 {
     m[0][0] * minor_of(m[1][1], m[2][2], m[2][1], m[1][2])
         - m[0][1] * minor_of(m[1][0], m[2][2], m[2][0], m[1][2])
@@ -63,7 +63,7 @@ pub fn determinant(m: [[f32; 3]; 3]) -> f32
 
 // The inverse of m, whose determinant is d.
 pub fn inverse(m: [[f32; 3]; 3], d: f32) -> [[f32; 3]; 3]
-    ensures { result ≡ inverseOf m d }
+    ensures { result ≡ inverse_of m d }
 {
     let a = m[0][0];
     let b = m[0][1];

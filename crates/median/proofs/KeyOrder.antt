@@ -15,10 +15,10 @@ use lib.Ieee.{Float, nan, inf, fin, binary32, up, down, lt, neg, fits, to_bits, 
 use lib.Ieee.Fits.{neg-fits, up_pos, down_pos}
 use lib.Ieee.Positive.{num}
 use lib.Ieee.Bits.{of_bits-to_bits, to_bits-lt}
-use Rattle.folds.specs.Arith.{f32, zeroF}
-use Rattle.float.specs.Constants.{sign_bit, one, minusOne}
+use Rattle.folds.specs.Arith.{f32, zero_f}
+use Rattle.float.specs.Constants.{sign_bit, one, minus_one}
 use Rattle.float.proofs.Bits.{bits-order}
-use Rattle.median.specs.Keys.{Number, risingOf}
+use Rattle.median.specs.Keys.{Number, rising_of}
 
 -- ---- patterns of finite numbers
 
@@ -79,17 +79,17 @@ across a b p q h e f = go (ltb 0 p) (ltb 0 q) e f refl refl
 -- ---- keys
 
 module _ (m : ℕ) (e : ℤ) (f : T (fits binary32 (fin false m e))) where
-  key-up : risingOf (fin false m e) ≡ sign_bit + bits_of m e
-  unfolding risingOf
+  key-up : rising_of (fin false m e) ≡ sign_bit + bits_of m e
+  unfolding rising_of
   key-up = rw (lt-ltb (bits_of m e) sign_bit (bits_small m e f))
 
-  key-down : risingOf (fin true m e) ≡ sign_bit - bits_of m e
-  unfolding risingOf
+  key-down : rising_of (fin true m e) ≡ sign_bit - bits_of m e
+  unfolding rising_of
   key-down = rw (signed m e, le-ltb (sign_bit + bits_of m e) sign_bit (omega arith)) (omega arith)
 
 module _ (m n : ℕ) (e d : ℤ) (f : T (fits binary32 (fin false m e))) (g : T (fits binary32 (fin false n d))) where
   -- by the two signs
-  by-signs : (s t : Bool) → lt (fin s m e) (fin t n d) ≡ ltb (risingOf (fin s m e)) (risingOf (fin t n d))
+  by-signs : (s t : Bool) → lt (fin s m e) (fin t n d) ≡ ltb (rising_of (fin s m e)) (rising_of (fin t n d))
   unfolding lt
   by-signs false false =
       rw (key-up m e f, key-up n d g) (sizes m n e d f g ∙ same_test (bits_of m e) (bits_of n d) (sign_bit + bits_of m e) (sign_bit + bits_of n d) (λ h. omega arith) (λ h. omega arith))
@@ -105,7 +105,7 @@ cleared true m e f = neg-fits binary32 (fin true m e) f
 cleared false m e f = f
 
 -- the order of numbers is that of their keys
-pub key-order : (x y : Float) → Number x → Number y → lt x y ≡ ltb (risingOf x) (risingOf y)
+pub key-order : (x y : Float) → Number x → Number y → lt x y ≡ ltb (rising_of x) (rising_of y)
 key-order nan y p q = absurd p.is_finite
 key-order (inf s) y p q = absurd p.is_finite
 key-order (fin s m e) nan p q = absurd q.is_finite
@@ -113,11 +113,11 @@ key-order (fin s m e) (inf t) p q = absurd q.is_finite
 key-order (fin s m e) (fin t n d) p q = by-signs m n e d (cleared s m e p.is-f32) (cleared t n d q.is-f32) s t
 
 -- -1 is below -0, which is not below +0, which is below 1
-signs-ordered : map risingOf (minusOne ∷ f32 sign_bit ∷ zeroF ∷ one ∷ []) ≡ 0x4080_0000 ∷ sign_bit ∷ sign_bit ∷ 0xbf80_0000 ∷ []
-unfolding risingOf of_bits
+signs-ordered : map rising_of (minus_one ∷ f32 sign_bit ∷ zero_f ∷ one ∷ []) ≡ 0x4080_0000 ∷ sign_bit ∷ sign_bit ∷ 0xbf80_0000 ∷ []
+unfolding rising_of of_bits
 signs-ordered = refl
 
 -- a NaN has a key, and no order
-nan-unordered : (lt zeroF nan ≡ false) × (ltb (risingOf zeroF) (risingOf nan) ≡ true)
-unfolding risingOf of_bits lt
+nan-unordered : (lt zero_f nan ≡ false) × (ltb (rising_of zero_f) (rising_of nan) ≡ true)
+unfolding rising_of of_bits lt
 nan-unordered = (refl, refl)

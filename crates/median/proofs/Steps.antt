@@ -15,12 +15,12 @@ use Rattle.folds.proofs.Below.{tally-turn}
 use Rattle.folds.specs.Lists.{All, listed}
 use Rattle.folds.proofs.Lists.{all_listed, listed_more, listed-length}
 use Rattle.sort.specs.Sorted.{sort}
-use Rattle.view.specs.View.{maxPoints}
+use Rattle.view.specs.View.{max_points}
 use Rattle.sort.proofs.Sorted.{sort-length, sort-all, sort-map}
 use Rattle.float.proofs.Order.{above_zero}
 use Rattle.float.proofs.Bits.{bits-order}
-use Rattle.median.specs.Median.{medianOf}
-use Rattle.median.specs.Packed.{positiveAt, positives, patterns, Put, Packed}
+use Rattle.median.specs.Median.{median_of}
+use Rattle.median.specs.Packed.{positive_at, positives, patterns, Put, Packed}
 use Rattle.median.proofs.Sorting.{agree-all}
 
 -- an f32 above zero
@@ -31,7 +31,7 @@ map_snoc : (l : List Float) (x : Float) → patterns (l ++ (x ∷ [])) ≡ patte
 map_snoc [] x = refl
 map_snoc (a ∷ l) x = ap (◌∷◌ (to_bits binary32 a)) (map_snoc l x)
 
-pub packed_none : (v : List Float) (b : List ℕ) → length b ≡ maxPoints → Packed v 0 0 b
+pub packed_none : (v : List Float) (b : List ℕ) → length b ≡ max_points → Packed v 0 0 b
 unfolding tally positives
 packed_none v b h = record { size = h; count = refl; taken = refl; float = λ j l. absurd (omega arith) }
 
@@ -39,13 +39,13 @@ pub packed_more : (v : List Float) (k : ℕ) {c r : ℕ} {a b : List ℕ} → Pa
 unfolding positives
 packed_more v k {c} {r} {a} {b} q p = record {
   size = p.size;
-  count = tally-turn (positiveAt v) k p.count refl q.count;
-  taken = p.taken ∙ rw (q.taken, listed_more (positiveAt v) (λ (j : ℕ). get_or v j nan) k) (go (positiveAt v k));
+  count = tally-turn (positive_at v) k p.count refl q.count;
+  taken = p.taken ∙ rw (q.taken, listed_more (positive_at v) (λ (j : ℕ). get_or v j nan) k) (go (positive_at v k));
   float = λ j l. ⊎_elim (λ (e : j ≡ k). rw e p.float) (λ (m : j < k). q.float j m) (eq-or-lt_of_le (omega arith));
 }
   where
     before : List Float
-    before = listed (positiveAt v) (λ (j : ℕ). get_or v j nan) k
+    before = listed (positive_at v) (λ (j : ℕ). get_or v j nan) k
 
     go : (t : Bool) → cond t (patterns before ++ (to_bits binary32 (get_or v k nan) ∷ [])) (patterns before) ≡ patterns (cond t (before ++ (get_or v k nan ∷ [])) before)
     go true = sym (map_snoc before (get_or v k nan))
@@ -65,22 +65,22 @@ at_all (a ∷ l) al (suc i) h = at_all l al.1 i (omega arith)
 module _ (v : List Float) (n c : ℕ) (a b : List ℕ) (p : Packed v n c a) (some : 0 < c) (s : b ≡ sort ltb (take c a) ++ drop c a) where
   all-ok : All AboveZero (positives v n)
   unfolding positives
-  all-ok = all_listed AboveZero (positiveAt v) (λ (j : ℕ). get_or v j nan) n (λ k l e. (above_zero (get_or v k nan) e, p.float k l))
+  all-ok = all_listed AboveZero (positive_at v) (λ (j : ℕ). get_or v j nan) n (λ k l e. (above_zero (get_or v k nan) e, p.float k l))
 
   long : length (positives v n) ≡ c
   unfolding positives
-  long = listed-length (positiveAt v) (λ (k : ℕ). get_or v k nan) n ∙ sym p.count
+  long = listed-length (positive_at v) (λ (k : ℕ). get_or v k nan) n ∙ sym p.count
 
   inside : c / 2 < length (sort lt (positives v n))
   inside = omega (arith, sort-length lt (positives v n), long)
 
-  pub middle-is : get_or b (c / 2) 0 ≡ to_bits binary32 (medianOf (positives v n))
-  unfolding medianOf
+  pub middle-is : get_or b (c / 2) 0 ≡ to_bits binary32 (median_of (positives v n))
+  unfolding median_of
   middle-is =
       rw (s, p.taken, sort-map (to_bits binary32) lt ltb (positives v n) (agree-all (to_bits binary32) lt ltb AboveZero (λ a b p q. bits-order a b p.0 q.0 p.1 q.1) (positives v n) all-ok))
       (get_or-append (patterns (sort lt (positives v n))) (drop c a) 0 (c / 2) (omega (arith, lib.ListN.length-map (sort lt (positives v n)) (to_bits binary32), inside))
       ∙ at_map (sort lt (positives v n)) (c / 2) inside ∙ rw long)
 
-  pub middle-fits : AboveZero (medianOf (positives v n))
-  unfolding medianOf
+  pub middle-fits : AboveZero (median_of (positives v n))
+  unfolding median_of
   middle-fits = rw long (at_all (sort lt (positives v n)) (sort-all lt AboveZero (positives v n) all-ok) (c / 2) inside)

@@ -6,9 +6,9 @@ use Rattle.folds.specs.Lists.{list_of}
 use Rattle.sort.specs.Sorted.{sort}
 
 -- "A median of n is entry n/2, rounded down, from 0 in rising order."
-unfoldable pub medianOf : List Float → Float
+unfoldable pub median_of : List Float → Float
 unfolding sort lt
-medianOf l = get_or (sort lt l) (length l / 2) nan
+median_of l = get_or (sort lt l) (length l / 2) nan
 
 -- the first n numbers of an array
 abbrev pub first_of : ℕ → List Float → List Float

@@ -3,9 +3,9 @@
 
 ghost use Rattle.std.specs.Prelude.{◌≡◌, ◌≤◌, ◌<◌, T, length};
 ghost use Rattle.std.specs.Float.Ieee.Scale.{finite};
-ghost use Rattle.view.specs.View.{maxPoints, Finite};
-ghost use Rattle.float.specs.Constants.{firstNanBits};
-ghost use Rattle.median.specs.Median.{medianOf, first_of};
+ghost use Rattle.view.specs.View.{max_points, Finite};
+ghost use Rattle.float.specs.Constants.{first_nan_bits};
+ghost use Rattle.median.specs.Median.{median_of, first_of};
 ghost use Rattle.median.specs.Packed.{positives, Put, Packed};
 ghost use Rattle.median.specs.Keys.{RisingKey, Keyed, KeyedInOrder};
 
@@ -13,7 +13,7 @@ use view::{Floats, MAX_POINTS};
 
 // Puts the pattern of x at c, if x is positive.
 fn put(x: f32, c: usize, a: &mut [u64; MAX_POINTS]) -> usize
-    requires { (c < maxPoints) × (length a.old ≡ maxPoints) }
+    requires { (c < max_points) × (length a.old ≡ max_points) }
     ensures { Put x c result a.old a.new }
 {
     if 0.0 < x {
@@ -24,7 +24,7 @@ fn put(x: f32, c: usize, a: &mut [u64; MAX_POINTS]) -> usize
 }
 
 fn pack(v: &Floats, n: usize, a: &mut [u64; MAX_POINTS]) -> usize
-    requires { (n ≤ maxPoints) × (length a.old ≡ maxPoints) }
+    requires { (n ≤ max_points) × (length a.old ≡ max_points) }
     ensures { Packed v.now n result a.new }
 {
     let mut c = 0;
@@ -37,7 +37,7 @@ fn pack(v: &Floats, n: usize, a: &mut [u64; MAX_POINTS]) -> usize
 }
 
 fn narrow(x: u64) -> u32
-    requires { x < firstNanBits }
+    requires { x < first_nan_bits }
     ensures { result ≡ x }
 {
     x as u32
@@ -45,8 +45,8 @@ fn narrow(x: u64) -> u32
 
 // The median of the positive ones among the first n; NaN where there is none.
 pub fn middle(v: &Floats, n: usize) -> f32
-    requires { n ≤ maxPoints }
-    ensures { result ≡ medianOf (positives v.now n) }
+    requires { n ≤ max_points }
+    ensures { result ≡ median_of (positives v.now n) }
 {
     let mut a = [0u64; MAX_POINTS];
     let c = pack(v, n, &mut a);
@@ -71,7 +71,7 @@ fn rising(x: f32) -> u64
 
 // The key and the place of each number, packed into one.
 fn keys(v: &Floats, n: usize) -> [u64; MAX_POINTS]
-    requires { (n ≤ maxPoints) × Finite n v.now }
+    requires { (n ≤ max_points) × Finite n v.now }
     ensures { Keyed v.now n result }
 {
     let mut out = [0u64; MAX_POINTS];
@@ -85,7 +85,7 @@ fn keys(v: &Floats, n: usize) -> [u64; MAX_POINTS]
 
 // The same in rising order: entry i, taken modulo `sort::PACKED_PLACES`, is the place of the number that is i-th in the order of numbers.
 pub fn keys_in_order(v: &Floats, n: usize) -> [u64; MAX_POINTS]
-    requires { (n ≤ maxPoints) × Finite n v.now }
+    requires { (n ≤ max_points) × Finite n v.now }
     ensures { KeyedInOrder v.now n result }
 {
     let mut a = keys(v, n);
@@ -95,8 +95,8 @@ pub fn keys_in_order(v: &Floats, n: usize) -> [u64; MAX_POINTS]
 
 // The median of the first n numbers, which are finite; NaN where there is none.
 pub fn middle_of_all(v: &Floats, n: usize) -> f32
-    requires { (n ≤ maxPoints) × Finite n v.now }
-    ensures { result ≡ medianOf (first_of n v.now) }
+    requires { (n ≤ max_points) × Finite n v.now }
+    ensures { result ≡ median_of (first_of n v.now) }
 {
     if n == 0 {
         return 0.0 / 0.0;

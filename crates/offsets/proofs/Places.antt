@@ -12,12 +12,12 @@ use mir.Val.{to_z, of_z}
 use borrow.Author.Tests.{leb-true}
 use Rattle.folds.proofs.Below.{and_left, and_right, and_both}
 use Rattle.offsets.specs.declared.Offset.{Offset}
-use Rattle.offsets.specs.Offsets.{−2, −1, ±0, +1, +2, offset, own, prevUV, squareSides, isWithin2, isNear, upBy2, place_of, offset_of, places}
+use Rattle.offsets.specs.Offsets.{−2, −1, ±0, +1, +2, offset, own, prev_uv, square_sides, is_within2, is_near, up_by2, place_of, offset_of, places}
 
 -- ---- the whole numbers from −2 to 2
 
 -- what holds of each of them holds of a number that is one of them
-pub each-within-2 : (P : ℤ → Type 0) → P −2 → P −1 → P ±0 → P +1 → P +2 → (z : ℤ) → isWithin2 z ≡ true → P z
+pub each-within-2 : (P : ℤ → Type 0) → P −2 → P −1 → P ±0 → P +1 → P +2 → (z : ℤ) → is_within2 z ≡ true → P z
 each-within-2 P a b c d e (negsuc zero) h = b
 each-within-2 P a b c d e (negsuc (suc zero)) h = a
 each-within-2 P a b c d e (negsuc (suc (suc n))) h = absurd (omega (arith, leb-true (suc (suc n)) 1 (and_left (leb (suc (suc n)) 1) true h)))
@@ -27,18 +27,18 @@ each-within-2 P a b c d e (pos (suc (suc zero))) h = e
 each-within-2 P a b c d e (pos (suc (suc (suc n)))) h = absurd (omega (arith, leb-true (suc (suc (suc n))) 2 h))
 
 -- as 8 bits it is itself
-pub held : (z : ℤ) → isWithin2 z ≡ true → to_z w8 (of_z w8 z) ≡ z
+pub held : (z : ℤ) → is_within2 z ≡ true → to_z w8 (of_z w8 z) ≡ z
 held = each-within-2 (λ z. to_z w8 (of_z w8 z) ≡ z) refl refl refl refl refl
 
 -- plus 2 it is one of 0 to 4, and says which it was
-up-by-2 : (z : ℤ) → isWithin2 z ≡ true → (upBy2 z ≤ 4) × (pos (upBy2 z) -ℤ +2 ≡ z)
-up-by-2 = each-within-2 (λ z. (upBy2 z ≤ 4) × (pos (upBy2 z) -ℤ +2 ≡ z)) (omega arith, refl) (omega arith, refl) (omega arith, refl) (omega arith, refl) (omega arith, refl)
+up-by-2 : (z : ℤ) → is_within2 z ≡ true → (up_by2 z ≤ 4) × (pos (up_by2 z) -ℤ +2 ≡ z)
+up-by-2 = each-within-2 (λ z. (up_by2 z ≤ 4) × (pos (up_by2 z) -ℤ +2 ≡ z)) (omega arith, refl) (omega arith, refl) (omega arith, refl) (omega arith, refl) (omega arith, refl)
 
 -- the whole number e less 2
-down-by-2 : (e : ℕ) → upBy2 (pos e -ℤ +2) ≡ e
+down-by-2 : (e : ℕ) → up_by2 (pos e -ℤ +2) ≡ e
 down-by-2 e = ap nat_abs (-ℤ-+ℤ_cancel (pos e) +2)
 
-down-within : (e : ℕ) → e < 5 → isWithin2 (pos e -ℤ +2) ≡ true
+down-within : (e : ℕ) → e < 5 → is_within2 (pos e -ℤ +2) ≡ true
 down-within zero h = refl
 down-within (suc zero) h = refl
 down-within (suc (suc zero)) h = refl
@@ -48,12 +48,12 @@ down-within (suc (suc (suc (suc (suc e))))) h = absurd (omega arith)
 
 -- ---- offsets and places
 
-module _ (o : Offset) (h : isNear o ≡ true) where
-  pub within-u : isWithin2 o.du ≡ true
-  within-u = and_left (isWithin2 o.du) (isWithin2 o.dv) h
+module _ (o : Offset) (h : is_near o ≡ true) where
+  pub within-u : is_within2 o.du ≡ true
+  within-u = and_left (is_within2 o.du) (is_within2 o.dv) h
 
-  pub within-v : isWithin2 o.dv ≡ true
-  within-v = and_right (isWithin2 o.du) (isWithin2 o.dv) h
+  pub within-v : is_within2 o.dv ≡ true
+  within-v = and_right (is_within2 o.du) (is_within2 o.dv) h
 
   -- a part that was stored as 8 bits
   pub held-u : to_z w8 (of_z w8 o.du) ≡ o.du
@@ -62,10 +62,10 @@ module _ (o : Offset) (h : isNear o ≡ true) where
   pub held-v : to_z w8 (of_z w8 o.dv) ≡ o.dv
   held-v = held o.dv within-v
 
-  along-u : (upBy2 o.du ≤ 4) × (pos (upBy2 o.du) -ℤ +2 ≡ o.du)
+  along-u : (up_by2 o.du ≤ 4) × (pos (up_by2 o.du) -ℤ +2 ≡ o.du)
   along-u = up-by-2 o.du within-u
 
-  along-v : (upBy2 o.dv ≤ 4) × (pos (upBy2 o.dv) -ℤ +2 ≡ o.dv)
+  along-v : (up_by2 o.dv ≤ 4) × (pos (up_by2 o.dv) -ℤ +2 ≡ o.dv)
   along-v = up-by-2 o.dv within-v
 
   pub place-below : place_of o < 25
@@ -74,12 +74,12 @@ module _ (o : Offset) (h : isNear o ≡ true) where
   -- an offset follows from its place
   pub place-offset : offset_of (place_of o) ≡ o
   place-offset =
-      let a : place_of o / 5 ≡ upBy2 o.du = omega (arith, along-v.0) in
-      let b : place_of o % 5 ≡ upBy2 o.dv = omega (arith, along-v.0) in
-      rw (a, b) (ap (λ z. offset z (pos (upBy2 o.dv) -ℤ +2)) along-u.1 ∙ ap (offset o.du) along-v.1)
+      let a : place_of o / 5 ≡ up_by2 o.du = omega (arith, along-v.0) in
+      let b : place_of o % 5 ≡ up_by2 o.dv = omega (arith, along-v.0) in
+      rw (a, b) (ap (λ z. offset z (pos (up_by2 o.dv) -ℤ +2)) along-u.1 ∙ ap (offset o.du) along-v.1)
 
 -- each of the 25 places has an offset within 2
-pub offset_near : (d : ℕ) → d < 25 → isNear (offset_of d) ≡ true
+pub offset_near : (d : ℕ) → d < 25 → is_near (offset_of d) ≡ true
 offset_near d h = and_both _ _ (down-within (d / 5) (omega arith)) (down-within (d % 5) (omega arith))
 
 -- a place follows from its offset
@@ -99,9 +99,9 @@ places-at (o ∷ l) (suc i) h = places-at l i (omega arith)
 
 -- ---- by computing
 
-pub places-computed : (place_of own ≡ 12) × (places squareSides ≡ 17 ∷ 13 ∷ 7 ∷ 11 ∷ []) × (offset_of 6 ≡ prevUV)
+pub places-computed : (place_of own ≡ 12) × (places square_sides ≡ 17 ∷ 13 ∷ 7 ∷ 11 ∷ []) × (offset_of 6 ≡ prev_uv)
 places-computed = (refl, refl, refl)
 
 -- (0, 3) is not within 2, and has the place of (1, −2); place 25 has no offset within 2
-pub beyond-2 : (place_of (offset ±0 (pos 3)) ≡ place_of (offset +1 −2)) × (isNear (offset ±0 (pos 3)) ≡ false) × (isNear (offset_of 25) ≡ false)
+pub beyond-2 : (place_of (offset ±0 (pos 3)) ≡ place_of (offset +1 −2)) × (is_near (offset ±0 (pos 3)) ≡ false) × (is_near (offset_of 25) ≡ false)
 beyond-2 = (refl, refl, refl)

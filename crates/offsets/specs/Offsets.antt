@@ -30,43 +30,43 @@ offset a b = record { du = a; dv = b }
 abbrev pub own : Offset
 own = offset ±0 ±0
 
-abbrev pub nextU : Offset
-nextU = offset +1 ±0
+abbrev pub next_u : Offset
+next_u = offset +1 ±0
 
-abbrev pub prevU : Offset
-prevU = offset −1 ±0
+abbrev pub prev_u : Offset
+prev_u = offset −1 ±0
 
-abbrev pub nextV : Offset
-nextV = offset ±0 +1
+abbrev pub next_v : Offset
+next_v = offset ±0 +1
 
-abbrev pub prevV : Offset
-prevV = offset ±0 −1
+abbrev pub prev_v : Offset
+prev_v = offset ±0 −1
 
-abbrev pub prevUV : Offset
-prevUV = offset −1 −1
+abbrev pub prev_uv : Offset
+prev_uv = offset −1 −1
 
 -- "Two cells share an edge if they differ by one in u and agree in v, or the other way round": the offsets that lead over a shared edge, in the
 -- order of square.rs, which positions for dropped points go by; patches and the peel do not depend on it
-abbrev pub squareSides : List Offset
-squareSides = nextU ∷ nextV ∷ prevU ∷ prevV ∷ []
+abbrev pub square_sides : List Offset
+square_sides = next_u ∷ next_v ∷ prev_u ∷ prev_v ∷ []
 
 -- ---- places: the 25 offsets within 2 each way, by du, then dv
 
 -- z lies from −2 to 2
-abbrev pub isWithin2 : ℤ → Bool
-isWithin2 z = le_z −2 z && le_z z +2
+abbrev pub is_within2 : ℤ → Bool
+is_within2 z = le_z −2 z && le_z z +2
 
 -- "within 2" each way
-abbrev pub isNear : Offset → Bool
-isNear o = isWithin2 o.du && isWithin2 o.dv
+abbrev pub is_near : Offset → Bool
+is_near o = is_within2 o.du && is_within2 o.dv
 
 -- a whole number from −2 on, plus 2
-abbrev pub upBy2 : ℤ → ℕ
-upBy2 z = nat_abs (z +ℤ +2)
+abbrev pub up_by2 : ℤ → ℕ
+up_by2 z = nat_abs (z +ℤ +2)
 
 -- the place of an offset: 5 * (du + 2) + (dv + 2)
 abbrev pub place_of : Offset → ℕ
-place_of o = 5 * upBy2 o.du + upBy2 o.dv
+place_of o = 5 * up_by2 o.du + up_by2 o.dv
 
 -- the offset at place d
 abbrev pub offset_of : ℕ → Offset

@@ -2,7 +2,7 @@
 #![tactic(auto)]
 
 ghost use Rattle.std.specs.Prelude.{◌≡◌, true, ◌≤◌, ◌<◌};
-ghost use Rattle.offsets.specs.Offsets.{isWithin2, upBy2, isNear, place_of};
+ghost use Rattle.offsets.specs.Offsets.{is_within2, up_by2, is_near, place_of};
 
 // A pair (du, dv).
 #[derive(Clone, Copy)]
@@ -27,15 +27,15 @@ pub const PREV_UV: Offset = Offset { du: -1, dv: -1 };
 
 // A part of an offset, plus 2.
 fn up_by_2(z: i8) -> usize
-    requires { isWithin2 z ≡ true }
-    ensures { (result ≡ upBy2 z) × (result ≤ 4) }
+    requires { is_within2 z ≡ true }
+    ensures { (result ≡ up_by2 z) × (result ≤ 4) }
 {
     (z + 2) as usize
 }
 
 // The place of an offset among the 25.
 pub fn place(o: Offset) -> usize
-    requires { isNear o ≡ true }
+    requires { is_near o ≡ true }
     ensures { (result ≡ place_of o) × (result < 25) }
 {
     5 * up_by_2(o.du) + up_by_2(o.dv)

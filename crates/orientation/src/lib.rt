@@ -5,16 +5,16 @@ ghost use Rattle.std.specs.Prelude.{◌≡◌, [], ℕ, ◌*◌, ◌≤◌, ◌<
 ghost use Rattle.folds.specs.Below.{some, tally};
 ghost use Rattle.folds.specs.Column.{column};
 ghost use Rattle.folds.specs.Marked.{bit, Marked};
-ghost use Rattle.view.specs.View.{maxPoints, viewAt, Ranked};
-ghost use Rattle.orientation.specs.Orientation.{voteBy, cross, voteAt, turned, orientationOf};
-ghost use Rattle.orientation.specs.Voters.{voters, votersAt};
+ghost use Rattle.view.specs.View.{max_points, view_at, Ranked};
+ghost use Rattle.orientation.specs.Orientation.{vote_by, cross, vote_at, turned, orientation_of};
+ghost use Rattle.orientation.specs.Voters.{voters, voters_at};
 ghost use Rattle.marks.specs.Marks.{is_set};
 
 use offsets::{NEXT_U, NEXT_V};
 use view::{Floats, MAX_POINTS, Marks, Ranks};
 
 fn vote_by(c: f32) -> u8
-    ensures { result ≡ voteBy c }
+    ensures { result ≡ vote_by c }
 {
     if c == 0.0 {
         return 0;
@@ -30,8 +30,8 @@ fn cross_of(ax: f32, ay: f32, bx: f32, by: f32) -> f32
 
 // The vote of rank k: 0 for none, 1 and 2 for the two sides.
 fn vote_at(ranks: &Ranks, x: &Floats, y: &Floats, n: usize, k: usize) -> u8
-    requires { (n ≤ maxPoints) × (k < n) }
-    ensures { result ≡ voteAt (viewAt n ranks.now x.now y.now) k }
+    requires { (n ≤ max_points) × (k < n) }
+    ensures { result ≡ vote_at (view_at n ranks.now x.now y.now) k }
 {
     let a = view::rank_at(ranks, k, NEXT_U);
     if n <= a {
@@ -45,8 +45,8 @@ fn vote_at(ranks: &Ranks, x: &Floats, y: &Floats, n: usize, k: usize) -> u8
 }
 
 fn votes(ranks: &Ranks, x: &Floats, y: &Floats, n: usize) -> Marks
-    requires { n ≤ maxPoints }
-    ensures { result ≡ column maxPoints 0 n (voteAt (viewAt n ranks.now x.now y.now)) }
+    requires { n ≤ max_points }
+    ensures { result ≡ column max_points 0 n (vote_at (view_at n ranks.now x.now y.now)) }
 {
     let mut out = [0u8; MAX_POINTS];
     let mut k = 0;
@@ -59,7 +59,7 @@ fn votes(ranks: &Ranks, x: &Floats, y: &Floats, n: usize) -> Marks
 
 // How many votes are for the side.
 fn votes_for(vote: &Marks, n: usize, side: u8) -> usize
-    requires { n ≤ maxPoints }
+    requires { n ≤ max_points }
     ensures { result ≡ tally (λ (k : ℕ). eqb (get_or vote.now k 0) side) n }
 {
     let mut c = 0;
@@ -73,8 +73,8 @@ fn votes_for(vote: &Marks, n: usize, side: u8) -> usize
 
 // Marks the three points of rank k's vote, if it is for the side.
 fn mark_voters(ranks: &Ranks, vote: &Marks, n: usize, side: u8, k: usize, mark: &mut Marks)
-    requires { (n ≤ maxPoints) × (k < n) }
-    ensures { Marked (voters (viewAt n ranks.now [] []) vote.now side k) mark.old mark.new }
+    requires { (n ≤ max_points) × (k < n) }
+    ensures { Marked (voters (view_at n ranks.now [] []) vote.now side k) mark.old mark.new }
 {
     if vote[k] == side {
         marks::set_if(true, k, n, mark);
@@ -86,8 +86,8 @@ fn mark_voters(ranks: &Ranks, vote: &Marks, n: usize, side: u8, k: usize, mark: 
 
 // The members of the side.
 fn side_members(ranks: &Ranks, vote: &Marks, n: usize, side: u8) -> Marks
-    requires { n ≤ maxPoints }
-    ensures { result ≡ column maxPoints 0 n (λ (m : ℕ). bit (some (λ (k : ℕ). votersAt (viewAt n ranks.now [] []) vote.now side k m) n)) }
+    requires { n ≤ max_points }
+    ensures { result ≡ column max_points 0 n (λ (m : ℕ). bit (some (λ (k : ℕ). voters_at (view_at n ranks.now [] []) vote.now side k m) n)) }
 {
     let mut out = [0u8; MAX_POINTS];
     let mut k = 0;
@@ -120,8 +120,8 @@ fn turned_by(np: usize, nn: usize, p: bool, q: bool) -> bool
 
 // The marks of the indices, from their memberships.
 fn combined(np: usize, nn: usize, p: &Marks, q: &Marks, n: usize) -> Marks
-    requires { n ≤ maxPoints }
-    ensures { result ≡ column maxPoints 0 n (λ (k : ℕ). bit (turned np nn (is_set p.now k) (is_set q.now k))) }
+    requires { n ≤ max_points }
+    ensures { result ≡ column max_points 0 n (λ (k : ℕ). bit (turned np nn (is_set p.now k) (is_set q.now k))) }
 {
     let mut out = [0u8; MAX_POINTS];
     let mut k = 0;
@@ -135,7 +135,7 @@ fn combined(np: usize, nn: usize, p: &Marks, q: &Marks, n: usize) -> Marks
 // The orientation mark of each rank's index.
 pub fn lattice_orientation_drops(ranks: &Ranks, x: &Floats, y: &Floats, n: usize) -> Marks
     requires { Ranked n ranks.now }
-    ensures { result ≡ orientationOf (viewAt n ranks.now x.now y.now) }
+    ensures { result ≡ orientation_of (view_at n ranks.now x.now y.now) }
 {
     let vote = votes(ranks, x, y, n);
     let np = votes_for(&vote, n, 1);

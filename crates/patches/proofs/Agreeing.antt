@@ -10,7 +10,7 @@ use lib.Dec.{eqb}
 use lib.ListN.{length, get_or}
 use Rattle.folds.specs.Below.{some}
 use Rattle.folds.proofs.Below.{some_at, every-at, and-under, both_ways}
-use Rattle.patches.specs.Patches.{survives, touches, linked, via, labelsBy, labelsOf}
+use Rattle.patches.specs.Patches.{survives, touches, linked, via, labels_by, labels_of}
 use Rattle.patches.specs.Reach.{Reach, here, step, Mirrored, paired}
 use Rattle.patches.specs.Search.{NearPlaces}
 use Rattle.patches.proofs.Surviving.{survives-lt, link-from, link-to, link-side, link-by}
@@ -25,7 +25,7 @@ module _ (n : ℕ) (near : ℕ → ℕ) (sides dropped : List ℕ) where
   link = linked n near sides dropped
 
   abbrev label : ℕ → ℕ
-  label k = get_or (labelsOf n near sides dropped) k 0
+  label k = get_or (labels_of n near sides dropped) k 0
 
   module _ (placed : NearPlaces sides) (pairs : paired sides ≡ true) (mirror : Mirrored n near) where
     -- ---- shared edges lead both ways
@@ -62,12 +62,12 @@ module _ (n : ℕ) (near : ℕ → ℕ) (sides dropped : List ℕ) where
 -- ---- labels depend on the survivors and on the neighbours of points alone
 
 pub labels-depend : (n : ℕ) (near near' : ℕ → ℕ) (sides sides' dropped dropped' : List ℕ) → ((k : ℕ) → k < n → survives n dropped k ≡ survives n dropped' k)
-    → ((a b : ℕ) → a < n → b < n → touches near sides a b ≡ touches near' sides' a b) → labelsOf n near sides dropped ≡ labelsOf n near' sides' dropped'
-unfolding labelsOf
+    → ((a b : ℕ) → a < n → b < n → touches near sides a b ≡ touches near' sides' a b) → labels_of n near sides dropped ≡ labels_of n near' sides' dropped'
+unfolding labels_of
 labels-depend n near near' sides sides' dropped dropped' s t =
     let p = fun_ext alike in
     let q = fun_ext (λ (a : ℕ). fun_ext (joined a)) in
-    ap (λ (f : ℕ → Bool). labelsBy n (via n f (linked n near sides dropped) n)) p ∙ ap (λ (f : ℕ → ℕ → Bool). labelsBy n (via n (survives n dropped') f n)) q
+    ap (λ (f : ℕ → Bool). labels_by n (via n f (linked n near sides dropped) n)) p ∙ ap (λ (f : ℕ → ℕ → Bool). labels_by n (via n (survives n dropped') f n)) q
   where
     alike : (k : ℕ) → survives n dropped k ≡ survives n dropped' k
     alike k = both_ways (survives n dropped k) (survives n dropped' k) (λ e. sym (s k (survives-lt n dropped k e)) ∙ e) (λ e. s k (survives-lt n dropped' k e) ∙ e)

@@ -14,16 +14,16 @@ use Rattle.folds.specs.Below.{first}
 use Rattle.folds.proofs.Below.{or_left, or_right, or_cases, and_left, and_right, and_both, not-true, first-hit, first-miss, first_holds, first-before}
 use Rattle.folds.specs.Lists.{list_of}
 use Rattle.folds.proofs.Lists.{list_at}
-use Rattle.patches.specs.Patches.{test, testTable, via}
+use Rattle.patches.specs.Patches.{test, test_table, via}
 use Rattle.patches.specs.Reach.{Reach, here, step, Labelled}
 
 pub reach-trans : {alive : ℕ → Bool} {link : ℕ → ℕ → Bool} {a b c : ℕ} → Reach alive link a b → Reach alive link b c → Reach alive link a c
 reach-trans r (here e) = r
 reach-trans r (step q e) = step (reach-trans r q) e
 
-test_table : (n : ℕ) (f : ℕ → ℕ → Bool) (a b : ℕ) → a < n → b < n → test (testTable n f) a b ≡ f a b
-unfolding testTable
-test_table n f a b h g = rw (list_at n (λ (i : ℕ). list_of n (f i)) a [] h) (list_at n (f a) b false g)
+test-table : (n : ℕ) (f : ℕ → ℕ → Bool) (a b : ℕ) → a < n → b < n → test (test_table n f) a b ≡ f a b
+unfolding test_table
+test-table n f a b h g = rw (list_at n (λ (i : ℕ). list_of n (f i)) a [] h) (list_at n (f a) b false g)
 
 module _ (n : ℕ) (alive : ℕ → Bool) (link : ℕ → ℕ → Bool) where
   -- by way of ranks below i
@@ -32,11 +32,11 @@ module _ (n : ℕ) (alive : ℕ → Bool) (link : ℕ → ℕ → Bool) where
 
   by-none : (a b : ℕ) → a < n → b < n → by 0 a b ≡ (eqb a b && alive a) || link a b
   unfolding via
-  by-none a b h g = test_table n (λ (a b : ℕ). (eqb a b && alive a) || link a b) a b h g
+  by-none a b h g = test-table n (λ (a b : ℕ). (eqb a b && alive a) || link a b) a b h g
 
   by-more : (i a b : ℕ) → a < n → b < n → by (suc i) a b ≡ by i a b || (by i a i && by i i b)
   unfolding via
-  by-more i a b h g = test_table n (λ (a b : ℕ). by i a b || (by i a i && by i i b)) a b h g
+  by-more i a b h g = test-table n (λ (a b : ℕ). by i a b || (by i a i && by i i b)) a b h g
 
   module _ (i a b : ℕ) (h : a < n) (g : b < n) where
     by-up : by i a b ≡ true → by (suc i) a b ≡ true

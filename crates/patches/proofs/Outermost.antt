@@ -15,11 +15,11 @@ use Rattle.folds.proofs.Column.{column-at}
 use Rattle.folds.specs.Marked.{bit}
 use Rattle.folds.specs.Scattered.{larger}
 use Rattle.folds.proofs.Scattered.{fold-above}
-use Rattle.view.specs.View.{maxPoints}
+use Rattle.view.specs.View.{max_points}
 use Rattle.cells.specs.Points.{bias, stride}
-use Rattle.cells.specs.Cell.{Cell, cellsAt}
-use Rattle.patches.specs.Boxes.{onBoundary, CellKeys}
-use Rattle.patches.specs.Extents.{farEnd, extent, farthestOf, atEnd}
+use Rattle.cells.specs.Cell.{Cell, cells_at}
+use Rattle.patches.specs.Boxes.{on_boundary, CellKeys}
+use Rattle.patches.specs.Extents.{far_end, extent, farthest_of, at_end}
 
 same-order : (x y a b : ℕ) → (x < y → a < b) → (a < b → x < y) → ltb x y ≡ ltb a b
 same-order x y a b f g = both_ways (ltb x y) (ltb a b) (λ e. lt-ltb a b (f (ltb-true x y e))) (λ e. lt-ltb x y (g (ltb-true a b e)))
@@ -41,18 +41,18 @@ less-bias x y = go (ltb x bias) (ltb y bias) refl refl
         same-order (x - bias) (y - bias) x y (λ l. omega arith) (λ l. omega arith)
 
 -- the other way round
-turned : (x y : ℕ) → x ≤ farEnd → y ≤ farEnd → ltb (farEnd - x) (farEnd - y) ≡ ltb y x
-turned x y h g = same-order (farEnd - x) (farEnd - y) y x (λ l. omega arith) (λ l. omega arith)
+turned : (x y : ℕ) → x ≤ far_end → y ≤ far_end → ltb (far_end - x) (far_end - y) ≡ ltb y x
+turned x y h g = same-order (far_end - x) (far_end - y) y x (λ l. omega arith) (λ l. omega arith)
 
 module _ (n : ℕ) (labels keys : List ℕ) where
   abbrev key : ℕ → ℕ
   key k = get_or keys k 0
 
   abbrev cell : ℕ → Cell
-  cell = cellsAt keys
+  cell = cells_at keys
 
   abbrev far : ℕ → List ℕ
-  far way = farthestOf n labels keys way
+  far way = farthest_of n labels keys way
 
   -- ranks j and k are of one patch
   abbrev together : ℕ → ℕ → Bool
@@ -62,12 +62,12 @@ module _ (n : ℕ) (labels keys : List ℕ) where
   farther : (way k : ℕ) → ltb (get_or labels k 0) n ≡ true → ltb (extent way (key k)) (get_or (far way) (get_or labels k 0) 0) ≡ some (λ (j : ℕ). together j k && ltb (extent way (key k)) (extent way (key j))) n
   farther way k e =
       ap (λ (x : ℕ). ltb (extent way (key k)) x)
-      (column-at maxPoints 0 n (λ (s : ℕ). fold (turn (λ (k : ℕ). eqb (get_or labels k 0) s) (larger (λ (k : ℕ). extent way (key k)))) 0 n) (get_or labels k 0) (ltb-true (get_or labels k 0) n e))
+      (column-at max_points 0 n (λ (s : ℕ). fold (turn (λ (k : ℕ). eqb (get_or labels k 0) s) (larger (λ (k : ℕ). extent way (key k)))) 0 n) (get_or labels k 0) (ltb-true (get_or labels k 0) n e))
       ∙ fold-above (λ (j : ℕ). together j k) (λ (j : ℕ). extent way (key j)) (extent way (key k)) n
 
   -- none does, where a test of two ranks tells which lies farther
   outermost : (way : ℕ) (less : ℕ → ℕ → Bool) → ((j k : ℕ) → j < n → k < n → ltb (extent way (key j)) (extent way (key k)) ≡ less j k) → (k : ℕ) → k < n → ltb (get_or labels k 0) n ≡ true
-      → atEnd (far way) way (get_or labels k 0) (key k) ≡ not (some (λ (j : ℕ). together j k && less k j) n)
+      → at_end (far way) way (get_or labels k 0) (key k) ≡ not (some (λ (j : ℕ). together j k && less k j) n)
   outermost way less same k h e =
       ap not
       (farther way k e
@@ -75,10 +75,10 @@ module _ (n : ℕ) (labels keys : List ℕ) where
       (λ j l. ap (λ (b : Bool). together j k && b) (same k j h l)))
 
   module _ (cells : CellKeys n keys) where
-    u-small : (j : ℕ) → j < n → key j / stride ≤ farEnd
+    u-small : (j : ℕ) → j < n → key j / stride ≤ far_end
     u-small j l = omega (arith, cells j l)
 
-    v-small : (j : ℕ) → key j % stride ≤ farEnd
+    v-small : (j : ℕ) → key j % stride ≤ far_end
     v-small j = omega arith
 
     -- to greater u, to smaller u, to greater v, to smaller v
@@ -96,7 +96,7 @@ module _ (n : ℕ) (labels keys : List ℕ) where
 
     -- what the code finds is the definition
     pub boundary-is : (k : ℕ) → k < n → (a b c d : List ℕ) (s r : ℕ) → a ≡ far 0 → b ≡ far 1 → c ≡ far 2 → d ≡ far 3 → s ≡ get_or labels k 0
-        → r ≡ bit (ltb s n && (atEnd b 1 s (key k) || (atEnd a 0 s (key k) || (atEnd d 3 s (key k) || atEnd c 2 s (key k))))) → r ≡ bit (onBoundary n labels cell k)
+        → r ≡ bit (ltb s n && (at_end b 1 s (key k) || (at_end a 0 s (key k) || (at_end d 3 s (key k) || at_end c 2 s (key k))))) → r ≡ bit (on_boundary n labels cell k)
     boundary-is k h a b c d s r p q t v l e =
         e ∙ rw (p, q, t, v, l) (ap bit (and-under (ltb (get_or labels k 0) n) (λ e. cc (
           outermost 0 (λ (j k : ℕ). lt_z (cell j).u (cell k).u) more-u k h e,

@@ -15,22 +15,22 @@ use lib.ListN.{length, get_or, set, length-set, replicate, length-replicate}
 use lib.Seq.{get_or-set_same, get_or-set_other}
 use Rattle.folds.proofs.Column.{length-column}
 use Rattle.folds.specs.Marked.{bit}
-use Rattle.view.specs.View.{maxPoints, viewAt}
+use Rattle.view.specs.View.{max_points, view_at}
 use Rattle.patches.specs.Patches.{survives, linked}
 use Rattle.patches.specs.Reach.{Reach, here, step}
-use Rattle.patches.specs.Search.{Visited, marksSet, Worklist, Visit, stays, pushed, Met, startMarks, unlabelled, Search, SearchOf, Advanced}
+use Rattle.patches.specs.Search.{Visited, marks_set, Worklist, Visit, stays, pushed, Met, start_marks, unlabelled, Search, SearchOf, Advanced}
 use Rattle.patches.proofs.Surviving.{survives-lt, start-open, start-alive, link-from, link-to, link-side, link-by}
 
 -- ---- the arrays
 
-marks-le : (m : List ℕ) → marksSet m ≤ length m
-unfolding marksSet
+marks-le : (m : List ℕ) → marks_set m ≤ length m
+unfolding marks_set
 marks-le [] = zero-le
 marks-le (zero ∷ l) = le_step (marks-le l)
 marks-le (suc a ∷ l) = suc-le-suc (marks-le l)
 
-marks-more : (m : List ℕ) (j : ℕ) → j < length m → get_or m j 0 ≡ 0 → marksSet (set m j 1) ≡ suc (marksSet m)
-unfolding marksSet
+marks-more : (m : List ℕ) (j : ℕ) → j < length m → get_or m j 0 ≡ 0 → marks_set (set m j 1) ≡ suc (marks_set m)
+unfolding marks_set
 marks-more [] j h z = absurd (omega arith)
 marks-more (zero ∷ l) zero h z = refl
 marks-more (suc a ∷ l) zero h z = absurd (omega (arith, z))
@@ -39,10 +39,10 @@ marks-more (suc a ∷ l) (suc j) h z = ap suc (marks-more l j (omega arith) z)
 
 module _ {m l q : List ℕ} {t : ℕ} (w : Worklist m l q t) where
   -- where a mark is not set, there is room for one more
-  pub list-room : (j : ℕ) → j < maxPoints → get_or m j 0 ≡ 0 → t < maxPoints
+  pub list-room : (j : ℕ) → j < max_points → get_or m j 0 ≡ 0 → t < max_points
   list-room j h z = omega (arith, marks-more m j (omega (arith, w.marks)) z, marks-le (set m j 1), length-set m j 1, w.marks, w.room)
 
-  pub list-few : t ≤ maxPoints
+  pub list-few : t ≤ max_points
   list-few = omega (arith, w.room, marks-le m, w.marks)
 
 -- what holds of the old entries of a worklist and of the new one
@@ -66,7 +66,7 @@ module _ {s j : ℕ} {m l q : List ℕ} {t : ℕ} where
 
   module _ (w : Worklist m l q t) where
     -- a rank is marked by a visit
-    visit-marks : {m' l' q' : List ℕ} {t' : ℕ} → Visit s j m l q t m' l' q' t' → j < maxPoints → Visited m' j
+    visit-marks : {m' l' q' : List ℕ} {t' : ℕ} → Visit s j m l q t m' l' q' t' → j < max_points → Visited m' j
     visit-marks (stays h) b y = h b y
     visit-marks (pushed b z) g y = omega (arith, get_or-set_same m j 1 0 (omega (arith, b, w.marks)), y)
 
@@ -77,7 +77,7 @@ module _ {s j : ℕ} {m l q : List ℕ} {t : ℕ} where
       labels = length-set l j s ∙ w.labels;
       work = length-set q t j ∙ w.work;
       room = omega (arith, marks-more m j (omega (arith, b, w.marks)) z, w.room);
-      ranks = λ p h. at_entry (λ (k : ℕ). k < maxPoints) q t j p (omega (arith, list-room w j b z, w.work)) h (w.ranks p) b;
+      ranks = λ p h. at_entry (λ (k : ℕ). k < max_points) q t j p (omega (arith, list-room w j b z, w.work)) h (w.ranks p) b;
     }
 
     -- the search goes on, where the rank is reached from s
@@ -198,7 +198,7 @@ pub record Expanding (ranks sides : List ℕ) (s head x : ℕ) (m₀ l₀ q₀ :
   pub inside : head < t
   pub entry : get_or q head 0 ≡ x
   pub so_far : Advanced ranks sides s head m₀ l₀ q₀ t₀ s head m l q t
-  pub visited : (i : ℕ) → i < d → side ranks sides x i < maxPoints → Visited m (side ranks sides x i)
+  pub visited : (i : ℕ) → i < d → side ranks sides x i < max_points → Visited m (side ranks sides x i)
 
 module _ {ranks sides : List ℕ} {s head x : ℕ} {m₀ l₀ q₀ : List ℕ} {t₀ : ℕ} where
   pub expand-start : Worklist m₀ l₀ q₀ t₀ → head < t₀ → x ≡ get_or q₀ head 0 → Expanding ranks sides s head x m₀ l₀ q₀ t₀ m₀ l₀ q₀ t₀ 0
@@ -210,24 +210,24 @@ module _ {ranks sides : List ℕ} {s head x : ℕ} {m₀ l₀ q₀ : List ℕ} {
       inside = omega (arith, visit-more v, c.inside);
       entry = visit-front head v c.inside ∙ c.entry;
       so_far = advance-then c.so_far (record { list = visit-list w v; kept = λ k. visit-kept k v; search = λ n dropped few o. search-visit w (way n dropped o) o v });
-      visited = below_more (λ (i : ℕ). side ranks sides x i < maxPoints → Visited m' (side ranks sides x i)) d (λ i g b. visit-kept (side ranks sides x i) v (c.visited i g b))
-          (subst (λ (k : ℕ). k < maxPoints → Visited m' k) e (visit-marks w v));
+      visited = below_more (λ (i : ℕ). side ranks sides x i < max_points → Visited m' (side ranks sides x i)) d (λ i g b. visit-kept (side ranks sides x i) v (c.visited i g b))
+          (subst (λ (k : ℕ). k < max_points → Visited m' k) e (visit-marks w v));
     }
       where
         w : Worklist m l q t
         w = c.so_far.list
 
         -- the neighbour is reached by way of the entry
-        way : (n : ℕ) (dropped : List ℕ) → SearchOf n ranks sides dropped s head m l q t → survives n dropped j ≡ true → Reach (survives n dropped) (linked n (viewAt n ranks [] []).near sides dropped) s j
-        way n dropped o a = step (o.current head (omega arith) c.inside) (link-by n (viewAt n ranks [] []).near sides dropped (get_or q head 0) j (o.entered head c.inside) a d h (rw c.entry (sym e)))
+        way : (n : ℕ) (dropped : List ℕ) → SearchOf n ranks sides dropped s head m l q t → survives n dropped j ≡ true → Reach (survives n dropped) (linked n (view_at n ranks [] []).near sides dropped) s j
+        way n dropped o a = step (o.current head (omega arith) c.inside) (link-by n (view_at n ranks [] []).near sides dropped (get_or q head 0) j (o.entered head c.inside) a d h (rw c.entry (sym e)))
 
     pub expand-end : length sides ≤ d → Advanced ranks sides s head m₀ l₀ q₀ t₀ s (head + 1) m l q t
     expand-end h = advance-then c.so_far (record { list = c.so_far.list; kept = λ k d. d; search = λ n dropped few o. search-next o c.inside (all n dropped few) })
       where
-        all : (n : ℕ) (dropped : List ℕ) → n ≤ maxPoints → (j : ℕ) → linked n (viewAt n ranks [] []).near sides dropped (get_or q head 0) j ≡ true → Visited m j
+        all : (n : ℕ) (dropped : List ℕ) → n ≤ max_points → (j : ℕ) → linked n (view_at n ranks [] []).near sides dropped (get_or q head 0) j ≡ true → Visited m j
         all n dropped few j e =
-            let p = link-side n (viewAt n ranks [] []).near sides dropped x j (rw c.entry at e) in
-            let b = survives-lt n dropped j (link-to n (viewAt n ranks [] []).near sides dropped (get_or q head 0) j e) in
+            let p = link-side n (view_at n ranks [] []).near sides dropped x j (rw c.entry at e) in
+            let b = survives-lt n dropped j (link-to n (view_at n ranks [] []).near sides dropped (get_or q head 0) j e) in
             subst (Visited m) p.2 (c.visited p.0 (omega (arith, p.1)) (rw p.2 (omega arith)))
 
 -- ---- one patch
@@ -238,23 +238,23 @@ pub fill_end : {ranks sides : List ℕ} {s j start head : ℕ} {m l q m' l' q' m
 fill_end {ranks} {sides} {s} {j} {m'' = m''} e w v g h = record {
   list = g.list;
   kept = λ k d. g.kept k (visit-kept k v d);
-  search = λ n dropped few c. search-over (g.search n dropped few (search-visit w (λ a. rw e (here (rw e at a))) c v)) (link-from n (viewAt n ranks [] []).near sides dropped) h
+  search = λ n dropped few c. search-over (g.search n dropped few (search-visit w (λ a. rw e (here (rw e at a))) c v)) (link-from n (view_at n ranks [] []).near sides dropped) h
       (λ a. subst (Visited m'') e (g.kept j (visit-marks w v (omega (arith, e, survives-lt n dropped s a, few)))));
 }
 
 -- ---- before the first patch
 
-module _ (n : ℕ) (dropped : List ℕ) (few : n ≤ maxPoints) {m l : List ℕ} (e : m ≡ startMarks n dropped) (f : l ≡ unlabelled n) where
-  pub list-start : Worklist m l (replicate maxPoints 0) 0
+module _ (n : ℕ) (dropped : List ℕ) (few : n ≤ max_points) {m l : List ℕ} (e : m ≡ start_marks n dropped) (f : l ≡ unlabelled n) where
+  pub list-start : Worklist m l (replicate max_points 0) 0
   list-start = record {
-    marks = ap length e ∙ length-column maxPoints 1 n (λ (k : ℕ). bit (not (eqb (get_or dropped k 0) 0))) few;
-    labels = ap length f ∙ length-column maxPoints 0 n (λ (k : ℕ). n) few;
-    work = length-replicate {A = ℕ} maxPoints 0;
+    marks = ap length e ∙ length-column max_points 1 n (λ (k : ℕ). bit (not (eqb (get_or dropped k 0) 0))) few;
+    labels = ap length f ∙ length-column max_points 0 n (λ (k : ℕ). n) few;
+    work = length-replicate {A = ℕ} max_points 0;
     room = zero-le;
     ranks = λ p h. absurd (omega arith);
   }
 
-  pub search-none : (ranks sides : List ℕ) → SearchOf n ranks sides dropped 0 0 m l (replicate maxPoints 0) 0
+  pub search-none : (ranks sides : List ℕ) → SearchOf n ranks sides dropped 0 0 m l (replicate max_points 0) 0
   search-none ranks sides = record {
     within = zero-le;
     unmarked = λ k h z. start-open n dropped k few h (rw e at z);

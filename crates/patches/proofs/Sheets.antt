@@ -11,10 +11,10 @@ use Rattle.folds.specs.Column.{column}
 use Rattle.view.specs.View.{View}
 use Rattle.cells.specs.Cell.{Cell}
 use Rattle.cells.proofs.Edges.{cell_at}
-use Rattle.patches.specs.Boxes.{boundaryAmong}
+use Rattle.patches.specs.Boxes.{boundary_among}
 
 sheet : List ℕ → View
-sheet places = record { count = 10; near = λ i. 0; row = λ k. 0; column = λ k. 0; byIdx = λ k. get_or places k 0; x = λ k. nan; y = λ k. nan }
+sheet places = record { count = 10; near = λ i. 0; row = λ k. 0; column = λ k. 0; by_idx = λ k. get_or places k 0; x = λ k. nan; y = λ k. nan }
 
 spot : ℕ → Cell
 spot k = cell_at (pos (k / 3) -ℤ pos 1) (pos (k % 3) -ℤ pos 1)
@@ -23,11 +23,11 @@ labels : List ℕ
 labels = 0 ∷ 0 ∷ 0 ∷ 0 ∷ 0 ∷ 0 ∷ 0 ∷ 0 ∷ 0 ∷ 9 ∷ []
 
 -- the middle one of the nine is on no boundary
-nine : take 10 (boundaryAmong (sheet (0 ∷ 1 ∷ 2 ∷ 3 ∷ 4 ∷ 5 ∷ 6 ∷ 7 ∷ 8 ∷ 9 ∷ [])) labels spot) ≡ 1 ∷ 1 ∷ 1 ∷ 1 ∷ 0 ∷ 1 ∷ 1 ∷ 1 ∷ 1 ∷ 1 ∷ []
-unfolding sheet spot labels boundaryAmong column list_of up_from some
+nine : take 10 (boundary_among (sheet (0 ∷ 1 ∷ 2 ∷ 3 ∷ 4 ∷ 5 ∷ 6 ∷ 7 ∷ 8 ∷ 9 ∷ [])) labels spot) ≡ 1 ∷ 1 ∷ 1 ∷ 1 ∷ 0 ∷ 1 ∷ 1 ∷ 1 ∷ 1 ∷ 1 ∷ []
+unfolding sheet spot labels boundary_among column list_of up_from some
 nine = refl
 
 -- with one index at the first and at the middle one, both show what the middle one is
-shared : take 10 (boundaryAmong (sheet (4 ∷ 1 ∷ 2 ∷ 3 ∷ 4 ∷ 5 ∷ 6 ∷ 7 ∷ 8 ∷ 9 ∷ [])) labels spot) ≡ 0 ∷ 1 ∷ 1 ∷ 1 ∷ 0 ∷ 1 ∷ 1 ∷ 1 ∷ 1 ∷ 1 ∷ []
-unfolding sheet spot labels boundaryAmong column list_of up_from some
+shared : take 10 (boundary_among (sheet (4 ∷ 1 ∷ 2 ∷ 3 ∷ 4 ∷ 5 ∷ 6 ∷ 7 ∷ 8 ∷ 9 ∷ [])) labels spot) ≡ 0 ∷ 1 ∷ 1 ∷ 1 ∷ 0 ∷ 1 ∷ 1 ∷ 1 ∷ 1 ∷ 1 ∷ []
+unfolding sheet spot labels boundary_among column list_of up_from some
 shared = refl

@@ -13,32 +13,32 @@ use Rattle.folds.proofs.Below.{some-yes, some_at, and_left, and_right, and_both}
 use Rattle.folds.proofs.Lists.{get_d_any}
 use Rattle.folds.proofs.Column.{length-column, column-at, column-over}
 use Rattle.folds.specs.Marked.{bit}
-use Rattle.view.specs.View.{maxPoints}
+use Rattle.view.specs.View.{max_points}
 use Rattle.patches.specs.Patches.{survives, touches, linked}
-use Rattle.patches.specs.Search.{startMarks}
+use Rattle.patches.specs.Search.{start_marks}
 
 module _ (n : ℕ) (dropped : List ℕ) (k : ℕ) where
   pub survives-lt : survives n dropped k ≡ true → k < n
   survives-lt a = ltb-true k n (and_left (ltb k n) (eqb (get_or dropped k 0) 0) a)
 
-  module _ (few : n ≤ maxPoints) where
+  module _ (few : n ≤ max_points) where
     -- before the search a rank is marked just where it does not survive
-    start-at : k < maxPoints → get_or (startMarks n dropped) k 0 ≡ bit (not (survives n dropped k))
+    start-at : k < max_points → get_or (start_marks n dropped) k 0 ≡ bit (not (survives n dropped k))
     start-at h =
-        get_d_any (startMarks n dropped) k 0 1 (omega (arith, length-column maxPoints 1 n (λ (k : ℕ). bit (not (eqb (get_or dropped k 0) 0))) few))
+        get_d_any (start_marks n dropped) k 0 1 (omega (arith, length-column max_points 1 n (λ (k : ℕ). bit (not (eqb (get_or dropped k 0) 0))) few))
         ∙ elim (dec_lt k n) [
-          | yes l ↦ column-at maxPoints 1 n (λ (k : ℕ). bit (not (eqb (get_or dropped k 0) 0))) k l ∙ sym (rw (lt-ltb k n l) refl)
-          | no f ↦ let g : n ≤ k = omega (arith, f) in column-over maxPoints 1 n (λ (k : ℕ). bit (not (eqb (get_or dropped k 0) 0))) k g ∙ sym (rw (le-ltb k n g) refl)
+          | yes l ↦ column-at max_points 1 n (λ (k : ℕ). bit (not (eqb (get_or dropped k 0) 0))) k l ∙ sym (rw (lt-ltb k n l) refl)
+          | no f ↦ let g : n ≤ k = omega (arith, f) in column-over max_points 1 n (λ (k : ℕ). bit (not (eqb (get_or dropped k 0) 0))) k g ∙ sym (rw (le-ltb k n g) refl)
         ]
 
-    pub start-open : k < maxPoints → get_or (startMarks n dropped) k 0 ≡ 0 → survives n dropped k ≡ true
+    pub start-open : k < max_points → get_or (start_marks n dropped) k 0 ≡ 0 → survives n dropped k ≡ true
     start-open h z = go (survives n dropped k) (sym (start-at h) ∙ z)
       where
         go : (b : Bool) → bit (not b) ≡ 0 → b ≡ true
         go true e = refl
         go false e = absurd (omega (arith, e))
 
-    pub start-alive : survives n dropped k ≡ true → get_or (startMarks n dropped) k 0 ≡ 0
+    pub start-alive : survives n dropped k ≡ true → get_or (start_marks n dropped) k 0 ≡ 0
     start-alive a = start-at (omega (arith, survives-lt a, few)) ∙ rw a
 
 module _ (n : ℕ) (near : ℕ → ℕ) (sides dropped : List ℕ) (a b : ℕ) where

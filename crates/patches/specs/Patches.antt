@@ -5,7 +5,7 @@ use Rattle.std.specs.Prelude.{Bool, false, ◌&&◌, ◌||◌, List, [], ℕ, ze
 use Rattle.folds.specs.Below.{some, first}
 use Rattle.folds.specs.Lists.{list_of}
 use Rattle.folds.specs.Column.{column}
-use Rattle.view.specs.View.{View, maxPoints}
+use Rattle.view.specs.View.{View, max_points}
 
 -- "A survivor is a point whose index gets no mark under these rules other than the component mark."
 abbrev pub survives : ℕ → List ℕ → ℕ → Bool
@@ -25,27 +25,27 @@ linked n near sides dropped a b = survives n dropped a && (survives n dropped b 
 abbrev pub test : List (List Bool) → ℕ → ℕ → Bool
 test m a b = get_or (get_or m a []) b false
 
-unfoldable pub testTable : ℕ → (ℕ → ℕ → Bool) → List (List Bool)
+unfoldable pub test_table : ℕ → (ℕ → ℕ → Bool) → List (List Bool)
 unfolding list_of
-testTable n f = list_of n (λ (a : ℕ). list_of n (f a))
+test_table n f = list_of n (λ (a : ℕ). list_of n (f a))
 
 -- b is reached from the survivor a by way of ranks below i
 unfoldable pub via : ℕ → (ℕ → Bool) → (ℕ → ℕ → Bool) → ℕ → List (List Bool)
-unfolding testTable
-via n alive link zero = testTable n (λ (a b : ℕ). (eqb a b && alive a) || link a b)
-via n alive link (suc i) = let m = via n alive link i in testTable n (λ (a b : ℕ). test m a b || (test m a i && test m i b))
+unfolding test_table
+via n alive link zero = test_table n (λ (a b : ℕ). (eqb a b && alive a) || link a b)
+via n alive link (suc i) = let m = via n alive link i in test_table n (λ (a b : ℕ). test m a b || (test m a i && test m i b))
 
 -- ---- labels
 
 -- each rank's patch by its least rank: the first from which the rank is reached; n where the rank does not survive
-unfoldable pub labelsBy : ℕ → List (List Bool) → List ℕ
+unfoldable pub labels_by : ℕ → List (List Bool) → List ℕ
 unfolding column first
-labelsBy n m = column maxPoints 0 n (λ (k : ℕ). first (λ (a : ℕ). test m a k) 0 n)
+labels_by n m = column max_points 0 n (λ (k : ℕ). first (λ (a : ℕ). test m a k) 0 n)
 
-unfoldable pub labelsOf : ℕ → (ℕ → ℕ) → List ℕ → List ℕ → List ℕ
-unfolding labelsBy via some
-labelsOf n near sides dropped = labelsBy n (via n (survives n dropped) (linked n near sides dropped) n)
+unfoldable pub labels_of : ℕ → (ℕ → ℕ) → List ℕ → List ℕ → List ℕ
+unfolding labels_by via some
+labels_of n near sides dropped = labels_by n (via n (survives n dropped) (linked n near sides dropped) n)
 
 -- of a view
-abbrev pub patchLabels : View → List ℕ → List ℕ → List ℕ
-patchLabels w sides dropped = labelsOf w.count w.near sides dropped
+abbrev pub patch_labels : View → List ℕ → List ℕ → List ℕ
+patch_labels w sides dropped = labels_of w.count w.near sides dropped

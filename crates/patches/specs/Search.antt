@@ -3,7 +3,7 @@
 use Rattle.std.specs.Prelude.{◌≡◌, Bool, true, not, List, [], ◌∷◌, ℕ, zero, suc, ◌+◌, ◌≤◌, ◌<◌, eqb, length, get_or, set}
 use Rattle.folds.specs.Column.{column}
 use Rattle.folds.specs.Marked.{bit}
-use Rattle.view.specs.View.{maxPoints, viewAt}
+use Rattle.view.specs.View.{max_points, view_at}
 use Rattle.patches.specs.Patches.{survives, linked}
 use Rattle.patches.specs.Reach.{Reach, Labelled}
 
@@ -14,12 +14,12 @@ NearPlaces sides = (i : ℕ) → i < length sides → get_or sides i 0 < 25
 -- ---- before the search
 
 -- the marks: set at each number that is not the rank of a survivor
-abbrev pub startMarks : ℕ → List ℕ → List ℕ
-startMarks n dropped = column maxPoints 1 n (λ (k : ℕ). bit (not (eqb (get_or dropped k 0) 0)))
+abbrev pub start_marks : ℕ → List ℕ → List ℕ
+start_marks n dropped = column max_points 1 n (λ (k : ℕ). bit (not (eqb (get_or dropped k 0) 0)))
 
 -- the labels: n for each rank
 abbrev pub unlabelled : ℕ → List ℕ
-unlabelled n = column maxPoints 0 n (λ (k : ℕ). n)
+unlabelled n = column max_points 0 n (λ (k : ℕ). n)
 
 -- ---- the arrays
 
@@ -28,23 +28,23 @@ abbrev pub Visited : List ℕ → ℕ → Type 0
 Visited m k = get_or m k 0 ≡ 0 → ⊥
 
 -- how many marks are set
-unfoldable pub marksSet : List ℕ → ℕ
-marksSet [] = 0
-marksSet (zero ∷ l) = marksSet l
-marksSet (suc a ∷ l) = suc (marksSet l)
+unfoldable pub marks_set : List ℕ → ℕ
+marks_set [] = 0
+marks_set (zero ∷ l) = marks_set l
+marks_set (suc a ∷ l) = suc (marks_set l)
 
 -- the lengths of the arrays, a mark for each entry of the worklist, and entries that are ranks
 pub record Worklist (m l q : List ℕ) (t : ℕ) : Type 0 where
-  pub marks : length m ≡ maxPoints
-  pub labels : length l ≡ maxPoints
-  pub work : length q ≡ maxPoints
-  pub room : t ≤ marksSet m
-  pub ranks : (p : ℕ) → p < t → get_or q p 0 < maxPoints
+  pub marks : length m ≡ max_points
+  pub labels : length l ≡ max_points
+  pub work : length q ≡ max_points
+  pub room : t ≤ marks_set m
+  pub ranks : (p : ℕ) → p < t → get_or q p 0 < max_points
 
 -- a visit to rank j changes nothing where j is none or has its mark; else it marks j, gives it the label s and puts it on the worklist
 pub data Visit (s j : ℕ) (m l q : List ℕ) (t : ℕ) : List ℕ → List ℕ → List ℕ → ℕ → Type 0 where
-  stays : (j < maxPoints → Visited m j) → Visit s j m l q t m l q t
-  pushed : j < maxPoints → get_or m j 0 ≡ 0 → Visit s j m l q t (set m j 1) (set l j s) (set q t j) (t + 1)
+  stays : (j < max_points → Visited m j) → Visit s j m l q t m l q t
+  pushed : j < max_points → get_or m j 0 ≡ 0 → Visit s j m l q t (set m j 1) (set l j s) (set q t j) (t + 1)
 
 -- ---- the search
 
@@ -55,7 +55,7 @@ Met alive m k = (alive k ≡ true) × Visited m k
 -- while the patch of s is searched, with the neighbours of the first `head` entries of the worklist visited
 pub record Search (alive : ℕ → Bool) (link : ℕ → ℕ → Bool) (n s head : ℕ) (m l q : List ℕ) (t : ℕ) : Type 0 where
   pub within : head ≤ t
-  pub unmarked : (k : ℕ) → k < maxPoints → get_or m k 0 ≡ 0 → alive k ≡ true
+  pub unmarked : (k : ℕ) → k < max_points → get_or m k 0 ≡ 0 → alive k ≡ true
   pub entered : (p : ℕ) → p < t → alive (get_or q p 0) ≡ true
   pub current : (p : ℕ) → head ≤ p → p < t → Reach alive link s (get_or q p 0)
   pub found : (k : ℕ) → Met alive m k → (p : ℕ) × (p < t) × (get_or q p 0 ≡ k)
@@ -66,10 +66,10 @@ pub record Search (alive : ℕ → Bool) (link : ℕ → ℕ → Bool) (n s head
 
 -- of the n points of a table of ranks
 abbrev pub SearchOf : ℕ → List ℕ → List ℕ → List ℕ → ℕ → ℕ → List ℕ → List ℕ → List ℕ → ℕ → Type 0
-SearchOf n ranks sides dropped s head m l q t = Search (survives n dropped) (linked n (viewAt n ranks [] []).near sides dropped) n s head m l q t
+SearchOf n ranks sides dropped s head m l q t = Search (survives n dropped) (linked n (view_at n ranks [] []).near sides dropped) n s head m l q t
 
 -- from one state of the search to a later one, in which no mark is lost, for any number of points and any that are dropped
 pub record Advanced (ranks sides : List ℕ) (s head : ℕ) (m l q : List ℕ) (t s' head' : ℕ) (m' l' q' : List ℕ) (t' : ℕ) : Type 0 where
   pub list : Worklist m' l' q' t'
   pub kept : (k : ℕ) → Visited m k → Visited m' k
-  pub search : (n : ℕ) (dropped : List ℕ) → n ≤ maxPoints → SearchOf n ranks sides dropped s head m l q t → SearchOf n ranks sides dropped s' head' m' l' q' t'
+  pub search : (n : ℕ) (dropped : List ℕ) → n ≤ max_points → SearchOf n ranks sides dropped s head m l q t → SearchOf n ranks sides dropped s' head' m' l' q' t'

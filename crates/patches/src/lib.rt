@@ -4,17 +4,17 @@
 pub mod boxes;
 
 ghost use Rattle.std.specs.Prelude.{◌≡◌, true, List, ◌+◌, ◌≤◌, ◌<◌, Float};
-ghost use Rattle.offsets.specs.Offsets.{isNear, place_of, places, squareSides};
-ghost use Rattle.view.specs.View.{maxPoints, viewAt};
-ghost use Rattle.patches.specs.Patches.{patchLabels};
-ghost use Rattle.patches.specs.Search.{NearPlaces, startMarks, unlabelled, Worklist, Visit, Advanced};
+ghost use Rattle.offsets.specs.Offsets.{is_near, place_of, places, square_sides};
+ghost use Rattle.view.specs.View.{max_points, view_at};
+ghost use Rattle.patches.specs.Patches.{patch_labels};
+ghost use Rattle.patches.specs.Search.{NearPlaces, start_marks, unlabelled, Worklist, Visit, Advanced};
 
 use offsets::Offset;
 use view::{MAX_POINTS, Marks, Places, Ranks};
 
 // The place of an offset, as a byte. Sides are lent as places: a slice of structs cannot be lent without a proof by hand.
 fn place_byte(o: Offset) -> u8
-    requires { isNear o ≡ true }
+    requires { is_near o ≡ true }
     ensures { result ≡ place_of o }
 {
     offsets::place(o) as u8
@@ -22,7 +22,7 @@ fn place_byte(o: Offset) -> u8
 
 // The places of the square lattice's offsets, in the order of square.rs: to u + 1, v + 1, u - 1 and v - 1.
 pub fn square_sides() -> [u8; 4]
-    ensures { result ≡ places squareSides }
+    ensures { result ≡ places square_sides }
 {
     [
         place_byte(offsets::NEXT_U),
@@ -115,8 +115,8 @@ fn fill(
 
 // The marks before the search: set at each number that is not the rank of a survivor.
 fn start_marks(dropped: &Marks, n: usize) -> Marks
-    requires { n ≤ maxPoints }
-    ensures { result ≡ startMarks n dropped.now }
+    requires { n ≤ max_points }
+    ensures { result ≡ start_marks n dropped.now }
 {
     let mut visited = [1u8; MAX_POINTS];
     let mut i: usize = 0;
@@ -129,7 +129,7 @@ fn start_marks(dropped: &Marks, n: usize) -> Marks
 
 // A label of n, none, for each rank.
 fn blank(n: usize) -> Places
-    requires { n ≤ maxPoints }
+    requires { n ≤ max_points }
     ensures { result ≡ unlabelled n }
 {
     let none = n as u16;
@@ -144,8 +144,8 @@ fn blank(n: usize) -> Places
 
 // The label of each rank: the least rank of its patch; n where it does not survive.
 pub fn labels(ranks: &Ranks, dropped: &Marks, sides: &[u8], n: usize) -> Places
-    requires { (n ≤ maxPoints) × NearPlaces sides.now }
-    ensures { (xs ys : List Float) → result ≡ patchLabels (viewAt n ranks.now xs ys) sides.now dropped.now }
+    requires { (n ≤ max_points) × NearPlaces sides.now }
+    ensures { (xs ys : List Float) → result ≡ patch_labels (view_at n ranks.now xs ys) sides.now dropped.now }
 {
     let mut visited = start_marks(dropped, n);
     let mut queue = [0u16; MAX_POINTS];

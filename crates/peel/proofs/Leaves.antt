@@ -12,84 +12,84 @@ use lib.ListN.{length, get_or}
 use Rattle.folds.specs.Below.{tally}
 use Rattle.folds.proofs.Below.{tally-ext, and_left, and_right, and_both, not-true}
 use Rattle.folds.proofs.Column.{column-at, column-over}
-use Rattle.view.specs.View.{maxPoints}
-use Rattle.peel.specs.Peel.{live, liveSides, leaf}
-use Rattle.peel.specs.Work.{state_of, statesOf, isPoint, livesAt, nearAt, index_at, liveBeside, leafAt, Fits}
+use Rattle.view.specs.View.{max_points}
+use Rattle.peel.specs.Peel.{live, live_sides, leaf}
+use Rattle.peel.specs.Work.{state_of, states_of, is_point, lives_at, near_at, index_at, live_beside, leaf_at, Fits}
 use Rattle.folds.proofs.Counting.{not_yes, tally-lost}
 use Rattle.peel.proofs.Rounds.{Ends}
 
-module _ (alive : ℕ → Bool) (byIdx : ℕ → ℕ) (gone : ℕ → Bool) (k : ℕ) where
-  pub live-alive : live alive byIdx gone k ≡ true → alive k ≡ true
-  live-alive e = and_left (alive k) (not (gone (byIdx k))) e
+module _ (alive : ℕ → Bool) (by_idx : ℕ → ℕ) (gone : ℕ → Bool) (k : ℕ) where
+  pub live-alive : live alive by_idx gone k ≡ true → alive k ≡ true
+  live-alive e = and_left (alive k) (not (gone (by_idx k))) e
 
-  pub live-stays : live alive byIdx gone k ≡ true → gone (byIdx k) ≡ false
-  live-stays e = not_yes (gone (byIdx k)) (and_right (alive k) (not (gone (byIdx k))) e)
+  pub live-stays : live alive by_idx gone k ≡ true → gone (by_idx k) ≡ false
+  live-stays e = not_yes (gone (by_idx k)) (and_right (alive k) (not (gone (by_idx k))) e)
 
-  pub live-is : alive k ≡ true → gone (byIdx k) ≡ false → live alive byIdx gone k ≡ true
-  live-is a e = and_both (alive k) (not (gone (byIdx k))) a (ap not e)
+  pub live-is : alive k ≡ true → gone (by_idx k) ≡ false → live alive by_idx gone k ≡ true
+  live-is a e = and_both (alive k) (not (gone (by_idx k))) a (ap not e)
 
-module _ (alive : ℕ → Bool) (near byIdx : ℕ → ℕ) (sides : List ℕ) (weak : ℕ → Bool) where
+module _ (alive : ℕ → Bool) (near by_idx : ℕ → ℕ) (sides : List ℕ) (weak : ℕ → Bool) where
   module _ (gone : ℕ → Bool) (k : ℕ) where
-    pub leaf-live : leaf alive near byIdx sides weak gone k ≡ true → live alive byIdx gone k ≡ true
+    pub leaf-live : leaf alive near by_idx sides weak gone k ≡ true → live alive by_idx gone k ≡ true
     unfolding leaf
-    leaf-live e = and_left (live alive byIdx gone k) _ e
+    leaf-live e = and_left (live alive by_idx gone k) _ e
 
-    leaf-rest : leaf alive near byIdx sides weak gone k ≡ true → weak k && ltb (liveSides alive near byIdx sides gone k) 2 ≡ true
+    leaf-rest : leaf alive near by_idx sides weak gone k ≡ true → weak k && ltb (live_sides alive near by_idx sides gone k) 2 ≡ true
     unfolding leaf
-    leaf-rest e = and_right (live alive byIdx gone k) _ e
+    leaf-rest e = and_right (live alive by_idx gone k) _ e
 
-    pub leaf-weak : leaf alive near byIdx sides weak gone k ≡ true → weak k ≡ true
-    leaf-weak e = and_left (weak k) (ltb (liveSides alive near byIdx sides gone k) 2) (leaf-rest e)
+    pub leaf-weak : leaf alive near by_idx sides weak gone k ≡ true → weak k ≡ true
+    leaf-weak e = and_left (weak k) (ltb (live_sides alive near by_idx sides gone k) 2) (leaf-rest e)
 
-    pub leaf-few : leaf alive near byIdx sides weak gone k ≡ true → liveSides alive near byIdx sides gone k < 2
-    leaf-few e = ltb-true (liveSides alive near byIdx sides gone k) 2 (and_right (weak k) _ (leaf-rest e))
+    pub leaf-few : leaf alive near by_idx sides weak gone k ≡ true → live_sides alive near by_idx sides gone k < 2
+    leaf-few e = ltb-true (live_sides alive near by_idx sides gone k) 2 (and_right (weak k) _ (leaf-rest e))
 
     -- a live weak rank that is no end has two live neighbours or more
-    pub leaf-many : leaf alive near byIdx sides weak gone k ≡ false → live alive byIdx gone k ≡ true → weak k ≡ true → 2 ≤ liveSides alive near byIdx sides gone k
+    pub leaf-many : leaf alive near by_idx sides weak gone k ≡ false → live alive by_idx gone k ≡ true → weak k ≡ true → 2 ≤ live_sides alive near by_idx sides gone k
     unfolding leaf
-    leaf-many e a h = ltb-false (liveSides alive near byIdx sides gone k) 2 (sym (rw (a, h)) ∙ e)
+    leaf-many e a h = ltb-false (live_sides alive near by_idx sides gone k) 2 (sym (rw (a, h)) ∙ e)
 
   -- each end is a rank whose index has not gone
-  pub leaf-ends : (n : ℕ) → ((k : ℕ) → alive k ≡ true → k < n) → ((k : ℕ) → k < n → byIdx k < n) → Ends n byIdx (leaf alive near byIdx sides weak)
+  pub leaf-ends : (n : ℕ) → ((k : ℕ) → alive k ≡ true → k < n) → ((k : ℕ) → k < n → by_idx k < n) → Ends n by_idx (leaf alive near by_idx sides weak)
   leaf-ends n few place = record {
-    rank = λ g k e. few k (live-alive alive byIdx g k (leaf-live g k e));
-    stays = λ g k e. live-stays alive byIdx g k (leaf-live g k e);
+    rank = λ g k e. few k (live-alive alive by_idx g k (leaf-live g k e));
+    stays = λ g k e. live-stays alive by_idx g k (leaf-live g k e);
     place = place;
   }
 
   -- an end that was none, when less had gone: one of its neighbours has gone
-  pub leaf-new : (gone gone' : ℕ → Bool) → ((b : ℕ) → gone b ≡ true → gone' b ≡ true) → (k : ℕ) → leaf alive near byIdx sides weak gone k ≡ false → leaf alive near byIdx sides weak gone' k ≡ true
-      → (i : ℕ) × (i < length sides) × (live alive byIdx gone (near (25 * k + get_or sides i 0)) ≡ true) × (live alive byIdx gone' (near (25 * k + get_or sides i 0)) ≡ false)
-  unfolding liveSides
+  pub leaf-new : (gone gone' : ℕ → Bool) → ((b : ℕ) → gone b ≡ true → gone' b ≡ true) → (k : ℕ) → leaf alive near by_idx sides weak gone k ≡ false → leaf alive near by_idx sides weak gone' k ≡ true
+      → (i : ℕ) × (i < length sides) × (live alive by_idx gone (near (25 * k + get_or sides i 0)) ≡ true) × (live alive by_idx gone' (near (25 * k + get_or sides i 0)) ≡ false)
+  unfolding live_sides
   leaf-new g g' more k e f =
       let l = leaf-live g' k f in
-      let s = not-true (g (byIdx k)) (λ t. true≢false (sym (more (byIdx k) t) ∙ live-stays alive byIdx g' k l)) in
-      tally-lost _ _ (length sides) (omega (arith, leaf-few g' k f, leaf-many g k e (live-is alive byIdx g k (live-alive alive byIdx g' k l) s) (leaf-weak g' k f)))
+      let s = not-true (g (by_idx k)) (λ t. true≢false (sym (more (by_idx k) t) ∙ live-stays alive by_idx g' k l)) in
+      tally-lost _ _ (length sides) (omega (arith, leaf-few g' k f, leaf-many g k e (live-is alive by_idx g k (live-alive alive by_idx g' k l) s) (leaf-weak g' k f)))
 
 -- ---- the states of ranks
 
 -- past the points none is live
-pub dead-beyond : {ranks state sides : List ℕ} → Fits ranks state sides → (k : ℕ) → maxPoints ≤ k → livesAt state k ≡ false
+pub dead-beyond : {ranks state sides : List ℕ} → Fits ranks state sides → (k : ℕ) → max_points ≤ k → lives_at state k ≡ false
 dead-beyond {ranks} {state} fits k h =
-    not-true (livesAt state k) (λ e. omega (arith, h, fits.within k (ap not (ne_eqb (get_or state k 0) 0 (λ z. omega (arith, z, ltb-true 1 (get_or state k 0) e))))))
+    not-true (lives_at state k) (λ e. omega (arith, h, fits.within k (ap not (ne_eqb (get_or state k 0) 0 (λ z. omega (arith, z, ltb-true 1 (get_or state k 0) e))))))
 
 module _ (ranks state sides : List ℕ) (k : ℕ) where
-  pub leaf-point : leafAt ranks state sides k ≡ true → isPoint state k ≡ true
-  unfolding leafAt
+  pub leaf-point : leaf_at ranks state sides k ≡ true → is_point state k ≡ true
+  unfolding leaf_at
   leaf-point e = ap not (ne_eqb (get_or state k 0) 0 (λ z. omega (arith, z, eqb-true (get_or state k 0) 3 (and_left (eqb (get_or state k 0) 3) _ e))))
 
-  pub leaf-by : (t : Bool) → eqb (get_or state k 0) 3 ≡ t → t && ltb (liveBeside ranks state sides (length sides) k) 2 ≡ leafAt ranks state sides k
-  unfolding leafAt
-  leaf-by t e = sym (ap (λ (x : Bool). x && ltb (liveBeside ranks state sides (length sides) k) 2) e)
+  pub leaf-by : (t : Bool) → eqb (get_or state k 0) 3 ≡ t → t && ltb (live_beside ranks state sides (length sides) k) 2 ≡ leaf_at ranks state sides k
+  unfolding leaf_at
+  leaf-by t e = sym (ap (λ (x : Bool). x && ltb (live_beside ranks state sides (length sides) k) 2) e)
 
 module _ (n : ℕ) (lives weak : ℕ → Bool) where
-  pub states-over : (k : ℕ) → n ≤ k → get_or (statesOf n lives weak) k 0 ≡ 0
-  states-over k h = column-over maxPoints 0 n (λ (k : ℕ). state_of (lives k) (weak k)) k h
+  pub states-over : (k : ℕ) → n ≤ k → get_or (states_of n lives weak) k 0 ≡ 0
+  states-over k h = column-over max_points 0 n (λ (k : ℕ). state_of (lives k) (weak k)) k h
 
-  pub states-at : (k : ℕ) → k < n → get_or (statesOf n lives weak) k 0 ≡ state_of (lives k) (weak k)
-  states-at k h = column-at maxPoints 0 n (λ (k : ℕ). state_of (lives k) (weak k)) k h
+  pub states-at : (k : ℕ) → k < n → get_or (states_of n lives weak) k 0 ≡ state_of (lives k) (weak k)
+  states-at k h = column-at max_points 0 n (λ (k : ℕ). state_of (lives k) (weak k)) k h
 
-  pub point-is : (k : ℕ) → isPoint (statesOf n lives weak) k ≡ ltb k n
+  pub point-is : (k : ℕ) → is_point (states_of n lives weak) k ≡ ltb k n
   point-is k = elim (dec_lt k n) [
     | yes h ↦ ap (λ (s : ℕ). not (eqb s 0)) (states-at k h) ∙ go (lives k) (weak k) ∙ sym (lt-ltb k n h)
     | no f ↦ let h : n ≤ k = omega (arith, f) in ap (λ (s : ℕ). not (eqb s 0)) (states-over k h) ∙ sym (le-ltb k n h)
@@ -102,13 +102,13 @@ module _ (n : ℕ) (lives weak : ℕ → Bool) where
 
   module _ (below : (k : ℕ) → lives k ≡ true → k < n) where
     -- a state is read as a test of what is live, and of whether it is weak
-    read : (t : ℕ → Bool) (u : Bool → Bool → Bool) → ((l w : Bool) → t (state_of l w) ≡ u l w) → t 0 ≡ false → ((w : Bool) → u false w ≡ false) → (k : ℕ) → t (get_or (statesOf n lives weak) k 0) ≡ u (lives k) (weak k)
+    read : (t : ℕ → Bool) (u : Bool → Bool → Bool) → ((l w : Bool) → t (state_of l w) ≡ u l w) → t 0 ≡ false → ((w : Bool) → u false w ≡ false) → (k : ℕ) → t (get_or (states_of n lives weak) k 0) ≡ u (lives k) (weak k)
     read t u e z f k = elim (dec_lt k n) [
       | yes h ↦ ap t (states-at k h) ∙ e (lives k) (weak k)
       | no g ↦ ap t (states-over k (omega (arith, g))) ∙ z ∙ sym (ap (λ (l : Bool). u l (weak k)) (not-true (lives k) (λ e. g (below k e))) ∙ f (weak k))
     ]
 
-    pub lives-is : (k : ℕ) → livesAt (statesOf n lives weak) k ≡ lives k
+    pub lives-is : (k : ℕ) → lives_at (states_of n lives weak) k ≡ lives k
     lives-is k = read (λ (s : ℕ). ltb 1 s) (λ (l w : Bool). l) go refl (λ w. refl) k
       where
         go : (l w : Bool) → ltb 1 (state_of l w) ≡ l
@@ -116,7 +116,7 @@ module _ (n : ℕ) (lives weak : ℕ → Bool) where
         go true false = refl
         go false w = refl
 
-    pub weak-is : (k : ℕ) → eqb (get_or (statesOf n lives weak) k 0) 3 ≡ lives k && weak k
+    pub weak-is : (k : ℕ) → eqb (get_or (states_of n lives weak) k 0) 3 ≡ lives k && weak k
     weak-is k = read (λ (s : ℕ). eqb s 3) (λ (l w : Bool). l && w) go refl (λ w. refl) k
       where
         go : (l w : Bool) → eqb (state_of l w) 3 ≡ l && w
@@ -126,18 +126,18 @@ module _ (n : ℕ) (lives weak : ℕ → Bool) where
 
 -- an end by the states is an end
 pub leaf-is : (n : ℕ) (alive weak gone : ℕ → Bool) → ((k : ℕ) → alive k ≡ true → k < n) → (ranks sides : List ℕ) (k : ℕ)
-    → leafAt ranks (statesOf n (live alive (index_at ranks) gone) weak) sides k ≡ leaf alive (nearAt ranks) (index_at ranks) sides weak gone k
-unfolding leaf leafAt liveSides
+    → leaf_at ranks (states_of n (live alive (index_at ranks) gone) weak) sides k ≡ leaf alive (near_at ranks) (index_at ranks) sides weak gone k
+unfolding leaf leaf_at live_sides
 leaf-is n alive weak gone below ranks sides k =
-    ap (λ (x : Bool). x && ltb (tally (λ (i : ℕ). livesAt states (nearAt ranks (25 * k + get_or sides i 0))) (length sides)) 2) (weak-is n lives weak within k)
-    ∙ ap (λ (m : ℕ). (lives k && weak k) && ltb m 2) (tally-ext _ _ (length sides) (λ i h. lives-is n lives weak within (nearAt ranks (25 * k + get_or sides i 0))))
+    ap (λ (x : Bool). x && ltb (tally (λ (i : ℕ). lives_at states (near_at ranks (25 * k + get_or sides i 0))) (length sides)) 2) (weak-is n lives weak within k)
+    ∙ ap (λ (m : ℕ). (lives k && weak k) && ltb m 2) (tally-ext _ _ (length sides) (λ i h. lives-is n lives weak within (near_at ranks (25 * k + get_or sides i 0))))
     ∙ regroup (lives k) (weak k) _
   where
     lives : ℕ → Bool
     lives = live alive (index_at ranks) gone
 
     states : List ℕ
-    states = statesOf n lives weak
+    states = states_of n lives weak
 
     within : (k : ℕ) → lives k ≡ true → k < n
     within k e = below k (live-alive alive (index_at ranks) gone k e)

@@ -15,15 +15,15 @@ use Rattle.folds.proofs.Below.{and-true, or_cases, both_ways, not-true}
 use Rattle.folds.specs.Column.{column}
 use Rattle.folds.proofs.Column.{column-ext, filled, replicate-at, length-column}
 use Rattle.folds.specs.Marked.{bit}
-use Rattle.view.specs.View.{maxPoints, viewAt, Ranked}
+use Rattle.view.specs.View.{max_points, view_at, Ranked}
 use Rattle.marks.specs.Marks.{is_set}
 use Rattle.patches.specs.Patches.{survives}
 use Rattle.patches.specs.Reach.{Mirrored, paired}
 use Rattle.patches.specs.Search.{NearPlaces}
 use Rattle.patches.proofs.Surviving.{survives-lt, link-side, link-by}
 use Rattle.patches.proofs.Agreeing.{link-back}
-use Rattle.peel.specs.Peel.{live, leaf, goes, goneAfter, ended, roundsIn, peeled, peeledIn, peeledOf}
-use Rattle.peel.specs.Work.{state_of, statesOf, isPoint, nearAt, index_at, leafAt, Fits, Work, Searched, Beside, BesideQueued, Removed}
+use Rattle.peel.specs.Peel.{live, leaf, goes, gone_after, ended, rounds_in, peeled, peeled_in, peeled_of}
+use Rattle.peel.specs.Work.{state_of, states_of, is_point, near_at, index_at, leaf_at, Fits, Work, Searched, Beside, BesideQueued, Removed}
 use Rattle.folds.proofs.Counting.{either}
 use Rattle.peel.proofs.Rounds.{Ends, goes_end, gone-first, gone-next, gone-more, end-gone, not-over, is-over, rounds-are}
 use Rattle.peel.proofs.Leaves.{live-alive, live-stays, live-is, leaf-live, leaf-ends, leaf-new, states-at, states-over, point-is, leaf-is}
@@ -34,25 +34,25 @@ pub record Sheet (n : ℕ) (ranks sides : List ℕ) : Type 0 where
   pub ranked : Ranked n ranks
   pub placed : NearPlaces sides
   pub pairs : paired sides ≡ true
-  pub mirror : Mirrored n (nearAt ranks)
+  pub mirror : Mirrored n (near_at ranks)
 
 -- no mark is set
-none-set : (k : ℕ) → get_or {A = ℕ} (replicate maxPoints 0) k 0 ≡ 1 → ⊥
-none-set k e = omega (arith, replicate-at {A = ℕ} maxPoints 0 k, e)
+none-set : (k : ℕ) → get_or {A = ℕ} (replicate max_points 0) k 0 ≡ 1 → ⊥
+none-set k e = omega (arith, replicate-at {A = ℕ} max_points 0 k, e)
 
 module _ (n : ℕ) (ranks sides dropped weak : List ℕ) where
   abbrev ends : (ℕ → Bool) → ℕ → Bool
-  ends = leaf (survives n dropped) (nearAt ranks) (index_at ranks) sides (is_set weak)
+  ends = leaf (survives n dropped) (near_at ranks) (index_at ranks) sides (is_set weak)
 
   abbrev after : ℕ → List ℕ
-  after = goneAfter n (index_at ranks) ends
+  after = gone_after n (index_at ranks) ends
 
   -- the index of rank k has gone after r rounds
   abbrev out : ℕ → ℕ → Bool
   out r k = is_set (after r) (index_at ranks k)
 
-  abbrev isEnd : ℕ → ℕ → Bool
-  isEnd r = ends (is_set (after r))
+  abbrev is_end : ℕ → ℕ → Bool
+  is_end r = ends (is_set (after r))
 
   abbrev lives : ℕ → ℕ → Bool
   lives r = live (survives n dropped) (index_at ranks) (is_set (after r))
@@ -61,15 +61,15 @@ module _ (n : ℕ) (ranks sides dropped weak : List ℕ) where
   over = ended n (index_at ranks) ends after
 
   pub record Made (r : ℕ) (state : List ℕ) : Type 0 where
-    pub is : state ≡ statesOf n (lives r) (is_set weak)
+    pub is : state ≡ states_of n (lives r) (is_set weak)
 
   -- after r rounds: the ranks that go in the next are on the queue, from `from` on, and each round before it removed something
   pub record Ready (r from : ℕ) (state marks queue : List ℕ) (tail : ℕ) : Type 0 where
     pub made : Made r state
     pub work : Work ranks state marks queue tail
     pub early : r ≤ from
-    pub all : (k : ℕ) → isEnd r k ≡ true → get_or marks k 0 ≡ 1
-    pub ending : (p : ℕ) → from ≤ p → p < tail → (k : ℕ) × (isEnd r k ≡ true) × (index_at ranks k ≡ index_at ranks (get_or queue p 0))
+    pub all : (k : ℕ) → is_end r k ≡ true → get_or marks k 0 ≡ 1
+    pub ending : (p : ℕ) → from ≤ p → p < tail → (k : ℕ) × (is_end r k ≡ true) × (index_at ranks k ≡ index_at ranks (get_or queue p 0))
     pub listed : (k : ℕ) → get_or marks k 0 ≡ 1 → (out r k ≡ true) ⊎ ((p : ℕ) × (from ≤ p) × (p < tail) × (get_or queue p 0 ≡ k))
     pub gone : (k : ℕ) → k < n → out r k ≡ true → get_or marks k 0 ≡ 1
     pub busy : (s : ℕ) → s < r → over s ≡ false
@@ -79,17 +79,17 @@ module _ (n : ℕ) (ranks sides dropped weak : List ℕ) where
     gone r = is_set (after r)
 
     known : Ends n (index_at ranks) ends
-    known = leaf-ends (survives n dropped) (nearAt ranks) (index_at ranks) sides (is_set weak) n (survives-lt n dropped) sheet.ranked.indices
+    known = leaf-ends (survives n dropped) (near_at ranks) (index_at ranks) sides (is_set weak) n (survives-lt n dropped) sheet.ranked.indices
 
     -- the points are the ranks below n
     module _ {r : ℕ} {state : List ℕ} (made : Made r state) where
-      pub point-lt : (k : ℕ) → isPoint state k ≡ ltb k n
-      point-lt k = ap (λ (s : List ℕ). isPoint s k) made.is ∙ point-is n (lives r) (is_set weak) k
+      pub point-lt : (k : ℕ) → is_point state k ≡ ltb k n
+      point-lt k = ap (λ (s : List ℕ). is_point s k) made.is ∙ point-is n (lives r) (is_set weak) k
 
-      pub lt-point : (k : ℕ) → k < n → isPoint state k ≡ true
+      pub lt-point : (k : ℕ) → k < n → is_point state k ≡ true
       lt-point k h = point-lt k ∙ lt-ltb k n h
 
-      point-below : (k : ℕ) → isPoint state k ≡ true → k < n
+      point-below : (k : ℕ) → is_point state k ≡ true → k < n
       point-below k e = ltb-true k n (sym (point-lt k) ∙ e)
 
       pub sheet-fits : Fits ranks state sides
@@ -99,16 +99,16 @@ module _ (n : ℕ) (ranks sides dropped weak : List ℕ) where
         indices = λ k e. omega (arith, sheet.ranked.indices k (point-below k e), sheet.ranked.few);
       }
 
-      pub made-long : length state ≡ maxPoints
-      made-long = ap length made.is ∙ length-column maxPoints 0 n _ sheet.ranked.few
+      pub made-long : length state ≡ max_points
+      made-long = ap length made.is ∙ length-column max_points 0 n _ sheet.ranked.few
 
-      leaf-same : (k : ℕ) → leafAt ranks state sides k ≡ isEnd r k
-      leaf-same k = ap (λ (s : List ℕ). leafAt ranks s sides k) made.is ∙ leaf-is n (survives n dropped) (is_set weak) (gone r) (survives-lt n dropped) ranks sides k
+      leaf-same : (k : ℕ) → leaf_at ranks state sides k ≡ is_end r k
+      leaf-same k = ap (λ (s : List ℕ). leaf_at ranks s sides k) made.is ∙ leaf-is n (survives n dropped) (is_set weak) (gone r) (survives-lt n dropped) ranks sides k
 
       -- each rank that may be an end is looked at
       pub ready_by : {Met : ℕ → Type 0} {a q : List ℕ} {t : ℕ} {marks queue : List ℕ} {tail : ℕ} → ((k : ℕ) → k < n → out r k ≡ true → get_or a k 0 ≡ 1)
           → ((k : ℕ) → get_or a k 0 ≡ 1 → out r k ≡ true) → r ≤ t → ((s : ℕ) → s < r → over s ≡ false)
-          → ((k : ℕ) → isEnd r k ≡ true → Met k) → Searched ranks state sides Met a q t marks queue tail → Ready r t state marks queue tail
+          → ((k : ℕ) → is_end r k ≡ true → Met k) → Searched ranks state sides Met a q t marks queue tail → Ready r t state marks queue tail
       ready_by {Met} {a} old only early busy all s = record {
         made = made;
         work = s.work;
@@ -147,7 +147,7 @@ module _ (n : ℕ) (ranks sides dropped weak : List ℕ) where
           (λ (d : s < r). ready.busy s d)
           (eq-or-lt_of_le (omega arith))
 
-      module _ {state' : List ℕ} (removed : Removed queue from tail state state') (long : length state' ≡ maxPoints) where
+      module _ {state' : List ℕ} (removed : Removed queue from tail state state') (long : length state' ≡ max_points) where
         -- what is not on the queue stays as it was
         unmoved : (k : ℕ) → k < n → get_or state' k 0 ≡ get_or state k 0 → lives r k ≡ lives (r + 1) k
         unmoved k h o = both_ways (lives r k) (lives (r + 1) k)
@@ -167,13 +167,13 @@ module _ (n : ℕ) (ranks sides dropped weak : List ℕ) where
         pub next-made : Made (r + 1) state'
         next-made = record {
           is = filled n sheet.ranked.few (record {
-            long = long ∙ sym (length-replicate {A = ℕ} maxPoints 0);
+            long = long ∙ sym (length-replicate {A = ℕ} max_points 0);
             done = λ k h. ⊎_elim
                 (λ (o : get_or state' k 0 ≡ get_or state k 0). o ∙ ap (λ (s : List ℕ). get_or s k 0) ready.made.is ∙ states-at n (lives r) (is_set weak) k h ∙ ap (λ (b : Bool). state_of b (is_set weak k)) (unmoved k h o))
                 (λ w. ap (λ (m : ℕ). get_or state' m 0) (sym w.3) ∙ removed.entries w.0 w.1 w.2 ∙ sym (ap (λ (b : Bool). state_of b (is_set weak k)) (dead k (at_entry k w.0 w.1 w.2 w.3))))
                 (removed.rest k);
             left = λ k h. ⊎_elim
-                (λ (o : get_or state' k 0 ≡ get_or state k 0). o ∙ ap (λ (s : List ℕ). get_or s k 0) ready.made.is ∙ states-over n (lives r) (is_set weak) k h ∙ sym (replicate-at {A = ℕ} maxPoints 0 k))
+                (λ (o : get_or state' k 0 ≡ get_or state k 0). o ∙ ap (λ (s : List ℕ). get_or s k 0) ready.made.is ∙ states-over n (lives r) (is_set weak) k h ∙ sym (replicate-at {A = ℕ} max_points 0 k))
                 (λ w. absurd (omega (arith, h, point-below ready.made k (ready.work.points k (ap (λ (m : ℕ). get_or marks m 0) (sym w.3) ∙ ready.work.marked w.0 w.2)))))
                 (removed.rest k);
           });
@@ -193,26 +193,26 @@ module _ (n : ℕ) (ranks sides dropped weak : List ℕ) where
           shared = λ j k p q. ready.work.shared j k (sym (same j) ∙ p) (sym (same k) ∙ q);
         }
           where
-            same : (k : ℕ) → isPoint state' k ≡ isPoint state k
+            same : (k : ℕ) → is_point state' k ≡ is_point state k
             same k = point-lt next-made k ∙ sym (point-lt ready.made k)
 
       -- where x is at a side of k, k is at a side of x
-      beside_back : (k x : ℕ) → survives n dropped k ≡ true → survives n dropped x ≡ true → (i : ℕ) → i < length sides → nearAt ranks (25 * k + get_or sides i 0) ≡ x → Beside ranks sides (length sides) x k
-      beside_back k x a b i h e = link-side n (nearAt ranks) sides dropped x k (link-back n (nearAt ranks) sides dropped sheet.placed sheet.pairs sheet.mirror k x (link-by n (nearAt ranks) sides dropped k x a b i h e))
+      beside_back : (k x : ℕ) → survives n dropped k ≡ true → survives n dropped x ≡ true → (i : ℕ) → i < length sides → near_at ranks (25 * k + get_or sides i 0) ≡ x → Beside ranks sides (length sides) x k
+      beside_back k x a b i h e = link-side n (near_at ranks) sides dropped x k (link-back n (near_at ranks) sides dropped sheet.placed sheet.pairs sheet.mirror k x (link-by n (near_at ranks) sides dropped k x a b i h e))
 
       -- a new end is beside a rank on the queue
-      pub next-beside : (k : ℕ) → isEnd (r + 1) k ≡ true → BesideQueued ranks sides queue from tail k
+      pub next-beside : (k : ℕ) → is_end (r + 1) k ≡ true → BesideQueued ranks sides queue from tail k
       next-beside k e = ⊎_elim
           (λ (f : gone r (index_at ranks x) ≡ true). absurd (true≢false (sym f ∙ live-stays (survives n dropped) (index_at ranks) (gone r) x w.2)))
-          (λ p. (p.0, p.1, p.2, rw p.3 (beside_back k x (live-alive (survives n dropped) (index_at ranks) (gone (r + 1)) k (leaf-live (survives n dropped) (nearAt ranks) (index_at ranks) sides (is_set weak) (gone (r + 1)) k e)) alive w.0 w.1 refl)))
+          (λ p. (p.0, p.1, p.2, rw p.3 (beside_back k x (live-alive (survives n dropped) (index_at ranks) (gone (r + 1)) k (leaf-live (survives n dropped) (near_at ranks) (index_at ranks) sides (is_set weak) (gone (r + 1)) k e)) alive w.0 w.1 refl)))
           (ready.listed x (next-old x (survives-lt n dropped x alive) went))
         where
-          w : (i : ℕ) × (i < length sides) × (lives r (nearAt ranks (25 * k + get_or sides i 0)) ≡ true) × (lives (r + 1) (nearAt ranks (25 * k + get_or sides i 0)) ≡ false)
-          w = leaf-new (survives n dropped) (nearAt ranks) (index_at ranks) sides (is_set weak) (gone r) (gone (r + 1)) (gone-more n (index_at ranks) ends known r) k
-              (not-true (isEnd r k) (λ t. true≢false (sym (end-gone n (index_at ranks) ends known r k t) ∙ known.stays (gone (r + 1)) k e))) e
+          w : (i : ℕ) × (i < length sides) × (lives r (near_at ranks (25 * k + get_or sides i 0)) ≡ true) × (lives (r + 1) (near_at ranks (25 * k + get_or sides i 0)) ≡ false)
+          w = leaf-new (survives n dropped) (near_at ranks) (index_at ranks) sides (is_set weak) (gone r) (gone (r + 1)) (gone-more n (index_at ranks) ends known r) k
+              (not-true (is_end r k) (λ t. true≢false (sym (end-gone n (index_at ranks) ends known r k t) ∙ known.stays (gone (r + 1)) k e))) e
 
           x : ℕ
-          x = nearAt ranks (25 * k + get_or sides w.0 0)
+          x = near_at ranks (25 * k + get_or sides w.0 0)
 
           alive : survives n dropped x ≡ true
           alive = live-alive (survives n dropped) (index_at ranks) (gone r) x w.2
@@ -225,13 +225,13 @@ module _ (n : ℕ) (ranks sides dropped weak : List ℕ) where
         out-only : (k : ℕ) → get_or marks k 0 ≡ 1 → out r k ≡ true
         out-only k e = ⊎_elim (λ t. t) (λ p. absurd (omega (arith, p.1, p.2))) (ready.listed k e)
 
-        rounds-done : roundsIn n (index_at ranks) ends after ≡ r
+        rounds-done : rounds_in n (index_at ranks) ends after ≡ r
         rounds-done = rounds-are n (index_at ranks) ends known r ready.busy
             (is-over n (index_at ranks) ends known r (λ k g. true≢false (sym (out-only k (ready.all k g)) ∙ known.stays (gone r) k g)))
 
-        marks-done : marks ≡ column maxPoints 0 n (λ (k : ℕ). bit (out r k))
+        marks-done : marks ≡ column max_points 0 n (λ (k : ℕ). bit (out r k))
         marks-done = filled n sheet.ranked.few (record {
-          long = ready.work.marks-long ∙ sym (length-replicate {A = ℕ} maxPoints 0);
+          long = ready.work.marks-long ∙ sym (length-replicate {A = ℕ} max_points 0);
           done = λ k h. ⊎_elim
               (λ (t : out r k ≡ true). ready.gone k h t ∙ sym (ap bit t))
               (λ (f : out r k ≡ false). ⊎_elim
@@ -240,38 +240,38 @@ module _ (n : ℕ) (ranks sides dropped weak : List ℕ) where
               (ready.work.bits k))
               (either (out r k));
           left = λ k h. ⊎_elim
-              (λ (z : get_or marks k 0 ≡ 0). z ∙ sym (replicate-at {A = ℕ} maxPoints 0 k))
+              (λ (z : get_or marks k 0 ≡ 0). z ∙ sym (replicate-at {A = ℕ} max_points 0 k))
               (λ (o : get_or marks k 0 ≡ 1). absurd (omega (arith, h, point-below ready.made k (ready.work.points k o))))
               (ready.work.bits k);
         })
 
-        pub ready-done : (xs ys : List Float) → peeled marks r ≡ peeledOf (viewAt n ranks xs ys) sides dropped weak
-        unfolding peeledIn
+        pub ready-done : (xs ys : List Float) → peeled marks r ≡ peeled_of (view_at n ranks xs ys) sides dropped weak
+        unfolding peeled_in
         ready-done xs ys =
             ap (λ (m : List ℕ). peeled m r) marks-done
-            ∙ ap (λ (m : ℕ). peeled (column maxPoints 0 n (λ (k : ℕ). bit (out m k))) m) (sym rounds-done)
+            ∙ ap (λ (m : ℕ). peeled (column max_points 0 n (λ (k : ℕ). bit (out m k))) m) (sym rounds-done)
 
     -- ---- before the first round
 
-    pub first_made : {state : List ℕ} → state ≡ statesOf n (λ (k : ℕ). eqb (get_or dropped k 0) 0) (is_set weak) → Made 0 state
-    first_made e = record { is = e ∙ column-ext maxPoints 0 n _ _ (λ k h. ap (λ (b : Bool). state_of b (is_set weak k)) (all_live k h)) }
+    pub first_made : {state : List ℕ} → state ≡ states_of n (λ (k : ℕ). eqb (get_or dropped k 0) 0) (is_set weak) → Made 0 state
+    first_made e = record { is = e ∙ column-ext max_points 0 n _ _ (λ k h. ap (λ (b : Bool). state_of b (is_set weak k)) (all_live k h)) }
       where
         all_live : (k : ℕ) → k < n → eqb (get_or dropped k 0) 0 ≡ lives 0 k
         all_live k h = sym (ap (λ (b : Bool). survives n dropped k && not b) (gone-first n (index_at ranks) ends known (index_at ranks k)) ∙ and-true (survives n dropped k) ∙ ap (λ (b : Bool). b && eqb (get_or dropped k 0) 0) (lt-ltb k n h))
 
-    pub ready-first : {state q marks queue : List ℕ} {tail : ℕ} → Made 0 state → Searched ranks state sides (λ (k : ℕ). k < n) (replicate maxPoints 0) q 0 marks queue tail → Ready 0 0 state marks queue tail
+    pub ready-first : {state q marks queue : List ℕ} {tail : ℕ} → Made 0 state → Searched ranks state sides (λ (k : ℕ). k < n) (replicate max_points 0) q 0 marks queue tail → Ready 0 0 state marks queue tail
     ready-first made s =
         ready_by made
         (λ k h e. absurd (true≢false (sym e ∙ gone-first n (index_at ranks) ends known (index_at ranks k))))
         (λ k e. absurd (none-set k e)) zero-le (λ r l. absurd (omega arith)) (known.rank (gone 0)) s
 
-pub work-first : {ranks state : List ℕ} → Work ranks state (replicate maxPoints 0) (replicate maxPoints 0) 0
+pub work-first : {ranks state : List ℕ} → Work ranks state (replicate max_points 0) (replicate max_points 0) 0
 work-first = record {
-  marks-long = length-replicate {A = ℕ} maxPoints 0;
-  queue_long = length-replicate {A = ℕ} maxPoints 0;
+  marks-long = length-replicate {A = ℕ} max_points 0;
+  queue_long = length-replicate {A = ℕ} max_points 0;
   room = zero-le;
   marked = λ p h. absurd (omega arith);
-  bits = λ k. inl (replicate-at {A = ℕ} maxPoints 0 k);
+  bits = λ k. inl (replicate-at {A = ℕ} max_points 0 k);
   points = λ k e. absurd (none-set k e);
   shared = λ j k p q e m. absurd (none-set j m);
 }

@@ -3,7 +3,7 @@
 use Rattle.std.specs.Prelude.{◌≡◌, Bool, true, cond, not, ◌&&◌, ◌⊎◌, List, ℕ, zero, suc, ◌+◌, ◌*◌, ◌≤◌, ◌<◌, eqb, ltb, length, get_or}
 use Rattle.folds.specs.Below.{tally}
 use Rattle.folds.specs.Column.{column}
-use Rattle.view.specs.View.{maxPoints, indicesAt}
+use Rattle.view.specs.View.{max_points, indices_at}
 use Rattle.marks.specs.Marks.{is_set}
 use Rattle.patches.specs.Search.{NearPlaces}
 
@@ -12,70 +12,70 @@ use Rattle.patches.specs.Search.{NearPlaces}
 abbrev pub state_of : Bool → Bool → ℕ
 state_of lives weak = cond lives (cond weak 3 2) 1
 
-abbrev pub statesOf : ℕ → (ℕ → Bool) → (ℕ → Bool) → List ℕ
-statesOf n lives weak = column maxPoints 0 n (λ (k : ℕ). state_of (lives k) (weak k))
+abbrev pub states_of : ℕ → (ℕ → Bool) → (ℕ → Bool) → List ℕ
+states_of n lives weak = column max_points 0 n (λ (k : ℕ). state_of (lives k) (weak k))
 
-abbrev pub isPoint : List ℕ → ℕ → Bool
-isPoint state k = not (eqb (get_or state k 0) 0)
+abbrev pub is_point : List ℕ → ℕ → Bool
+is_point state k = not (eqb (get_or state k 0) 0)
 
-abbrev pub livesAt : List ℕ → ℕ → Bool
-livesAt state k = ltb 1 (get_or state k 0)
+abbrev pub lives_at : List ℕ → ℕ → Bool
+lives_at state k = ltb 1 (get_or state k 0)
 
 -- ---- ends, by the states
 
-abbrev pub nearAt : List ℕ → ℕ → ℕ
-nearAt ranks i = get_or ranks i 0
+abbrev pub near_at : List ℕ → ℕ → ℕ
+near_at ranks i = get_or ranks i 0
 
 abbrev pub index_at : List ℕ → ℕ → ℕ
-index_at ranks k = get_or ranks (indicesAt + k) 0
+index_at ranks k = get_or ranks (indices_at + k) 0
 
 -- how many of the ranks at the first m sides of rank k are live
-abbrev pub liveBeside : List ℕ → List ℕ → List ℕ → ℕ → ℕ → ℕ
-liveBeside ranks state sides m k = tally (λ (i : ℕ). livesAt state (nearAt ranks (25 * k + get_or sides i 0))) m
+abbrev pub live_beside : List ℕ → List ℕ → List ℕ → ℕ → ℕ → ℕ
+live_beside ranks state sides m k = tally (λ (i : ℕ). lives_at state (near_at ranks (25 * k + get_or sides i 0))) m
 
-unfoldable pub leafAt : List ℕ → List ℕ → List ℕ → ℕ → Bool
+unfoldable pub leaf_at : List ℕ → List ℕ → List ℕ → ℕ → Bool
 unfolding tally
-leafAt ranks state sides k = eqb (get_or state k 0) 3 && ltb (liveBeside ranks state sides (length sides) k) 2
+leaf_at ranks state sides k = eqb (get_or state k 0) 3 && ltb (live_beside ranks state sides (length sides) k) 2
 
 -- what the callers see to: each side is one of the 25 places, and the points and the places of their indices are within the arrays
 pub record Fits (ranks state sides : List ℕ) : Type 0 where
   pub places : NearPlaces sides
-  pub within : (k : ℕ) → isPoint state k ≡ true → k < maxPoints
-  pub indices : (k : ℕ) → isPoint state k ≡ true → index_at ranks k < maxPoints
+  pub within : (k : ℕ) → is_point state k ≡ true → k < max_points
+  pub indices : (k : ℕ) → is_point state k ≡ true → index_at ranks k < max_points
 
 -- ---- chains
 
 -- one more than the last k below m with p k, or 0 where there is none
-unfoldable pub pastLast : (ℕ → Bool) → ℕ → ℕ
-pastLast p zero = 0
-pastLast p (suc m) = cond (p m) (suc m) (pastLast p m)
+unfoldable pub past_last : (ℕ → Bool) → ℕ → ℕ
+past_last p zero = 0
+past_last p (suc m) = cond (p m) (suc m) (past_last p m)
 
 -- the ranks below m: at the place of an index one more than the last of its ranks, and at each rank, a block further on, one more than the one
 -- before it with the same index
 pub record Chained (ranks : List ℕ) (m : ℕ) (chains : List ℕ) : Type 0 where
-  pub heads : (b : ℕ) → b < maxPoints → get_or chains b 0 ≡ pastLast (λ (k : ℕ). eqb (index_at ranks k) b) m
-  pub nexts : (k : ℕ) → k < m → get_or chains (maxPoints + k) 0 ≡ pastLast (λ (j : ℕ). eqb (index_at ranks j) (index_at ranks k)) k
+  pub heads : (b : ℕ) → b < max_points → get_or chains b 0 ≡ past_last (λ (k : ℕ). eqb (index_at ranks k) b) m
+  pub nexts : (k : ℕ) → k < m → get_or chains (max_points + k) 0 ≡ past_last (λ (j : ℕ). eqb (index_at ranks j) (index_at ranks k)) k
 
 -- rank k is a point with the index at place b
-abbrev pub pointHas : List ℕ → List ℕ → ℕ → ℕ → Bool
-pointHas ranks state b k = isPoint state k && eqb (index_at ranks k) b
+abbrev pub point_has : List ℕ → List ℕ → ℕ → ℕ → Bool
+point_has ranks state b k = is_point state k && eqb (index_at ranks k) b
 
 -- the points
 pub record ChainedPoints (ranks state chains : List ℕ) : Type 0 where
-  pub heads : (b : ℕ) → b < maxPoints → get_or chains b 0 ≡ pastLast (pointHas ranks state b) maxPoints
-  pub nexts : (k : ℕ) → isPoint state k ≡ true → get_or chains (maxPoints + k) 0 ≡ pastLast (pointHas ranks state (index_at ranks k)) k
+  pub heads : (b : ℕ) → b < max_points → get_or chains b 0 ≡ past_last (point_has ranks state b) max_points
+  pub nexts : (k : ℕ) → is_point state k ≡ true → get_or chains (max_points + k) 0 ≡ past_last (point_has ranks state (index_at ranks k)) k
 
 -- ---- a round
 
 -- marks, the same at all points of an index, and an entry of the queue for each that is set
 pub record Work (ranks state marks queue : List ℕ) (tail : ℕ) : Type 0 where
-  pub marks-long : length marks ≡ maxPoints
-  pub queue_long : length queue ≡ maxPoints
-  pub room : tail ≤ tally (is_set marks) maxPoints
+  pub marks-long : length marks ≡ max_points
+  pub queue_long : length queue ≡ max_points
+  pub room : tail ≤ tally (is_set marks) max_points
   pub marked : (p : ℕ) → p < tail → get_or marks (get_or queue p 0) 0 ≡ 1
   pub bits : (k : ℕ) → (get_or marks k 0 ≡ 0) ⊎ (get_or marks k 0 ≡ 1)
-  pub points : (k : ℕ) → get_or marks k 0 ≡ 1 → isPoint state k ≡ true
-  pub shared : (j k : ℕ) → isPoint state j ≡ true → isPoint state k ≡ true → index_at ranks j ≡ index_at ranks k → get_or marks j 0 ≡ 1 → get_or marks k 0 ≡ 1
+  pub points : (k : ℕ) → get_or marks k 0 ≡ 1 → is_point state k ≡ true
+  pub shared : (j k : ℕ) → is_point state j ≡ true → is_point state k ≡ true → index_at ranks j ≡ index_at ranks k → get_or marks j 0 ≡ 1 → get_or marks k 0 ≡ 1
 
 -- From one state of a round to a later one: the entries from `tail` on are of indices with an end, and each rank of which Met tells has been looked
 -- at, so that it is marked if it is an end.
@@ -84,13 +84,13 @@ pub record Searched (ranks state sides : List ℕ) (Met : ℕ → Type 0) (marks
   pub kept : (k : ℕ) → get_or marks k 0 ≡ 1 → get_or marks' k 0 ≡ 1
   pub longer : tail ≤ tail'
   pub front : (p : ℕ) → p < tail → get_or queue' p 0 ≡ get_or queue p 0
-  pub ending : (p : ℕ) → tail ≤ p → p < tail' → (k : ℕ) × (leafAt ranks state sides k ≡ true) × (index_at ranks k ≡ index_at ranks (get_or queue' p 0))
+  pub ending : (p : ℕ) → tail ≤ p → p < tail' → (k : ℕ) × (leaf_at ranks state sides k ≡ true) × (index_at ranks k ≡ index_at ranks (get_or queue' p 0))
   pub listed : (k : ℕ) → get_or marks' k 0 ≡ 1 → (get_or marks k 0 ≡ 1) ⊎ ((p : ℕ) × (tail ≤ p) × (p < tail') × (get_or queue' p 0 ≡ k))
-  pub met : (k : ℕ) → Met k → leafAt ranks state sides k ≡ true → get_or marks' k 0 ≡ 1
+  pub met : (k : ℕ) → Met k → leaf_at ranks state sides k ≡ true → get_or marks' k 0 ≡ 1
 
 -- the ranks at the first m sides of rank x
 abbrev pub Beside : List ℕ → List ℕ → ℕ → ℕ → ℕ → Type 0
-Beside ranks sides m x k = (i : ℕ) × (i < m) × (nearAt ranks (25 * x + get_or sides i 0) ≡ k)
+Beside ranks sides m x k = (i : ℕ) × (i < m) × (near_at ranks (25 * x + get_or sides i 0) ≡ k)
 
 -- those at a side of an entry of the queue, from `from` on and below `end`
 abbrev pub BesideQueued : List ℕ → List ℕ → List ℕ → ℕ → ℕ → ℕ → Type 0

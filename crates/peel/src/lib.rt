@@ -3,12 +3,12 @@
 #![tactic(auto)]
 
 ghost use Rattle.std.specs.Prelude.{◌≡◌, true, List, [], ℕ, ◌*◌, ◌≤◌, ◌<◌, eqb, Float, length, get_or, replicate};
-ghost use Rattle.view.specs.View.{maxPoints, viewAt, Ranked};
+ghost use Rattle.view.specs.View.{max_points, view_at, Ranked};
 ghost use Rattle.marks.specs.Marks.{is_set};
 ghost use Rattle.patches.specs.Reach.{Mirrored, paired};
 ghost use Rattle.patches.specs.Search.{NearPlaces};
-ghost use Rattle.peel.specs.Peel.{peeledOf};
-ghost use Rattle.peel.specs.Work.{state_of, statesOf, isPoint, livesAt, liveBeside, leafAt, Fits, Chained, ChainedPoints, Work, Searched, Beside, BesideQueued, Removed};
+ghost use Rattle.peel.specs.Peel.{peeled_of};
+ghost use Rattle.peel.specs.Work.{state_of, states_of, is_point, lives_at, live_beside, leaf_at, Fits, Chained, ChainedPoints, Work, Searched, Beside, BesideQueued, Removed};
 
 use view::{MAX_POINTS, Marks, Places, Ranks};
 
@@ -34,8 +34,8 @@ fn state_of(dropped: u8, weak: u8) -> u8
 }
 
 fn states(dropped: &Marks, weak: &Marks, n: usize) -> Marks
-    requires { n ≤ maxPoints }
-    ensures { result ≡ statesOf n (λ (k : ℕ). eqb (get_or dropped.now k 0) 0) (is_set weak.now) }
+    requires { n ≤ max_points }
+    ensures { result ≡ states_of n (λ (k : ℕ). eqb (get_or dropped.now k 0) 0) (is_set weak.now) }
 {
     let mut out = [0u8; MAX_POINTS];
     let mut k: usize = 0;
@@ -56,7 +56,7 @@ type Chains = [u16; CHAINS_SIZE];
 // Chains the ranks of each index: at the place of the index one more than the last of them, and in the second block, at each rank, one more than
 // the one before it; 0 where there is none.
 fn chain(ranks: &Ranks, n: usize, chains: &mut Chains)
-    requires { Ranked n ranks.now × (chains.old ≡ replicate (2 * maxPoints) 0) }
+    requires { Ranked n ranks.now × (chains.old ≡ replicate (2 * max_points) 0) }
     ensures { Chained ranks.now n chains.new }
 {
     let mut i: usize = 0;
@@ -73,7 +73,7 @@ fn chain(ranks: &Ranks, n: usize, chains: &mut Chains)
 // Rank k is live and weak, and has at most one live neighbour.
 fn is_leaf(ranks: &Ranks, state: &Marks, sides: &[u8], k: usize) -> bool
     requires { Fits ranks.now state.now sides.now }
-    ensures { result ≡ leafAt ranks.now state.now sides.now k }
+    ensures { result ≡ leaf_at ranks.now state.now sides.now k }
 {
     if MAX_POINTS <= k {
         return false;
@@ -138,7 +138,7 @@ fn around(
     queue: &mut Places,
     tail: usize,
 ) -> usize
-    requires { Fits ranks.now state.now sides.now × ChainedPoints ranks.now state.now chains.now × Work ranks.now state.now marks.old queue.old tail × (x < maxPoints) }
+    requires { Fits ranks.now state.now sides.now × ChainedPoints ranks.now state.now chains.now × Work ranks.now state.now marks.old queue.old tail × (x < max_points) }
     ensures { Searched ranks.now state.now sides.now (Beside ranks.now sides.now (length sides.now) x) marks.old queue.old tail marks.new queue.new result }
 {
     let mut t = tail;
@@ -199,8 +199,8 @@ fn scan(
 
 // The ranks on the queue, from `from` on and below `end`, are not live any more.
 fn remove(queue: &Places, from: usize, end: usize, state: &mut Marks)
-    requires { (from ≤ end) × (end ≤ maxPoints) × ((p : ℕ) → p < end → get_or queue.now p 0 < maxPoints) × (length state.old ≡ maxPoints) }
-    ensures { Removed queue.now from end state.old state.new × (length state.new ≡ maxPoints) }
+    requires { (from ≤ end) × (end ≤ max_points) × ((p : ℕ) → p < end → get_or queue.now p 0 < max_points) × (length state.old ≡ max_points) }
+    ensures { Removed queue.now from end state.old state.new × (length state.new ≡ max_points) }
 {
     let mut p = from;
     while p < end {
@@ -226,8 +226,8 @@ pub fn weak_leaf_peel(
     sides: &[u8],
     n: usize,
 ) -> Peeled
-    requires { Ranked n ranks.now × NearPlaces sides.now × (paired sides.now ≡ true) × Mirrored n (viewAt n ranks.now [] []).near }
-    ensures { (xs ys : List Float) → result ≡ peeledOf (viewAt n ranks.now xs ys) sides.now dropped.now weak.now }
+    requires { Ranked n ranks.now × NearPlaces sides.now × (paired sides.now ≡ true) × Mirrored n (view_at n ranks.now [] []).near }
+    ensures { (xs ys : List Float) → result ≡ peeled_of (view_at n ranks.now xs ys) sides.now dropped.now weak.now }
 {
     let mut state = states(dropped, weak, n);
     let mut chains = [0u16; CHAINS_SIZE];

@@ -18,11 +18,11 @@ use Rattle.folds.proofs.Counting.{tally-has-two, tally-has-three, tally-two-at}
 use Rattle.view.specs.View.{View}
 use Rattle.patches.specs.Reach.{paired}
 use Rattle.patches.specs.Search.{NearPlaces}
-use Rattle.peel.specs.Peel.{liveSides, peeledOf}
+use Rattle.peel.specs.Peel.{live_sides, peeled_of}
 use Rattle.peel.specs.Theorems.{Placed}
 use Rattle.peel.specs.declared.Peeled.{Peeled}
-use Rattle.peel_rounds.specs.Rounds.{noneTwice, Neighbours, leftCount}
-use Rattle.peel_rounds.proofs.Ends.{lives, isEnd, lives-lt, end-lives, end-weak, end-few, many-sides, some_end, end-out, out-dead, lived, before_last, left_after}
+use Rattle.peel_rounds.specs.Rounds.{none_twice, Neighbours, left_count}
+use Rattle.peel_rounds.proofs.Ends.{lives, is_end, lives-lt, end-lives, end-weak, end-few, many-sides, some_end, end-out, out-dead, lived, before_last, left_after}
 
 -- ---- the list of offsets
 
@@ -33,22 +33,22 @@ opposite sides e i h =
     let v = some_at (λ (j : ℕ). eqb (get_or sides j 0) (24 - get_or sides i 0)) (length sides) (every-at _ (length sides) e i h) in
     (v.0, v.1, eqb-true (get_or sides v.0 0) (24 - get_or sides i 0) v.2)
 
-pub different : (sides : List ℕ) → noneTwice sides ≡ true → (i j : ℕ) → i < j → j < length sides → get_or sides i 0 ≡ get_or sides j 0 → ⊥
-unfolding noneTwice
+pub different : (sides : List ℕ) → none_twice sides ≡ true → (i j : ℕ) → i < j → j < length sides → get_or sides i 0 ≡ get_or sides j 0 → ⊥
+unfolding none_twice
 different sides e i j h g q =
     true≢false (sym (every-at (λ (k : ℕ). not (eqb (get_or sides k 0) (get_or sides j 0))) j (every-at _ (length sides) e j g) i h) ∙ ap not (eq-eqb (get_or sides i 0) (get_or sides j 0) q))
 
 module _ (w : View) (sides dropped weak : List ℕ) (placed : Placed w) where
   abbrev answer : Peeled
-  answer = peeledOf w sides dropped weak
+  answer = peeled_of w sides dropped weak
 
   -- THEOREM: there are no more rounds than points that the earlier filters left
-  pub rounds-left : answer.rounds ≤ leftCount w dropped
+  pub rounds-left : answer.rounds ≤ left_count w dropped
   rounds-left = omega (arith, left_after w sides dropped weak placed answer.rounds (omega arith))
 
   module _ (near : NearPlaces sides) (nb : Neighbours w sides) where
     -- two live points, of which one is an end after r rounds, and the other after one round more
-    module _ (r x y : ℕ) (ex : isEnd w sides dropped weak r x ≡ true) (ey : isEnd w sides dropped weak (r + 1) y ≡ true) (two : tally (lives w sides dropped weak r) w.count ≤ 2) where
+    module _ (r x y : ℕ) (ex : is_end w sides dropped weak r x ≡ true) (ey : is_end w sides dropped weak (r + 1) y ≡ true) (two : tally (lives w sides dropped weak r) w.count ≤ 2) where
       abbrev alive : ℕ → Bool
       alive = lives w sides dropped weak r
 
@@ -65,7 +65,7 @@ module _ (w : View) (sides dropped weak : List ℕ) (placed : Placed w) where
       y-alive = lived w sides dropped weak placed r y y-later
 
       -- an end goes in its round, and y did not go
-      y-waits : (k : ℕ) → isEnd w sides dropped weak r k ≡ true → k ≡ y → ⊥
+      y-waits : (k : ℕ) → is_end w sides dropped weak r k ≡ true → k ≡ y → ⊥
       y-waits k e q = true≢false (sym y-later ∙ ap (lives w sides dropped weak (r + 1)) (sym q) ∙ out-dead w sides dropped weak placed (r + 1) k (end-out w sides dropped weak placed r k e))
 
       x_lt : x < w.count
@@ -91,7 +91,7 @@ module _ (w : View) (sides dropped weak : List ℕ) (placed : Placed w) where
 
       -- y is no end yet, so that it has two live neighbours, and x has two
       never : ⊥
-      unfolding liveSides
+      unfolding live_sides
       never =
           let many = many-sides w sides dropped weak r y (not-true _ (λ e. y-waits y e refl)) y-alive (end-weak w sides dropped weak (r + 1) y ey) in
           let t = tally-two-at (λ (i : ℕ). alive (beside y i)) (length sides) many in
@@ -104,12 +104,12 @@ module _ (w : View) (sides dropped weak : List ℕ) (placed : Placed w) where
           omega (arith, both, end-few w sides dropped weak r x ex)
 
     -- THEOREM: with two points or more there is one round fewer: the last two go together
-    pub rounds-bound : 2 ≤ leftCount w dropped → answer.rounds + 1 ≤ leftCount w dropped
-    rounds-bound h = ⊎_elim (λ (d : answer.rounds ≡ leftCount w dropped). absurd (all d)) (λ (l : answer.rounds < leftCount w dropped). omega arith) (eq-or-lt_of_le rounds-left)
+    pub rounds-bound : 2 ≤ left_count w dropped → answer.rounds + 1 ≤ left_count w dropped
+    rounds-bound h = ⊎_elim (λ (d : answer.rounds ≡ left_count w dropped). absurd (all d)) (λ (l : answer.rounds < left_count w dropped). omega arith) (eq-or-lt_of_le rounds-left)
       where
-        all : answer.rounds ≡ leftCount w dropped → ⊥
+        all : answer.rounds ≡ left_count w dropped → ⊥
         all d =
-            let r = leftCount w dropped - 2 in
+            let r = left_count w dropped - 2 in
             let x = some_end w sides dropped weak r (before_last w sides dropped weak placed r (omega arith)) in
             let y = some_end w sides dropped weak (r + 1) (before_last w sides dropped weak placed (r + 1) (omega arith)) in
             never r x.0 y.0 x.2 y.2 (omega (arith, left_after w sides dropped weak placed r (omega arith)))

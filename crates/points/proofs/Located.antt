@@ -8,16 +8,16 @@ use Rattle.folds.proofs.Lists.{length-list}
 use Rattle.sheet_file.specs.Bytes.{le32}
 use Rattle.sheet_file.proofs.Words.{SameBytes, same-within, le32-same}
 use Rattle.sheet_file.specs.declared.Layout.{Layout}
-use Rattle.points.specs.Records.{pointIn, ithPoint, pointsIn}
+use Rattle.points.specs.Records.{point_in, ith_point, points_in}
 
 word_same : (file : List ℕ) (at : ℕ) (other : List ℕ) (to j : ℕ) → j + 4 ≤ 20 → SameBytes 20 file at other to → le32 other (to + j) ≡ le32 file (at + j)
 word_same file at other to j l h = le32-same file (at + j) other (to + j) (same-within 20 file at other to h j 4 l)
 
-pub point-same : (file : List ℕ) (at : ℕ) (other : List ℕ) (to w : ℕ) → SameBytes 20 file at other to → pointIn other to w ≡ pointIn file at w
+pub point-same : (file : List ℕ) (at : ℕ) (other : List ℕ) (to w : ℕ) → SameBytes 20 file at other to → point_in other to w ≡ point_in file at w
 point-same file at other to w h =
     let word : (j : ℕ) → j + 4 ≤ 20 → le32 other (to + j) ≡ le32 file (at + j) = λ j l. word_same file at other to j l h in
     rw (le32-same file at other to (λ k l. h k (omega arith)), word 4 (omega arith), word 8 (omega arith), word 12 (omega arith), word 16 (omega arith))
 
-pub length-points : (file : List ℕ) (f : Layout) → length (pointsIn file f) ≡ f.count
-unfolding pointsIn
-length-points file f = length-list f.count (ithPoint file f)
+pub length-points : (file : List ℕ) (f : Layout) → length (points_in file f) ≡ f.count
+unfolding points_in
+length-points file f = length-list f.count (ith_point file f)

@@ -9,13 +9,13 @@ use native.Mathlib.Omega.{arith}
 use mathlib.Core.Logic.{◌⊎◌, inl, inr}
 use lib.Dec.{eqb, ltb}
 use borrow.Author.Tests.{eq-eqb, ne_eqb}
-use Rattle.folds.specs.Among.{pairIn}
+use Rattle.folds.specs.Among.{pair_in}
 use Rattle.folds.proofs.Among.{pair-yes, pair-no, pair-order}
 use Rattle.folds.specs.Below.{some}
 use Rattle.folds.proofs.Below.{some_at, some-fails, not-false}
 use Rattle.folds.specs.Lists.{list_of}
 use Rattle.sort.proofs.Sorted.{sort-perm}
-use Rattle.sort.specs.Packed.{packedPlaces, placed}
+use Rattle.sort.specs.Packed.{packed_places, placed}
 use Rattle.sort.proofs.Packed.{placed-key, placed-rises, things-in-order}
 
 pub eqb_swap : (a b : ℕ) → eqb a b ≡ eqb b a
@@ -54,21 +54,21 @@ module _ {A : Type 0} (key : A → ℕ) (same : A → A → Bool) where
           (through (f i) (f (i + suc d)) (f (i + suc d + 1)) (chain h d i (omega arith) (omega arith))
           (then_same (f (i + suc d)) (f (i + suc d + 1)) (h (i + suc d) (omega arith)) (omega arith)))
 
-      none : ((r : ℕ) → r + 1 < n → clash (f r) (f (r + 1)) ≡ false) → pairIn clash (list_of n f) ≡ false
+      none : ((r : ℕ) → r + 1 < n → clash (f r) (f (r + 1)) ≡ false) → pair_in clash (list_of n f) ≡ false
       none h =
           pair-no f n clash
           (λ i j ij jn. let step : i + suc (j - suc i) ≡ j = omega arith in no-clash (f i) (f j) (λ e. rw step at (chain h (j - suc i) i (omega arith) (rw step e))))
 
-      pub neighbours : pairIn clash (list_of n f) ≡ some (λ (r : ℕ). clash (f r) (f (r + 1))) (n - 1)
+      pub neighbours : pair_in clash (list_of n f) ≡ some (λ (r : ℕ). clash (f r) (f (r + 1))) (n - 1)
       neighbours = go (some (λ (r : ℕ). clash (f r) (f (r + 1))) (n - 1)) refl
         where
-          go : (b : Bool) → some (λ (r : ℕ). clash (f r) (f (r + 1))) (n - 1) ≡ b → pairIn clash (list_of n f) ≡ b
+          go : (b : Bool) → some (λ (r : ℕ). clash (f r) (f (r + 1))) (n - 1) ≡ b → pair_in clash (list_of n f) ≡ b
           go true e = let w = some_at (λ (r : ℕ). clash (f r) (f (r + 1))) (n - 1) e in pair-yes f n clash w.0 (w.0 + 1) (omega arith) (omega (arith, w.1)) w.2
           go false e = none (λ r l. some-fails (λ (r : ℕ). clash (f r) (f (r + 1))) (n - 1) e r (omega arith))
 
     -- the same of a list in any order, by its places in the order of the key
-    pub sorted-neighbours : ((p q : A) → same p q ≡ same q p) → (g : ℕ → A) (n : ℕ) → n ≤ packedPlaces
-        → pairIn clash (list_of n g) ≡ some (λ (r : ℕ). clash (g (placed (λ (i : ℕ). key (g i)) n r)) (g (placed (λ (i : ℕ). key (g i)) n (r + 1)))) (n - 1)
+    pub sorted-neighbours : ((p q : A) → same p q ≡ same q p) → (g : ℕ → A) (n : ℕ) → n ≤ packed_places
+        → pair_in clash (list_of n g) ≡ some (λ (r : ℕ). clash (g (placed (λ (i : ℕ). key (g i)) n r)) (g (placed (λ (i : ℕ). key (g i)) n (r + 1)))) (n - 1)
     sorted-neighbours back g n few =
         pair-order clash either_way (sort-perm (λ (a b : A). ltb (key a) (key b)) (list_of n g)) ∙ rw (things-in-order key g n few)
         (neighbours (λ (r : ℕ). g (placed key_at n r)) n (λ i j ij jn. order i j (eq-or-lt_of_le ij) jn))

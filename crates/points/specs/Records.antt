@@ -1,14 +1,14 @@
 -- The points of a file, in the order in which it lists them. Assumes nothing.
 use Rattle.std.specs.Prelude.{◌≡◌, true, cond, List, ℕ, ◌+◌, ◌*◌, ◌≤◌, length}
 use Rattle.folds.specs.Lists.{list_of}
-use Rattle.view.specs.View.{maxPoints}
+use Rattle.view.specs.View.{max_points}
 use Rattle.cells.specs.Points.{Point}
 use Rattle.sheet_file.specs.Bytes.{le32}
 use Rattle.sheet_file.specs.declared.Layout.{Layout}
 
 -- "each point is u i32, v i32, index u32, x f32, y f32": the point in the 20 bytes from a position on, with its strength
-abbrev pub pointIn : List ℕ → ℕ → ℕ → Point
-pointIn file at strength = record {
+abbrev pub point_in : List ℕ → ℕ → ℕ → Point
+point_in file at strength = record {
   u = le32 file at;
   v = le32 file (at + 4);
   index = le32 file (at + 8);
@@ -18,20 +18,20 @@ pointIn file at strength = record {
 }
 
 -- "Tag 4 .. carries a fraction f32 and one strength f32 per point, in the points' order": the strength of point i; 0 without tag 4
-abbrev pub ithStrength : List ℕ → Layout → ℕ → ℕ
-ithStrength file f i = cond f.weighed (le32 file (f.strengths + 4 + 4 * i)) 0
+abbrev pub ith_strength : List ℕ → Layout → ℕ → ℕ
+ith_strength file f i = cond f.weighed (le32 file (f.strengths + 4 + 4 * i)) 0
 
 -- point i of a file whose fields stand so, and all of them
-abbrev pub ithPoint : List ℕ → Layout → ℕ → Point
-ithPoint file f i = pointIn file (f.points + 20 * i) (ithStrength file f i)
+abbrev pub ith_point : List ℕ → Layout → ℕ → Point
+ith_point file f i = point_in file (f.points + 20 * i) (ith_strength file f i)
 
-unfoldable pub pointsIn : List ℕ → Layout → List Point
+unfoldable pub points_in : List ℕ → Layout → List Point
 unfolding list_of
-pointsIn file f = list_of f.count (ithPoint file f)
+points_in file f = list_of f.count (ith_point file f)
 
 -- n points, no more than a sheet may have, stand in the file from a position on
 pub record RecordsFit (file : List ℕ) (at n : ℕ) : Type 0 where
-  pub few : n ≤ maxPoints
+  pub few : n ≤ max_points
   pub fit : at + 20 * n ≤ length file
 
 -- and each with its strength, if there is a tag 4

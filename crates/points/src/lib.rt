@@ -3,15 +3,15 @@
 
 ghost use Rattle.std.specs.Prelude.{◌≡◌, ◌||◌, [], ℕ, ◌+◌, ◌*◌, ◌/◌, ◌%◌, ◌≤◌, ◌<◌, length, get_or};
 ghost use Rattle.std.specs.Float.{nan};
-ghost use Rattle.folds.specs.Among.{anyIn};
+ghost use Rattle.folds.specs.Among.{any_in};
 ghost use Rattle.folds.specs.Arith.{f32};
 ghost use Rattle.folds.specs.Column.{column};
-ghost use Rattle.view.specs.View.{maxPoints};
-ghost use Rattle.sort.specs.Packed.{packedPlaces};
+ghost use Rattle.view.specs.View.{max_points};
+ghost use Rattle.sort.specs.Packed.{packed_places};
 ghost use Rattle.sheet_file.specs.Refusals.{float_at};
-ghost use Rattle.points.specs.Records.{pointIn, ithStrength, ithPoint, pointsIn, RecordsFit, PointsFit};
-ghost use Rattle.points.specs.Refusals.{offRange, offLimit, offStrength, offFraction, samePosition, sameStrength, numberFor, cellOrder, acceptedOf};
-ghost use Rattle.points.specs.Entries.{offBy, keyBy, together, packedOf, entriesOf, entryPoint, EntriesHeld, CoordinatesHeld, PointsHeld, StrengthsHeld, entriesClash, neighboursClash};
+ghost use Rattle.points.specs.Records.{point_in, ith_strength, ith_point, points_in, RecordsFit, PointsFit};
+ghost use Rattle.points.specs.Refusals.{off_range, off_limit, off_strength, off_fraction, same_position, same_strength, number_for, cell_order, accepted_of};
+ghost use Rattle.points.specs.Entries.{off_by, key_by, together, packed_of, entries_of, entry_point, EntriesHeld, CoordinatesHeld, PointsHeld, StrengthsHeld, entries_clash, neighbours_clash};
 ghost use Rattle.points.specs.Table.{Tabled, WithinLimits};
 
 use sheet_file::{Fraction, Layout};
@@ -29,7 +29,7 @@ pub enum Part {
 
 fn is_off_range(file: &[u8], at: usize) -> bool
     requires { at + 20 ≤ length file.now }
-    ensures { result ≡ offRange (pointIn file.now at 0) }
+    ensures { result ≡ off_range (point_in file.now at 0) }
 {
     if cells::in_range(sheet_file::u32_at(file, at)) {
         return !cells::in_range(sheet_file::u32_at(file, at + 4));
@@ -39,7 +39,7 @@ fn is_off_range(file: &[u8], at: usize) -> bool
 
 fn is_off_limit(file: &[u8], at: usize) -> bool
     requires { at + 20 ≤ length file.now }
-    ensures { result ≡ offLimit (pointIn file.now at 0) }
+    ensures { result ≡ off_limit (point_in file.now at 0) }
 {
     if sheet_file::is_outside(file, at + 12) {
         return true;
@@ -50,7 +50,7 @@ fn is_off_limit(file: &[u8], at: usize) -> bool
 // The bits of point i's strength; 0 without tag 4.
 fn strength_at(file: &[u8], f: Layout, i: usize) -> u32
     requires { PointsFit file.now f × (i < f.count) }
-    ensures { result ≡ ithStrength file.now f i }
+    ensures { result ≡ ith_strength file.now f i }
 {
     if f.weighed {
         let at = f.strengths;
@@ -62,7 +62,7 @@ fn strength_at(file: &[u8], f: Layout, i: usize) -> u32
 // Whether point i has the fault of number 6, 7 or 13.
 fn is_off(file: &[u8], f: Layout, i: usize, part: Part) -> bool
     requires { PointsFit file.now f × (i < f.count) }
-    ensures { result ≡ offBy part (ithPoint file.now f i) }
+    ensures { result ≡ off_by part (ith_point file.now f i) }
 {
     let at = f.points;
     match part {
@@ -74,7 +74,7 @@ fn is_off(file: &[u8], f: Layout, i: usize, part: Part) -> bool
 
 fn some_off(file: &[u8], f: Layout, part: Part) -> bool
     requires { PointsFit file.now f }
-    ensures { result ≡ anyIn (offBy part) (pointsIn file.now f) }
+    ensures { result ≡ any_in (off_by part) (points_in file.now f) }
 {
     let n = f.count;
     let mut i = 0;
@@ -89,7 +89,7 @@ fn some_off(file: &[u8], f: Layout, part: Part) -> bool
 
 // Whether the fraction is one that number 13 refuses.
 fn is_off_fraction(fraction: Fraction) -> bool
-    ensures { result ≡ offFraction fraction }
+    ensures { result ≡ off_fraction fraction }
 {
     match fraction {
         Fraction::Missing => false,
@@ -101,7 +101,7 @@ fn is_off_fraction(fraction: Fraction) -> bool
 // Whether a number of tag 4 is not finite or exceeds 16,384 in magnitude.
 fn has_bad_strength(file: &[u8], f: Layout, fraction: Fraction) -> bool
     requires { PointsFit file.now f }
-    ensures { result ≡ offFraction fraction || anyIn offStrength (pointsIn file.now f) }
+    ensures { result ≡ off_fraction fraction || any_in off_strength (points_in file.now f) }
 {
     if is_off_fraction(fraction) {
         return true;
@@ -114,7 +114,7 @@ fn has_bad_strength(file: &[u8], f: Layout, fraction: Fraction) -> bool
 // The key of the point at `at`: its index, or its cell's key.
 fn key_at(file: &[u8], at: usize, by_index: bool) -> u64
     requires { at + 20 ≤ length file.now }
-    ensures { (result ≡ keyBy by_index (pointIn file.now at 0)) × (result < 0x1_0000_0000_0000) }
+    ensures { (result ≡ key_by by_index (point_in file.now at 0)) × (result < 0x1_0000_0000_0000) }
 {
     if by_index {
         return sheet_file::u32_at(file, at + 8) as u64;
@@ -128,7 +128,7 @@ fn key_at(file: &[u8], at: usize, by_index: bool) -> u64
 // The key and the place of each point.
 fn packed(file: &[u8], at: usize, n: usize, by_index: bool) -> [u64; MAX_POINTS]
     requires { RecordsFit file.now at n }
-    ensures { result ≡ packedOf file.now at n by_index }
+    ensures { result ≡ packed_of file.now at n by_index }
 {
     let mut out = [0u64; MAX_POINTS];
     let mut i: usize = 0;
@@ -142,7 +142,7 @@ fn packed(file: &[u8], at: usize, n: usize, by_index: bool) -> [u64; MAX_POINTS]
 // The same in the order of the key.
 fn entries(file: &[u8], at: usize, n: usize, by_index: bool) -> [u64; MAX_POINTS]
     requires { RecordsFit file.now at n }
-    ensures { result ≡ entriesOf file.now at n by_index }
+    ensures { result ≡ entries_of file.now at n by_index }
 {
     let mut out = packed(file, at, n, by_index);
     sort::sort(&mut out, n);
@@ -153,7 +153,7 @@ fn entries(file: &[u8], at: usize, n: usize, by_index: bool) -> [u64; MAX_POINTS
 
 fn same_position(file: &[u8], a: usize, b: usize) -> bool
     requires { (a + 20 ≤ length file.now) × (b + 20 ≤ length file.now) }
-    ensures { result ≡ samePosition (pointIn file.now a 0) (pointIn file.now b 0) }
+    ensures { result ≡ same_position (point_in file.now a 0) (point_in file.now b 0) }
 {
     if sheet_file::u32_at(file, a + 12) == sheet_file::u32_at(file, b + 12) {
         return sheet_file::u32_at(file, a + 16) == sheet_file::u32_at(file, b + 16);
@@ -164,7 +164,7 @@ fn same_position(file: &[u8], a: usize, b: usize) -> bool
 // Whether the points p and q, which have one key, may stand together.
 fn may_stand(file: &[u8], f: Layout, part: Part, p: usize, q: usize) -> bool
     requires { PointsFit file.now f × (p < f.count) × (q < f.count) }
-    ensures { result ≡ together part (ithPoint file.now f p) (ithPoint file.now f q) }
+    ensures { result ≡ together part (ith_point file.now f p) (ith_point file.now f q) }
 {
     let at = f.points;
     match part {
@@ -176,8 +176,8 @@ fn may_stand(file: &[u8], f: Layout, part: Part, p: usize, q: usize) -> bool
 
 // Whether two entries have one key and their points may not stand together.
 fn entries_clash(file: &[u8], f: Layout, part: Part, a: u64, b: u64) -> bool
-    requires { PointsFit file.now f × (a % packedPlaces < f.count) × (b % packedPlaces < f.count) }
-    ensures { result ≡ entriesClash file.now f part a b }
+    requires { PointsFit file.now f × (a % packed_places < f.count) × (b % packed_places < f.count) }
+    ensures { result ≡ entries_clash file.now f part a b }
 {
     if a / sort::PACKED_PLACES == b / sort::PACKED_PLACES {
         let p = (a % sort::PACKED_PLACES) as usize;
@@ -190,7 +190,7 @@ fn entries_clash(file: &[u8], f: Layout, part: Part, a: u64, b: u64) -> bool
 // Whether two neighbouring entries do.
 fn some_clash(file: &[u8], f: Layout, part: Part, entries: &[u64; MAX_POINTS]) -> bool
     requires { PointsHeld file.now f entries.now }
-    ensures { result ≡ neighboursClash file.now f part entries.now }
+    ensures { result ≡ neighbours_clash file.now f part entries.now }
 {
     let n = f.count;
     let mut i = 0;
@@ -207,9 +207,9 @@ fn some_clash(file: &[u8], f: Layout, part: Part, entries: &[u64; MAX_POINTS]) -
 
 // The keys of the cells.
 fn keys(entries: &[u64; MAX_POINTS], n: usize) -> Words
-    requires n_le_max_points { n ≤ maxPoints }
-    requires by_index { (k : ℕ) → k < n → get_or entries.now k 0 / packedPlaces < 0x1_0000_0000 }
-    ensures { result ≡ column maxPoints 0 n (λ (k : ℕ). get_or entries.now k 0 / packedPlaces) }
+    requires n_le_max_points { n ≤ max_points }
+    requires by_index { (k : ℕ) → k < n → get_or entries.now k 0 / packed_places < 0x1_0000_0000 }
+    ensures { result ≡ column max_points 0 n (λ (k : ℕ). get_or entries.now k 0 / packed_places) }
 {
     let mut out = [0u32; MAX_POINTS];
     let mut i: usize = 0;
@@ -223,7 +223,7 @@ fn keys(entries: &[u64; MAX_POINTS], n: usize) -> Words
 // The indices.
 fn indices(file: &[u8], at: usize, n: usize, entries: &[u64; MAX_POINTS]) -> Words
     requires { EntriesHeld file.now at n entries.now }
-    ensures { result ≡ column maxPoints 0 n (λ (k : ℕ). (pointIn file.now (at + 20 * (get_or entries.now k 0 % packedPlaces)) 0).index) }
+    ensures { result ≡ column max_points 0 n (λ (k : ℕ). (point_in file.now (at + 20 * (get_or entries.now k 0 % packed_places)) 0).index) }
 {
     let mut out = [0u32; MAX_POINTS];
     let mut i: usize = 0;
@@ -244,7 +244,7 @@ fn coordinates(
     entries: &[u64; MAX_POINTS],
 ) -> Floats
     requires { CoordinatesHeld file.now at field n entries.now }
-    ensures { result ≡ column maxPoints nan n (λ (k : ℕ). float_at file.now (at + 20 * (get_or entries.now k 0 % packedPlaces) + field)) }
+    ensures { result ≡ column max_points nan n (λ (k : ℕ). float_at file.now (at + 20 * (get_or entries.now k 0 % packed_places) + field)) }
 {
     let none: f32 = 0.0 / 0.0;
     let mut out = [none; MAX_POINTS];
@@ -260,7 +260,7 @@ fn coordinates(
 // The strengths.
 fn strengths(file: &[u8], f: Layout, entries: &[u64; MAX_POINTS]) -> Floats
     requires { StrengthsHeld file.now f entries.now }
-    ensures { result ≡ column maxPoints nan f.count (λ (k : ℕ). f32 (entryPoint file.now f (get_or entries.now k 0)).strength) }
+    ensures { result ≡ column max_points nan f.count (λ (k : ℕ). f32 (entry_point file.now f (get_or entries.now k 0)).strength) }
 {
     let n = f.count;
     let none: f32 = 0.0 / 0.0;
@@ -302,7 +302,7 @@ pub fn refused(number: u8) -> Table
 
 fn accepted(file: &[u8], f: Layout, entries: &[u64; MAX_POINTS]) -> Table
     requires { WithinLimits file.now f entries.now }
-    ensures { Tabled 0 (cellOrder (pointsIn file.now f)) result }
+    ensures { Tabled 0 (cell_order (points_in file.now f)) result }
 {
     let at = f.points;
     let n = f.count;
@@ -319,7 +319,7 @@ fn accepted(file: &[u8], f: Layout, entries: &[u64; MAX_POINTS]) -> Table
 // The points of a file whose fields stand so, with its fraction.
 pub fn read(file: &[u8], f: Layout, fraction: Fraction) -> Table
     requires { PointsFit file.now f }
-    ensures { Tabled (numberFor fraction (pointsIn file.now f)) (acceptedOf fraction (pointsIn file.now f)) result }
+    ensures { Tabled (number_for fraction (points_in file.now f)) (accepted_of fraction (points_in file.now f)) result }
 {
     if some_off(file, f, Part::Cell) {
         return refused(6);

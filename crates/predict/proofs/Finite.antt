@@ -20,15 +20,15 @@ use Rattle.folds.specs.Arith.{◌⊕◌, ◌⊗◌, ◌⊘◌}
 use Rattle.folds.specs.Below.{sum_of}
 use Rattle.folds.proofs.Below.{and_left, and_right, tally-le}
 use Rattle.float.specs.Constants.{half}
-use Rattle.float.specs.Scalar.{absOf}
+use Rattle.float.specs.Scalar.{abs_of}
 use Rattle.float.proofs.Order.{plain, plain-cases, plain-round}
 use Rattle.float.proofs.Sign.{abs-round}
 use Rattle.float.proofs.Within.{Within, add-within, mul-within}
 use Rattle.whole_floats.specs.Whole.{as_float}
 use Rattle.whole_floats.proofs.Whole.{whole-int, whole-value, whole-finite}
 use Rattle.offsets.specs.declared.Offset.{Offset}
-use Rattle.predict.specs.Predict.{opposite, is_forward, sideAt, isPair, midpoint, pairCount, meanOf, prediction}
-use Rattle.predict.specs.Theorems.{bothThere, Met}
+use Rattle.predict.specs.Predict.{opposite, is_forward, side_at, is_pair, midpoint, pair_count, mean_of, prediction}
+use Rattle.predict.specs.Theorems.{both_there, Met}
 use Rattle.predict.specs.declared.PredictedPosition.{PredictedPosition}
 use Rattle.predict.specs.declared.Prediction.TheVariants.{Pairs}
 use Rattle.predict.proofs.Theorems.{counted-some}
@@ -59,8 +59,8 @@ half-way a b p q = mul-within 0 15 half (a ⊕ b) (omega arith) half-within (add
 
 -- ---- a quotient by a whole number
 
-finite-abs : (x : Float) → T (finite (absOf x)) → T (finite x)
-unfolding absOf
+finite-abs : (x : Float) → T (finite (abs_of x)) → T (finite x)
+unfolding abs_of
 finite-abs nan h = h
 finite-abs (inf s) h = h
 finite-abs (fin s m e) h = h
@@ -109,27 +109,27 @@ over-whole k (fin s m e) (fin t a d) n h p q v = rw (ne_eqb a 0 nonzero) (round-
 
 -- ---- the prediction
 
-pub counted : (sides : List Offset) (there : Offset → Bool) → pairCount sides there ≤ length sides
-unfolding pairCount
-counted sides there = tally-le (isPair sides there) (length sides)
+pub counted : (sides : List Offset) (there : Offset → Bool) → pair_count sides there ≤ length sides
+unfolding pair_count
+counted sides there = tally-le (is_pair sides there) (length sides)
 
 module _ (sides : List Offset) (there : Offset → Bool) (few : length sides ≤ 9) where
-  mean-finite : (f : Offset → Float) → ((o : Offset) → Met sides o → there o ≡ true → Within 14 (f o)) → 0 < pairCount sides there → T (finite (meanOf sides there f))
-  unfolding meanOf
+  mean-finite : (f : Offset → Float) → ((o : Offset) → Met sides o → there o ≡ true → Within 14 (f o)) → 0 < pair_count sides there → T (finite (mean_of sides there f))
+  unfolding mean_of
   mean-finite f each some =
-      rw (whole-int (pairCount sides there))
-      (over-whole (15 + length sides) (sum_of (isPair sides there) (midpoint sides f) (length sides)) (as_float (pairCount sides there)) (pairCount sides there) (omega arith)
-      (sum-within (isPair sides there) (midpoint sides f) 15 (length sides) (omega arith) value) some (whole-value (pairCount sides there) (omega (arith, counted sides there))))
+      rw (whole-int (pair_count sides there))
+      (over-whole (15 + length sides) (sum_of (is_pair sides there) (midpoint sides f) (length sides)) (as_float (pair_count sides there)) (pair_count sides there) (omega arith)
+      (sum-within (is_pair sides there) (midpoint sides f) 15 (length sides) (omega arith) value) some (whole-value (pair_count sides there) (omega (arith, counted sides there))))
     where
-      value : (i : ℕ) → i < length sides → isPair sides there i ≡ true → Within 15 (midpoint sides f i)
+      value : (i : ℕ) → i < length sides → is_pair sides there i ≡ true → Within 15 (midpoint sides f i)
       value i h e =
-          let o = sideAt sides i in
-          let both = and_right (is_forward o) (bothThere sides there i) e in
+          let o = side_at sides i in
+          let both = and_right (is_forward o) (both_there sides there i) e in
           half-way (f o) (f (opposite o)) (each o (i, h, inl refl) (and_left (there o) (there (opposite o)) both)) (each (opposite o) (i, h, inr refl) (and_right (there o) (there (opposite o)) both))
 
   pub prediction-finite : (x y : Offset → Float) (p : PredictedPosition) → ((o : Offset) → Met sides o → there o ≡ true → Within 14 (x o) × Within 14 (y o)) → prediction sides there x y ≡ Pairs p
       → T (finite p.x) × T (finite p.y)
   prediction-finite x y p each e =
       let c = counted-some sides there x y p e in
-      let some : 0 < pairCount sides there = omega (arith, c.1) in
+      let some : 0 < pair_count sides there = omega (arith, c.1) in
       rw c.0 (mean-finite x (λ o m t. (each o m t).0) some, mean-finite y (λ o m t. (each o m t).1) some)

@@ -4,7 +4,7 @@ use Rattle.std.specs.Prelude.{Bool, cond, List, [], ◌∷◌, ℕ, eqb, Float, 
 use Rattle.folds.specs.Column.{column}
 use Rattle.offsets.specs.declared.Offset.{Offset}
 use Rattle.offsets.specs.Offsets.{offset_of}
-use Rattle.view.specs.View.{View, maxPoints, rank_at}
+use Rattle.view.specs.View.{View, max_points, rank_at}
 use Rattle.patches.specs.Patches.{survives}
 use Rattle.predict.specs.Predict.{prediction}
 use Rattle.predict.specs.declared.Prediction.{Prediction}
@@ -20,20 +20,20 @@ value_at w f k o = f (rank_at w k o)
 
 module _ (w : View) (sides : List Offset) (marks : List ℕ) where
   -- "the position `predict_grid_position` finds from the kept points" for rank k's cell
-  abbrev pub predictionAt : ℕ → Prediction
-  predictionAt k = prediction sides (kept_at w marks k) (value_at w w.x k) (value_at w w.y k)
+  abbrev pub prediction_at : ℕ → Prediction
+  prediction_at k = prediction sides (kept_at w marks k) (value_at w w.x k) (value_at w w.y k)
 
   -- "For each dropped cell": a kept point has none
-  abbrev pub fillAt : ℕ → Prediction
-  fillAt k = cond (eqb (get_or marks k 0) 0) NoPair (predictionAt k)
+  abbrev pub fill_at : ℕ → Prediction
+  fill_at k = cond (eqb (get_or marks k 0) 0) NoPair (prediction_at k)
 
   -- of all ranks
-  unfoldable pub fillsOf : List Prediction
+  unfoldable pub fills_of : List Prediction
   unfolding column prediction
-  fillsOf = column maxPoints NoPair w.count fillAt
+  fills_of = column max_points NoPair w.count fill_at
 
 -- ---- for the code: offsets by their places
 
-abbrev pub offsetsOf : List ℕ → List Offset
-offsetsOf [] = []
-offsetsOf (d ∷ l) = offset_of d ∷ offsetsOf l
+abbrev pub offsets_of : List ℕ → List Offset
+offsets_of [] = []
+offsets_of (d ∷ l) = offset_of d ∷ offsets_of l

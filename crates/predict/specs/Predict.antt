@@ -22,31 +22,31 @@ abbrev pub is_forward : Offset → Bool
 is_forward o = not (lt_z o.du ±0 || (not (lt_z ±0 o.du) && lt_z o.dv ±0))
 
 module _ (sides : List Offset) where
-  abbrev pub sideAt : ℕ → Offset
-  sideAt i = get_or sides i own
+  abbrev pub side_at : ℕ → Offset
+  side_at i = get_or sides i own
 
   -- "0.5 · (x forward + x backward)", where f gives the x, or the y, of the point at an offset from the cell
   abbrev pub midpoint : (Offset → Float) → ℕ → Float
-  midpoint f i = half ⊗ (f (sideAt i) ⊕ f (opposite (sideAt i)))
+  midpoint f i = half ⊗ (f (side_at i) ⊕ f (opposite (side_at i)))
 
   -- there o: the point at the offset o from the cell is kept
   module _ (there : Offset → Bool) where
     -- "where both the point at the offset and the one at its opposite are kept"
-    abbrev pub isPair : ℕ → Bool
-    isPair i = is_forward (sideAt i) && (there (sideAt i) && there (opposite (sideAt i)))
+    abbrev pub is_pair : ℕ → Bool
+    is_pair i = is_forward (side_at i) && (there (side_at i) && there (opposite (side_at i)))
 
     -- "its number of pairs"
-    unfoldable pub pairCount : ℕ
+    unfoldable pub pair_count : ℕ
     unfolding tally
-    pairCount = tally isPair (length sides)
+    pair_count = tally is_pair (length sides)
 
-    -- "added to a sum that begins at +0", over the offsets in their order, which in squareSides is that of square.rs; "the sums are divided by
+    -- "added to a sum that begins at +0", over the offsets in their order, which in square_sides is that of square.rs; "the sums are divided by
     -- the number of pairs as f32"
-    unfoldable pub meanOf : (Offset → Float) → Float
-    unfolding pairCount sum_of add mul div of_int of_bits
-    meanOf f = sum_of isPair (midpoint f) (length sides) ⊘ of_int binary32 (pos pairCount)
+    unfoldable pub mean_of : (Offset → Float) → Float
+    unfolding pair_count sum_of add mul div of_int of_bits
+    mean_of f = sum_of is_pair (midpoint f) (length sides) ⊘ of_int binary32 (pos pair_count)
 
     -- "or the finding that no pair exists"
     unfoldable pub prediction : (Offset → Float) → (Offset → Float) → Prediction
-    unfolding pairCount meanOf
-    prediction x y = cond (eqb pairCount 0) NoPair (Pairs (record { x = meanOf x; y = meanOf y; n_axis_pairs = pairCount }))
+    unfolding pair_count mean_of
+    prediction x y = cond (eqb pair_count 0) NoPair (Pairs (record { x = mean_of x; y = mean_of y; n_axis_pairs = pair_count }))

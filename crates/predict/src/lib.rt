@@ -6,10 +6,10 @@ ghost use Rattle.std.specs.Prelude.{◌≡◌, ◌≤◌, ◌<◌, get_or};
 ghost use Rattle.std.specs.Float.{nan};
 ghost use Rattle.folds.specs.Arith.{◌⊕◌, ◌⊗◌};
 ghost use Rattle.float.specs.Constants.{half};
-ghost use Rattle.view.specs.View.{maxPoints, viewAt};
+ghost use Rattle.view.specs.View.{max_points, view_at};
 ghost use Rattle.patches.specs.Patches.{survives};
-ghost use Rattle.predict.specs.Fills.{predictionAt, fillAt, fillsOf, offsetsOf};
-ghost use Rattle.predict.specs.Sums.{Asked, FewSides, sumsWith, meanBy};
+ghost use Rattle.predict.specs.Fills.{prediction_at, fill_at, fills_of, offsets_of};
+ghost use Rattle.predict.specs.Sums.{Asked, FewSides, sums_with, mean_by};
 
 use view::{Floats, MAX_POINTS, Marks, Ranks};
 
@@ -53,7 +53,7 @@ fn wide(d: u8) -> usize
 
 // Whether rank j is a point without a mark.
 fn is_kept(marks: &Marks, n: usize, j: usize) -> bool
-    requires { n ≤ maxPoints }
+    requires { n ≤ max_points }
     ensures { result ≡ survives n marks.now j }
 {
     if n <= j {
@@ -64,7 +64,7 @@ fn is_kept(marks: &Marks, n: usize, j: usize) -> bool
 
 // Half way between the values of two ranks.
 fn midpoint(values: &Floats, f: usize, b: usize) -> f32
-    requires { (f < maxPoints) × (b < maxPoints) }
+    requires { (f < max_points) × (b < max_points) }
     ensures { result ≡ half ⊗ (get_or values.now f nan ⊕ get_or values.now b nan) }
 {
     0.5 * (values[f] + values[b])
@@ -82,7 +82,7 @@ fn with_pair(
     a: Sums,
 ) -> Sums
     requires { Asked n k d a.pairs }
-    ensures { result ≡ sumsWith (viewAt n ranks.now x.now y.now) k marks.now d a }
+    ensures { result ≡ sums_with (view_at n ranks.now x.now y.now) k marks.now d a }
 {
     if d < OWN_PLACE {
         return a;
@@ -104,7 +104,7 @@ fn with_pair(
 
 // The sums divided by the number of pairs.
 fn mean(a: Sums) -> Prediction
-    ensures { result ≡ meanBy a }
+    ensures { result ≡ mean_by a }
 {
     let pairs = a.pairs;
     if pairs == 0 {
@@ -128,8 +128,8 @@ pub fn predict_grid_position(
     n: usize,
     k: usize,
 ) -> Prediction
-    requires { (n ≤ maxPoints) × (k < maxPoints) × FewSides sides.now }
-    ensures { result ≡ predictionAt (viewAt n ranks.now x.now y.now) (offsetsOf sides.now) marks.now k }
+    requires { (n ≤ max_points) × (k < max_points) × FewSides sides.now }
+    ensures { result ≡ prediction_at (view_at n ranks.now x.now y.now) (offsets_of sides.now) marks.now k }
 {
     let mut a = Sums {
         x: 0.0,
@@ -155,8 +155,8 @@ fn fill_at(
     n: usize,
     k: usize,
 ) -> Prediction
-    requires { (n ≤ maxPoints) × (k < maxPoints) × FewSides sides.now }
-    ensures { result ≡ fillAt (viewAt n ranks.now x.now y.now) (offsetsOf sides.now) marks.now k }
+    requires { (n ≤ max_points) × (k < max_points) × FewSides sides.now }
+    ensures { result ≡ fill_at (view_at n ranks.now x.now y.now) (offsets_of sides.now) marks.now k }
 {
     if marks[k] == 0 {
         return Prediction::NoPair;
@@ -166,8 +166,8 @@ fn fill_at(
 
 // The fills of all points.
 pub fn fills(ranks: &Ranks, x: &Floats, y: &Floats, marks: &Marks, sides: &[u8], n: usize) -> Fills
-    requires { (n ≤ maxPoints) × FewSides sides.now }
-    ensures { result ≡ fillsOf (viewAt n ranks.now x.now y.now) (offsetsOf sides.now) marks.now }
+    requires { (n ≤ max_points) × FewSides sides.now }
+    ensures { result ≡ fills_of (view_at n ranks.now x.now y.now) (offsets_of sides.now) marks.now }
 {
     let mut out = [Prediction::NoPair; MAX_POINTS];
     let mut k: usize = 0;

@@ -12,127 +12,127 @@ use borrow.Author.Tests.{ltb-true}
 use Rattle.folds.specs.Below.{some}
 use Rattle.folds.proofs.Below.{and-under}
 use Rattle.view.specs.View.{View}
-use Rattle.cells.specs.Points.{Point, strengthsOf}
+use Rattle.cells.specs.Points.{Point, strengths_of}
 use Rattle.cells.specs.Cell.{Cell, cells_of}
 use Rattle.grid.specs.Views.{view_of}
 use Rattle.sheet_file.specs.declared.Settings.{Settings}
-use Rattle.marks.specs.Filters.{filterCount, validate, orientation, wrong, leaf, component}
-use Rattle.marks.specs.Byte.{hasMark, Marking, markedByAll}
-use Rattle.marks.proofs.Byte.{not-not, in_two, one_more, marked_by, others-than, next-zero, all_small, zero-means, by-same}
-use Rattle.validate.specs.Validate.{validateMark}
-use Rattle.orientation.specs.Orientation.{orientationMark}
-use Rattle.drop_set.specs.Filters.{wrongMark, byPoints, viewFilters, pointFilters, patchFilters, leafMarked, componentMarked, peeledMarks, patchedOf, pointMarks, measuredOf, judgedOf}
-use Rattle.judging.specs.Judging.{judgedFor}
-use Rattle.promises.specs.Words.{otherMark, survivor, keptRank}
+use Rattle.marks.specs.Filters.{filter_count, validate, orientation, wrong, leaf, component}
+use Rattle.marks.specs.Byte.{has_mark, Marking, marked_by_all}
+use Rattle.marks.proofs.Byte.{not-not, in_two, one-more, marked-by, others-than, next-zero, all_small, zero-means, by-same}
+use Rattle.validate.specs.Validate.{validate_mark}
+use Rattle.orientation.specs.Orientation.{orientation_mark}
+use Rattle.drop_set.specs.Filters.{wrong_mark, by_points, view_filters, point_filters, patch_filters, leaf_marked, component_marked, peeled_marks, patched_of, point_marks, measured_of, judged_of}
+use Rattle.judging.specs.Judging.{judged_for}
+use Rattle.promises.specs.Words.{other_mark, survivor, kept_rank}
 
 module _ (s : Settings) (w : View) (cell : ℕ → Cell) (strength : List Float) where
   abbrev pub all : List Marking
-  all = pointFilters s w cell ++ patchFilters s w strength
+  all = point_filters s w cell ++ patch_filters s w strength
 
   -- the filters before the component filter
-  abbrev leafFilter : Marking
-  leafFilter = record { filter = leaf; marks = leafMarked s w strength }
+  abbrev leaf_filter : Marking
+  leaf_filter = record { filter = leaf; marks = leaf_marked s w strength }
 
   abbrev earlier : List Marking
-  earlier = pointFilters s w cell ++ leafFilter ∷ []
+  earlier = point_filters s w cell ++ leaf_filter ∷ []
 
-  abbrev componentFilter : Marking
-  componentFilter = record { filter = component; marks = componentMarked s w }
+  abbrev component_filter : Marking
+  component_filter = record { filter = component; marks = component_marked s w }
 
   -- the byte of marks of rank k
   abbrev byte_at : ℕ → ℕ
-  byte_at k = get_or (judgedOf s w cell strength).marks k 0
+  byte_at k = get_or (judged_of s w cell strength).marks k 0
 
   -- the bytes that the component filter is given
   abbrev pub left : List ℕ
-  left = peeledMarks s w strength (pointMarks s w cell)
+  left = peeled_marks s w strength (point_marks s w cell)
 
-  pub marks-are : (judgedOf s w cell strength).marks ≡ markedByAll w.count all []
-  unfolding judgedOf measuredOf patchedOf pointMarks
-  marks-are = sym (in_two w.count (pointFilters s w cell) (patchFilters s w strength) [])
+  pub marks-are : (judged_of s w cell strength).marks ≡ marked_by_all w.count all []
+  unfolding judged_of measured_of patched_of point_marks
+  marks-are = sym (in_two w.count (point_filters s w cell) (patch_filters s w strength) [])
 
-  left_is : markedByAll w.count earlier [] ≡ left
-  unfolding peeledMarks pointMarks
-  left_is = one_more w.count (pointFilters s w cell) leafFilter []
+  left_is : marked_by_all w.count earlier [] ≡ left
+  unfolding peeled_marks point_marks
+  left_is = one-more w.count (point_filters s w cell) leaf_filter []
 
   module _ (k : ℕ) (h : k < w.count) where
-    read : (f : ℕ) → hasMark f (byte_at k) ≡ hasMark f (get_or (markedByAll w.count all []) k 0)
-    read f = ap (λ (l : List ℕ). hasMark f (get_or l k 0)) marks-are
+    read : (f : ℕ) → has_mark f (byte_at k) ≡ has_mark f (get_or (marked_by_all w.count all []) k 0)
+    read f = ap (λ (l : List ℕ). has_mark f (get_or l k 0)) marks-are
 
-    pub validate-bit : hasMark validate (byte_at k) ≡ validateMark s w cell k
-    validate-bit = read validate ∙ marked_by w.count k h [] _ (byPoints validate (validateMark s w cell)) refl refl refl refl
+    pub validate-bit : has_mark validate (byte_at k) ≡ validate_mark s w cell k
+    validate-bit = read validate ∙ marked-by w.count k h [] _ (by_points validate (validate_mark s w cell)) refl refl refl refl
 
-    pub orientation-bit : hasMark orientation (byte_at k) ≡ orientationMark w k
+    pub orientation-bit : has_mark orientation (byte_at k) ≡ orientation_mark w k
     orientation-bit =
         read orientation
-        ∙ marked_by w.count k h (byPoints validate (validateMark s w cell) ∷ []) _ (byPoints orientation (orientationMark w)) refl refl refl refl
+        ∙ marked-by w.count k h (by_points validate (validate_mark s w cell) ∷ []) _ (by_points orientation (orientation_mark w)) refl refl refl refl
 
-    pub wrong-bit : hasMark wrong (byte_at k) ≡ wrongMark s w k
+    pub wrong-bit : has_mark wrong (byte_at k) ≡ wrong_mark s w k
     wrong-bit =
         read wrong
-        ∙ marked_by w.count k h (byPoints validate (validateMark s w cell) ∷ byPoints orientation (orientationMark w) ∷ []) _ (byPoints wrong (wrongMark s w)) refl refl refl refl
+        ∙ marked-by w.count k h (by_points validate (validate_mark s w cell) ∷ by_points orientation (orientation_mark w) ∷ []) _ (by_points wrong (wrong_mark s w)) refl refl refl refl
 
-    pub leaf-bit : hasMark leaf (byte_at k) ≡ leafMarked s w strength (pointMarks s w cell) k
-    unfolding pointMarks
-    leaf-bit = read leaf ∙ marked_by w.count k h (pointFilters s w cell) (componentFilter ∷ []) leafFilter refl refl refl refl
+    pub leaf-bit : has_mark leaf (byte_at k) ≡ leaf_marked s w strength (point_marks s w cell) k
+    unfolding point_marks
+    leaf-bit = read leaf ∙ marked-by w.count k h (point_filters s w cell) (component_filter ∷ []) leaf_filter refl refl refl refl
 
-    pub component-bit : hasMark component (byte_at k) ≡ componentMarked s w left k
-    component-bit = read component ∙ marked_by w.count k h earlier [] componentFilter refl refl refl refl ∙ ap (λ (l : List ℕ). componentMarked s w l k) left_is
+    pub component-bit : has_mark component (byte_at k) ≡ component_marked s w left k
+    component-bit = read component ∙ marked-by w.count k h earlier [] component_filter refl refl refl refl ∙ ap (λ (l : List ℕ). component_marked s w l k) left_is
 
     -- a mark other than the component mark
-    pub others-are : otherMark (byte_at k) ≡ not (eqb (get_or left k 0) 0)
+    pub others-are : other_mark (byte_at k) ≡ not (eqb (get_or left k 0) 0)
     others-are =
-        ap (λ (l : List ℕ). otherMark (get_or l k 0)) marks-are
-        ∙ others-than w.count k h earlier componentFilter refl (omega arith) refl
+        ap (λ (l : List ℕ). other_mark (get_or l k 0)) marks-are
+        ∙ others-than w.count k h earlier component_filter refl (omega arith) refl
         ∙ ap (λ (l : List ℕ). not (eqb (get_or l k 0) 0)) left_is
 
     -- no mark: none before the component filter, and not its own
-    pub no-mark : eqb (byte_at k) 0 ≡ not (componentMarked s w left k) && eqb (get_or left k 0) 0
+    pub no-mark : eqb (byte_at k) 0 ≡ not (component_marked s w left k) && eqb (get_or left k 0) 0
     no-mark =
-        ap (λ (l : List ℕ). eqb (get_or l k 0) 0) (marks-are ∙ one_more w.count earlier componentFilter [])
-        ∙ next-zero w.count k h componentFilter (markedByAll w.count earlier []) (all_small w.count k h earlier [] refl (omega arith)) (omega arith)
-        ∙ ap (λ (l : List ℕ). not (componentMarked s w l k) && eqb (get_or l k 0) 0) left_is
+        ap (λ (l : List ℕ). eqb (get_or l k 0) 0) (marks-are ∙ one-more w.count earlier component_filter [])
+        ∙ next-zero w.count k h component_filter (marked_by_all w.count earlier []) (all_small w.count k h earlier [] refl (omega arith)) (omega arith)
+        ∙ ap (λ (l : List ℕ). not (component_marked s w l k) && eqb (get_or l k 0) 0) left_is
 
     -- none before the component filter: neither before the weak-end filter, nor its own
-    pub left-zero : eqb (get_or left k 0) 0 ≡ not (leafMarked s w strength (pointMarks s w cell) k) && eqb (get_or (pointMarks s w cell) k 0) 0
-    unfolding pointMarks
+    pub left-zero : eqb (get_or left k 0) 0 ≡ not (leaf_marked s w strength (point_marks s w cell) k) && eqb (get_or (point_marks s w cell) k 0) 0
+    unfolding point_marks
     left-zero =
-        ap (λ (l : List ℕ). eqb (get_or l k 0) 0) (sym left_is ∙ one_more w.count (pointFilters s w cell) leafFilter [])
-        ∙ next-zero w.count k h leafFilter (pointMarks s w cell) (all_small w.count k h (pointFilters s w cell) [] refl (omega arith)) (omega arith)
+        ap (λ (l : List ℕ). eqb (get_or l k 0) 0) (sym left_is ∙ one-more w.count (point_filters s w cell) leaf_filter [])
+        ∙ next-zero w.count k h leaf_filter (point_marks s w cell) (all_small w.count k h (point_filters s w cell) [] refl (omega arith)) (omega arith)
 
     -- the byte is 0 just where no filter has marked the point
-    pub none-marked : eqb (byte_at k) 0 ≡ not (some (λ (f : ℕ). hasMark f (byte_at k)) filterCount)
+    pub none-marked : eqb (byte_at k) 0 ≡ not (some (λ (f : ℕ). has_mark f (byte_at k)) filter_count)
     unfolding some
     none-marked =
         ap (λ (l : List ℕ). eqb (get_or l k 0) 0) marks-are
         ∙ zero-means w.count k h all [] refl (omega arith) refl
-        ∙ ap (λ (l : List ℕ). not (some (λ (f : ℕ). hasMark f (get_or l k 0)) filterCount)) (sym marks-are)
+        ∙ ap (λ (l : List ℕ). not (some (λ (f : ℕ). has_mark f (get_or l k 0)) filter_count)) (sym marks-are)
 
 -- of the cells, the marks, the count and the rounds depend on the validate marks alone
-module _ (s : Settings) (w : View) (cell cell' : ℕ → Cell) (strength : List Float) (same : (k : ℕ) → k < w.count → validateMark s w cell k ≡ validateMark s w cell' k) where
-  points-same : pointMarks s w cell ≡ pointMarks s w cell'
-  unfolding pointMarks markedByAll
-  points-same = ap (markedByAll w.count (viewFilters s w)) (by-same w.count validate (validateMark s w cell) (validateMark s w cell') [] same)
+module _ (s : Settings) (w : View) (cell cell' : ℕ → Cell) (strength : List Float) (same : (k : ℕ) → k < w.count → validate_mark s w cell k ≡ validate_mark s w cell' k) where
+  points-same : point_marks s w cell ≡ point_marks s w cell'
+  unfolding point_marks marked_by_all
+  points-same = ap (marked_by_all w.count (view_filters s w)) (by-same w.count validate (validate_mark s w cell) (validate_mark s w cell') [] same)
 
-  pub marks-same : (judgedOf s w cell strength).marks ≡ (judgedOf s w cell' strength).marks
-  unfolding judgedOf measuredOf
-  marks-same = ap (λ (m : List ℕ). (patchedOf s w strength m).marks) points-same
+  pub marks-same : (judged_of s w cell strength).marks ≡ (judged_of s w cell' strength).marks
+  unfolding judged_of measured_of
+  marks-same = ap (λ (m : List ℕ). (patched_of s w strength m).marks) points-same
 
-  pub counts_same : ((judgedOf s w cell strength).components ≡ (judgedOf s w cell' strength).components) × ((judgedOf s w cell strength).rounds ≡ (judgedOf s w cell' strength).rounds)
-  unfolding judgedOf measuredOf
-  counts_same = (ap (λ (m : List ℕ). (patchedOf s w strength m).components) points-same, ap (λ (m : List ℕ). (patchedOf s w strength m).rounds) points-same)
+  pub counts_same : ((judged_of s w cell strength).components ≡ (judged_of s w cell' strength).components) × ((judged_of s w cell strength).rounds ≡ (judged_of s w cell' strength).rounds)
+  unfolding judged_of measured_of
+  counts_same = (ap (λ (m : List ℕ). (patched_of s w strength m).components) points-same, ap (λ (m : List ℕ). (patched_of s w strength m).rounds) points-same)
 
 -- ---- the same of points in cell order
 
 module _ (s : Settings) (ps : List Point) where
   -- the bytes before the component filter
   abbrev pub dropped : List ℕ
-  dropped = left s (view_of ps) (cells_of ps) (strengthsOf ps)
+  dropped = left s (view_of ps) (cells_of ps) (strengths_of ps)
 
   pub survivor-is : (k : ℕ) → survivor s ps k ≡ ltb k (length ps) && eqb (get_or dropped k 0) 0
-  unfolding judgedFor view_of
-  survivor-is k = and-under (ltb k (length ps)) (λ e. ap not (others-are s (view_of ps) (cells_of ps) (strengthsOf ps) k (ltb-true k (length ps) e)) ∙ not-not (eqb (get_or dropped k 0) 0))
+  unfolding judged_for view_of
+  survivor-is k = and-under (ltb k (length ps)) (λ e. ap not (others-are s (view_of ps) (cells_of ps) (strengths_of ps) k (ltb-true k (length ps) e)) ∙ not-not (eqb (get_or dropped k 0) 0))
 
-  pub kept-is : (k : ℕ) → keptRank s ps k ≡ ltb k (length ps) && (not (componentMarked s (view_of ps) dropped k) && eqb (get_or dropped k 0) 0)
-  unfolding judgedFor view_of
-  kept-is k = and-under (ltb k (length ps)) (λ e. no-mark s (view_of ps) (cells_of ps) (strengthsOf ps) k (ltb-true k (length ps) e))
+  pub kept-is : (k : ℕ) → kept_rank s ps k ≡ ltb k (length ps) && (not (component_marked s (view_of ps) dropped k) && eqb (get_or dropped k 0) 0)
+  unfolding judged_for view_of
+  kept-is k = and-under (ltb k (length ps)) (λ e. no-mark s (view_of ps) (cells_of ps) (strengths_of ps) k (ltb-true k (length ps) e))

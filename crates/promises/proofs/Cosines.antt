@@ -11,8 +11,8 @@ use Rattle.folds.specs.Arith.{f32}
 use Rattle.folds.proofs.Below.{or-none}
 use Rattle.folds.proofs.Lists.{list_at}
 use Rattle.folds.proofs.Column.{column-at}
-use Rattle.view.specs.View.{View, maxPoints}
-use Rattle.cells.specs.Points.{Point, nowhere, keys_of, indicesOf}
+use Rattle.view.specs.View.{View, max_points}
+use Rattle.cells.specs.Points.{Point, nowhere, keys_of, indices_of}
 use Rattle.grid.specs.InOrder.{CellOrder}
 use Rattle.grid.specs.Views.{view_of}
 use Rattle.grid.proofs.Views.{view-is, ranks-ranked}
@@ -22,24 +22,24 @@ use Rattle.sheet_file.specs.declared.EdgeShapeParams.{EdgeShapeParams}
 use Rattle.sheet_file.specs.declared.EdgeGate.{EdgeGate}
 use Rattle.sheet_file.specs.declared.EdgeGate.TheVariants.{On}
 use Rattle.sheet_file.specs.declared.Settings.{Settings}
-use Rattle.points.specs.Refusals.{offLimit}
-use Rattle.ruling.specs.Ruling.{Ruling, accepted, rulingOf}
+use Rattle.points.specs.Refusals.{off_limit}
+use Rattle.ruling.specs.Ruling.{Ruling, accepted, ruling_of}
 use Rattle.ruling.proofs.Standing.{sound}
 use Rattle.edge_shape.specs.declared.Figures.{Figures}
-use Rattle.edge_shape.specs.Figures.{reasonNumber, figuresAt, indexFigures, noFigures}
-use Rattle.edge_shape.specs.Continuations.{reasonAt}
+use Rattle.edge_shape.specs.Figures.{reason_number, figures_at, index_figures, no_figures}
+use Rattle.edge_shape.specs.Continuations.{reason_at}
 use Rattle.edge_shape.proofs.Cosines.{Inside, Cosines, cosines}
-use Rattle.validate.specs.Validate.{gateFigures, figuresOf}
-use Rattle.drop_set.specs.Filters.{judgedOf, measuredOf}
-use Rattle.judged.specs.Shown.{shownAt}
-use Rattle.judging.specs.Judging.{judgedFor}
-use Rattle.rows.specs.Rows.{row_of, rowSize}
+use Rattle.validate.specs.Validate.{gate_figures, figures_of}
+use Rattle.drop_set.specs.Filters.{judged_of, measured_of}
+use Rattle.judged.specs.Shown.{shown_at}
+use Rattle.judging.specs.Judging.{judged_for}
+use Rattle.rows.specs.Rows.{row_of, row_size}
 use Rattle.rows.proofs.Theorems.{byte-shown}
-use Rattle.kept.specs.Answer.{rows_by, rowsAfter}
+use Rattle.kept.specs.Answer.{rows_by, rows_after}
 
 -- ---- the positions
 
-inside : (ps : List Point) → ((k : ℕ) → k < length ps → offLimit (get_or ps k nowhere) ≡ false) → Inside (view_of ps)
+inside : (ps : List Point) → ((k : ℕ) → k < length ps → off_limit (get_or ps k nowhere) ≡ false) → Inside (view_of ps)
 unfolding view_of
 inside ps h = record {
   x = λ k l. rw (list_at (length ps) (λ (k : ℕ). f32 (get_or ps k nowhere).x) k nan l) (limited k l).0;
@@ -54,38 +54,38 @@ unfolding view_of
 count-is ps = refl
 
 -- of every rank of an accepted sheet, with any gate
-pub cosines-are-numbers : (file : List ℕ) (room : ℕ) (s : Settings) (ps : List Point) → Bytes file → rulingOf file room ≡ accepted s ps
+pub cosines-are-numbers : (file : List ℕ) (room : ℕ) (s : Settings) (ps : List Point) → Bytes file → ruling_of file room ≡ accepted s ps
     → (g : EdgeShapeParams) (k : ℕ) → k < length ps → Cosines g (view_of ps) k
 cosines-are-numbers file room s ps b e g k h = cosines (view_of ps) (inside ps (sound file room s ps b e).limits) g k (rw (count-is ps) h)
 
 -- ---- the rows
 
-second-byte : (s : Settings) (ps : List Point) (k : ℕ) → get_or (row_of (shownAt (judgedFor s ps) k)) 1 0 ≡ reasonNumber (get_or (judgedFor s ps).figures k noFigures).reason
-unfolding row_of shownAt
+second-byte : (s : Settings) (ps : List Point) (k : ℕ) → get_or (row_of (shown_at (judged_for s ps) k)) 1 0 ≡ reason_number (get_or (judged_for s ps).figures k no_figures).reason
+unfolding row_of shown_at
 second-byte s ps k = refl
 
-figures-are : (s : Settings) (ps : List Point) → (judgedFor s ps).figures ≡ gateFigures s.edge_shape (view_of ps)
-unfolding judgedFor judgedOf measuredOf figuresOf
+figures-are : (s : Settings) (ps : List Point) → (judged_for s ps).figures ≡ gate_figures s.edge_shape (view_of ps)
+unfolding judged_for judged_of measured_of figures_of
 figures-are s ps = refl
 
 -- the entry under rank k's index
-entry-is : (g : EdgeShapeParams) (w : View) (k : ℕ) → k < w.count → get_or (indexFigures g w) k noFigures ≡ figuresAt g w (w.byIdx k)
-unfolding indexFigures
-entry-is g w k h = column-at maxPoints noFigures w.count (λ (k : ℕ). figuresAt g w (w.byIdx k)) k h
+entry-is : (g : EdgeShapeParams) (w : View) (k : ℕ) → k < w.count → get_or (index_figures g w) k no_figures ≡ figures_at g w (w.by_idx k)
+unfolding index_figures
+entry-is g w k h = column-at max_points no_figures w.count (λ (k : ℕ). figures_at g w (w.by_idx k)) k h
 
-pub place-below : (ps : List Point) → CellOrder ps → (k : ℕ) → k < length ps → (view_of ps).byIdx k < length ps
-place-below ps o k h = rw (← ap (λ (w : View). w.byIdx k) (view-is ps o)) ((ranks-ranked (length ps) (keys_of ps) (indicesOf ps) o.few).indices k h)
+pub place-below : (ps : List Point) → CellOrder ps → (k : ℕ) → k < length ps → (view_of ps).by_idx k < length ps
+place-below ps o k h = rw (← ap (λ (w : View). w.by_idx k) (view-is ps o)) ((ranks-ranked (length ps) (keys_of ps) (indices_of ps) o.few).indices k h)
 
 -- "Byte 1: reason", with the gate of tag 2: the reason by each continuation, of the entry that is held under the point's index
-pub reason-by-each : (file buffer : List ℕ) (s : Settings) (ps : List Point) → Bytes file → rulingOf file (length buffer) ≡ accepted s ps
+pub reason-by-each : (file buffer : List ℕ) (s : Settings) (ps : List Point) → Bytes file → ruling_of file (length buffer) ≡ accepted s ps
     → (g : EdgeShapeParams) → s.edge_shape ≡ On g → (k : ℕ) → k < length ps
-    → get_or (rowsAfter file buffer) (rowSize * k + 1) 0 ≡ reasonNumber (reasonAt g (view_of ps) ((view_of ps).byIdx k))
-unfolding rowsAfter
+    → get_or (rows_after file buffer) (row_size * k + 1) 0 ≡ reason_number (reason_at g (view_of ps) ((view_of ps).by_idx k))
+unfolding rows_after
 reason-by-each file buffer s ps b e g on k h =
     let w = view_of ps in
-    ap (λ (r : Ruling). get_or (rows_by buffer r) (rowSize * k + 1) 0) e
-    ∙ byte-shown (shownAt (judgedFor s ps)) (length ps) buffer k 1 h (omega arith)
+    ap (λ (r : Ruling). get_or (rows_by buffer r) (row_size * k + 1) 0) e
+    ∙ byte-shown (shown_at (judged_for s ps)) (length ps) buffer k 1 h (omega arith)
     ∙ second-byte s ps k
-    ∙ ap (λ (f : List Figures). reasonNumber (get_or f k noFigures).reason) (figures-are s ps ∙ ap (λ (gate : EdgeGate). gateFigures gate w) on)
-    ∙ ap (λ (f : Figures). reasonNumber f.reason) (entry-is g w k (rw (count-is ps) h))
-    ∙ ap reasonNumber (cosines-are-numbers file (length buffer) s ps b e g (w.byIdx k) (place-below ps (sound file (length buffer) s ps b e).order k h)).reason
+    ∙ ap (λ (f : List Figures). reason_number (get_or f k no_figures).reason) (figures-are s ps ∙ ap (λ (gate : EdgeGate). gate_figures gate w) on)
+    ∙ ap (λ (f : Figures). reason_number f.reason) (entry-is g w k (rw (count-is ps) h))
+    ∙ ap reason_number (cosines-are-numbers file (length buffer) s ps b e g (w.by_idx k) (place-below ps (sound file (length buffer) s ps b e).order k h)).reason

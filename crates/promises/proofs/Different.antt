@@ -66,30 +66,30 @@ module _ (f : ℕ → ℕ) where
 
   module _ (q : ℕ → Bool) where
     -- of the last ones below n that pass, those whose number is that of n
-    abbrev ofNext : ℕ → ℕ → Bool
-    ofNext n k = (q k && is_last n k) && eqb (f n) (f k)
+    abbrev of_next : ℕ → ℕ → Bool
+    of_next n k = (q k && is_last n k) && eqb (f n) (f k)
 
-    abbrev ofOthers : ℕ → ℕ → Bool
-    ofOthers n k = (q k && is_last n k) && not (eqb (f n) (f k))
+    abbrev of_others : ℕ → ℕ → Bool
+    of_others n k = (q k && is_last n k) && not (eqb (f n) (f k))
 
     module _ (n : ℕ) (alike : (j k : ℕ) → j < suc n → k < suc n → f j ≡ f k → q j ≡ q k) where
-      next-passes : (k : ℕ) → k < n → ofNext n k ≡ true → (q k ≡ true) × (f n ≡ f k) × (q n ≡ true)
+      next-passes : (k : ℕ) → k < n → of_next n k ≡ true → (q k ≡ true) × (f n ≡ f k) × (q n ≡ true)
       next-passes k l e =
           let a = and_left (q k && is_last n k) (eqb (f n) (f k)) e in
           let b = eqb-true (f n) (f k) (and_right (q k && is_last n k) (eqb (f n) (f k)) e) in
           let c = and_left (q k) (is_last n k) a in
           (c, b, alike n k (lt-suc_self n) (le_step l) b ∙ c)
 
-      none-without : q n ≡ false → tally (ofNext n) n ≡ 0
-      none-without e = tally-no (ofNext n) n (λ k l. not-true (ofNext n k) (λ r. true≢false (sym (next-passes k l r).2 ∙ e)))
+      none-without : q n ≡ false → tally (of_next n) n ≡ 0
+      none-without e = tally-no (of_next n) n (λ k l. not-true (of_next n k) (λ r. true≢false (sym (next-passes k l r).2 ∙ e)))
 
-      none-earlier : some (λ (j : ℕ). q j && eqb (f j) (f n)) n ≡ false → tally (ofNext n) n ≡ 0
+      none-earlier : some (λ (j : ℕ). q j && eqb (f j) (f n)) n ≡ false → tally (of_next n) n ≡ 0
       none-earlier e =
-          tally-no (ofNext n) n
-          (λ k l. not-true (ofNext n k)
+          tally-no (of_next n) n
+          (λ k l. not-true (of_next n k)
           (λ r. let g = next-passes k l r in true≢false (sym (and_both (q k) (eqb (f k) (f n)) g.0 (eq-eqb (f k) (f n) (sym g.1))) ∙ some-fails (λ (j : ℕ). q j && eqb (f j) (f n)) n e k l)))
 
-      one_earlier : q n ≡ true → some (λ (j : ℕ). q j && eqb (f j) (f n)) n ≡ true → tally (ofNext n) n ≡ 1
+      one_earlier : q n ≡ true → some (λ (j : ℕ). q j && eqb (f j) (f n)) n ≡ true → tally (of_next n) n ≡ 1
       one_earlier e s =
           let p : ℕ → Bool = λ j. eqb (f j) (f n) in
           let w = some_at (λ (j : ℕ). q j && p j) n s in
@@ -98,7 +98,7 @@ module _ (f : ℕ → ℕ) where
           let same : f m ≡ f n = eqb-true (f m) (f n) g.1 in
           let stands : is_last n m ≡ true = ap (λ (x : ℕ). eqb (last (λ (j : ℕ). eqb (f j) x) 0 n) m) same ∙ eq-eqb m m refl in
           let passes : q m ≡ true = alike m n (le_step g.0) (lt-suc_self n) same ∙ e in
-          tally-single (ofNext n) n m g.0 (and_both (q m && is_last n m) (eqb (f n) (f m)) (and_both (q m) (is_last n m) passes stands) (eq-eqb (f n) (f m) (sym same)))
+          tally-single (of_next n) n m g.0 (and_both (q m && is_last n m) (eqb (f n) (f m)) (and_both (q m) (is_last n m) passes stands) (eq-eqb (f n) (f m) (sym same)))
           (λ k l r. let h = next-passes k l r in
           let it = eqb-true (last (λ (j : ℕ). eqb (f j) (f k)) 0 n) k (and_right (q k) (is_last n k) (and_left (q k && is_last n k) (eqb (f n) (f k)) r)) in
           sym it ∙ ap (λ (x : ℕ). last (λ (j : ℕ). eqb (f j) x) 0 n) (sym h.1))
@@ -110,14 +110,14 @@ module _ (f : ℕ → ℕ) where
     last-different (suc n) alike =
         rw (last-itself n, turn) (go (last-different n (λ j k a b. alike j k (le_step a) (le_step b))) (q n) refl (some (λ (j : ℕ). q j && eqb (f j) (f n)) n) refl)
       where
-        split : tally (λ (k : ℕ). q k && is_last n k) n ≡ tally (ofOthers n) n + tally (ofNext n) n
+        split : tally (λ (k : ℕ). q k && is_last n k) n ≡ tally (of_others n) n + tally (of_next n) n
         split = tally-split (λ (k : ℕ). q k && is_last n k) (λ (k : ℕ). eqb (f n) (f k)) n
 
-        turn : tally (λ (k : ℕ). q k && is_last (suc n) k) n ≡ tally (ofOthers n) n
-        turn = tally-ext (λ (k : ℕ). q k && is_last (suc n) k) (ofOthers n) n (λ k l. ap (λ (b : Bool). q k && b) (last_turn n k l) ∙ and_first (q k) (is_last n k) (not (eqb (f n) (f k))))
+        turn : tally (λ (k : ℕ). q k && is_last (suc n) k) n ≡ tally (of_others n) n
+        turn = tally-ext (λ (k : ℕ). q k && is_last (suc n) k) (of_others n) n (λ k l. ap (λ (b : Bool). q k && b) (last_turn n k l) ∙ and_first (q k) (is_last n k) (not (eqb (f n) (f k))))
 
         go : tally (λ (k : ℕ). q k && is_last n k) n ≡ different q f n → (a : Bool) → q n ≡ a → (b : Bool) → some (λ (j : ℕ). q j && eqb (f j) (f n)) n ≡ b
-            → cond (a && true) (tally (ofOthers n) n + 1) (tally (ofOthers n) n) ≡ cond (a && not b) (different q f n + 1) (different q f n)
+            → cond (a && true) (tally (of_others n) n + 1) (tally (of_others n) n) ≡ cond (a && not b) (different q f n + 1) (different q f n)
         go before false e b s = omega (arith, before, split, none-without n alike e)
         go before true e false s = omega (arith, before, split, none-earlier n alike s)
         go before true e true s = omega (arith, before, split, one_earlier n alike e s)

@@ -9,67 +9,67 @@ use lib.ListN.{length, get_or, drop}
 use borrow.Author.Tests.{lt-ltb}
 use Rattle.folds.specs.Below.{tally}
 use Rattle.folds.proofs.Below.{tally-ext, tally-le}
-use Rattle.view.specs.View.{maxPoints}
+use Rattle.view.specs.View.{max_points}
 use Rattle.cells.specs.Points.{Point}
 use Rattle.cells.specs.Cell.{cells_of}
 use Rattle.sheet_file.specs.Bytes.{Bytes}
 use Rattle.sheet_file.specs.Frame.{layout_of}
 use Rattle.sheet_file.specs.declared.Settings.{Settings}
-use Rattle.ruling.specs.Ruling.{Ruling, refused, accepted, rulingOf, applies}
+use Rattle.ruling.specs.Ruling.{Ruling, refused, accepted, ruling_of, applies}
 use Rattle.ruling.proofs.Standing.{accepted-order}
-use Rattle.judging.specs.Judging.{judgedFor, fillsFor}
+use Rattle.judging.specs.Judging.{judged_for, fills_for}
 use Rattle.kept.proofs.Cases.{rows_fit}
-use Rattle.sheet_fills.specs.Bytes.{fillSize, fillsBytes, droppedCount}
-use Rattle.sheet_fills.specs.Answer.{asRows, fillRuling, fillAnswerBy, fillsBy, fillAnswerOf, fillsAfter}
+use Rattle.sheet_fills.specs.Bytes.{fill_size, fills_bytes, dropped_count}
+use Rattle.sheet_fills.specs.Answer.{as_rows, fill_ruling, fill_answer_by, fills_by, fill_answer_of, fills_after}
 use Rattle.sheet_fills.specs.declared.FillAnswer.TheVariants.{Refused}
 use Rattle.sheet_fills.proofs.Laws.{bytes-long}
 use Rattle.sheet_fills.proofs.Cases.{room-for-fills}
 use Rattle.sheet_fills.proofs.Bounds.{short-exactly, other}
-use Rattle.promises.specs.Words.{marksIn}
-use Rattle.promises.specs.Fills.{droppedRank, FilledBy, FillCallPromise}
+use Rattle.promises.specs.Words.{marks_in}
+use Rattle.promises.specs.Fills.{dropped_rank, FilledBy, FillCallPromise}
 
 module _ (file buffer : List ℕ) where
   abbrev room : ℕ
-  room = asRows (length buffer)
+  room = as_rows (length buffer)
 
-  nothing_written : (k : ℕ) → fillAnswerOf file (length buffer) ≡ Refused k → fillsAfter file buffer ≡ buffer
-  unfolding fillAnswerOf fillsAfter
-  nothing_written k e = go (fillRuling file (length buffer)) e
+  nothing_written : (k : ℕ) → fill_answer_of file (length buffer) ≡ Refused k → fills_after file buffer ≡ buffer
+  unfolding fill_answer_of fills_after
+  nothing_written k e = go (fill_ruling file (length buffer)) e
     where
-      go : (r : Ruling) → fillAnswerBy r ≡ Refused k → fillsBy buffer r ≡ buffer
+      go : (r : Ruling) → fill_answer_by r ≡ Refused k → fills_by buffer r ≡ buffer
       go (refused j) e = refl
       go (accepted s ps) e = absurd (other (sym e))
 
-  three-given : (layout_of file).count ≤ maxPoints → applies file room 3 ≡ ltb (length buffer) (fillSize * (layout_of file).count)
+  three-given : (layout_of file).count ≤ max_points → applies file room 3 ≡ ltb (length buffer) (fill_size * (layout_of file).count)
   unfolding applies
   three-given h = short-exactly (length buffer) (layout_of file).count h
 
-  module _ (b : Bytes file) (s : Settings) (ps : List Point) (e : fillRuling file (length buffer) ≡ accepted s ps) where
+  module _ (b : Bytes file) (s : Settings) (ps : List Point) (e : fill_ruling file (length buffer) ≡ accepted s ps) where
     abbrev marks : List ℕ
-    marks = (judgedFor s ps).marks
+    marks = (judged_for s ps).marks
 
-    long : length (fillsBytes (cells_of ps) marks (fillsFor s ps) (length ps)) ≡ fillSize * droppedCount marks (length ps)
-    long = bytes-long (cells_of ps) marks (fillsFor s ps) (length ps)
+    long : length (fills_bytes (cells_of ps) marks (fills_for s ps) (length ps)) ≡ fill_size * dropped_count marks (length ps)
+    long = bytes-long (cells_of ps) marks (fills_for s ps) (length ps)
 
-    dropped-are : droppedCount marks (length ps) ≡ tally (droppedRank s ps) (length ps)
-    unfolding droppedCount
-    dropped-are = tally-ext (λ (k : ℕ). not (eqb (get_or marks k 0) 0)) (droppedRank s ps) (length ps) (λ k h. rw (lt-ltb k (length ps) h))
+    dropped-are : dropped_count marks (length ps) ≡ tally (dropped_rank s ps) (length ps)
+    unfolding dropped_count
+    dropped-are = tally-ext (λ (k : ℕ). not (eqb (get_or marks k 0) 0)) (dropped_rank s ps) (length ps) (λ k h. rw (lt-ltb k (length ps) h))
 
     filled-by : FilledBy s ps file buffer
-    unfolding fillAnswerOf fillsAfter
+    unfolding fill_answer_of fills_after
     filled-by = record {
-      count = droppedCount marks (length ps);
+      count = dropped_count marks (length ps);
       dropped = dropped-are;
-      answer = ap fillAnswerBy e;
+      answer = ap fill_answer_by e;
       size = long;
-      fits = omega (arith, dropped-are, tally-le (droppedRank s ps) (length ps), room-for-fills (length buffer) (length ps) (rows_fit file room s ps e) (accepted-order file room s ps b e).few);
-      buffer-is = ap (fillsBy buffer) e ∙ ap (λ (n : ℕ). fillsBytes (cells_of ps) marks (fillsFor s ps) (length ps) ++ drop n buffer) long;
+      fits = omega (arith, dropped-are, tally-le (dropped_rank s ps) (length ps), room-for-fills (length buffer) (length ps) (rows_fit file room s ps e) (accepted-order file room s ps b e).few);
+      buffer-is = ap (fills_by buffer) e ∙ ap (λ (n : ℕ). fills_bytes (cells_of ps) marks (fills_for s ps) (length ps) ++ drop n buffer) long;
     }
 
 pub fill-call : FillCallPromise
-unfolding fillAnswerOf
+unfolding fill_answer_of
 fill-call file buffer b = record {
-  number = λ k e. ap fillAnswerBy e;
+  number = λ k e. ap fill_answer_by e;
   three = three-given file buffer;
   untouched = nothing_written file buffer;
   filled = filled-by file buffer b;

@@ -10,7 +10,7 @@ use lib.Dec.{eqb, ltb}
 use lib.Ieee.{nan}
 use lib.ListN.{length, get_or, replicate}
 use borrow.Author.Tests.{eqb-true, eq-eqb, ltb-true}
-use Rattle.folds.specs.Among.{pairIn}
+use Rattle.folds.specs.Among.{pair_in}
 use Rattle.folds.proofs.Among.{pair-order, pair-yes}
 use Rattle.folds.specs.Arith.{f32}
 use Rattle.folds.proofs.Below.{and_left, and_right, and_both, and-under, both_ways, not-false, not-true, some_at, some-yes, tally-ext}
@@ -20,9 +20,9 @@ use Rattle.folds.proofs.Column.{column-at, replicate-at}
 use Rattle.offsets.specs.declared.Offset.{Offset}
 use Rattle.offsets.specs.Offsets.{own, places}
 use Rattle.offsets.proofs.Places.{places-at}
-use Rattle.view.specs.View.{View, maxPoints, rank_at, alike, indexHas}
-use Rattle.cells.specs.Points.{Point, nowhere, strengthsOf}
-use Rattle.cells.specs.Cell.{cell_of, cells_of, coincide, offsetBy}
+use Rattle.view.specs.View.{View, max_points, rank_at, alike, index_has}
+use Rattle.cells.specs.Points.{Point, nowhere, strengths_of}
+use Rattle.cells.specs.Cell.{cell_of, cells_of, coincide, offset_by}
 use Rattle.cells.proofs.Edges.{coincide-same, coincide-true}
 use Rattle.sort.proofs.Sorted.{sort-perm}
 use Rattle.grid.specs.InOrder.{CellOrder}
@@ -30,37 +30,37 @@ use Rattle.grid.specs.Views.{view_of}
 use Rattle.grid.proofs.Alike.{one_index}
 use Rattle.grid.proofs.InOrder.{near-means, near-found}
 use Rattle.sheet_file.specs.Frame.{layout_of}
-use Rattle.sheet_file.specs.Refusals.{fractionOf}
+use Rattle.sheet_file.specs.Refusals.{fraction_of}
 use Rattle.sheet_file.specs.declared.Fraction.{Fraction}
 use Rattle.sheet_file.specs.declared.Fraction.TheVariants.{Missing, Outside, Given}
 use Rattle.sheet_file.specs.declared.Layout.{Layout}
 use Rattle.sheet_file.specs.declared.Settings.{Settings}
-use Rattle.points.specs.Refusals.{twoStrengths, comesBefore}
+use Rattle.points.specs.Refusals.{two_strengths, comes_before}
 use Rattle.points.proofs.Neighbours.{eqb_swap}
-use Rattle.ruling.specs.Ruling.{accepted, rulingOf, points_of, applies}
+use Rattle.ruling.specs.Ruling.{accepted, ruling_of, points_of, applies}
 use Rattle.ruling.proofs.Given.{none-applies, own-fraction}
 use Rattle.ruling.proofs.Standing.{accepted-file, accepted-order}
 use Rattle.marks.specs.Filters.{validate, orientation, wrong, leaf, component}
 use Rattle.marks.specs.Marks.{is_set}
-use Rattle.marks.specs.Byte.{hasMark}
-use Rattle.marks.proofs.Byte.{marked_by}
+use Rattle.marks.specs.Byte.{has_mark}
+use Rattle.marks.proofs.Byte.{marked-by}
 use Rattle.marks.proofs.Guards.{index-marks, set_is}
-use Rattle.validate.specs.Validate.{validateMark}
-use Rattle.orientation.specs.Orientation.{orientationMark}
-use Rattle.patches.specs.Patches.{survives, patchLabels}
+use Rattle.validate.specs.Validate.{validate_mark}
+use Rattle.orientation.specs.Orientation.{orientation_mark}
+use Rattle.patches.specs.Patches.{survives, patch_labels}
 use Rattle.patches.proofs.Labelling.{label-lives}
 use Rattle.patches.proofs.Lattices.{square-near}
-use Rattle.components.specs.Components.{winnerOf, inOtherPatch, othersBy, othersOf, componentMark, filterOf}
+use Rattle.components.specs.Components.{winner_of, in_other_patch, others_by, others_of, component_mark, filter_of}
 use Rattle.strengths.proofs.Laws.{weak-alike}
-use Rattle.peel.specs.Theorems.{Placed, left, leftSides}
+use Rattle.peel.specs.Theorems.{Placed, left, left_sides}
 use Rattle.peel.specs.declared.Peeled.{Peeled}
 use Rattle.peel.proofs.Theorems.{marks-shared, left-sides, removed-own, removed-live, none-rounds, rounds-none}
-use Rattle.drop_set.specs.Filters.{sidesOf, byPoints, wrongMark, componentMarked, viewFilters, weakBy, noLeaves, peelOf, patchedOf, pointMarks, measuredOf, judgedOf}
+use Rattle.drop_set.specs.Filters.{sides_of, by_points, wrong_mark, component_marked, view_filters, weak_by, no_leaves, peel_of, patched_of, point_marks, measured_of, judged_of}
 use Rattle.drop_set.proofs.Laws.{unpeeled}
-use Rattle.judging.specs.Judging.{judgedFor}
+use Rattle.judging.specs.Judging.{judged_for}
 use Rattle.judging.proofs.Laws.{few-rounds}
-use Rattle.promises.specs.Words.{marksIn, roundsOf, survivor}
-use Rattle.promises.specs.Leaves.{weakRank, survivorAt, liveNeighbours, WeakEndsPromise, NoLeaves, UnweighedPromise}
+use Rattle.promises.specs.Words.{marks_in, rounds_of, survivor}
+use Rattle.promises.specs.Leaves.{weak_rank, survivor_at, live_neighbours, WeakEndsPromise, NoLeaves, UnweighedPromise}
 use Rattle.promises.proofs.Bits.{validate-bit, orientation-bit, wrong-bit, leaf-bit, component-bit, left-zero, dropped, survivor-is}
 use Rattle.promises.proofs.Cosines.{place-below}
 use Rattle.promises.proofs.Shared.{points-shared}
@@ -77,17 +77,17 @@ regrouped true false false = refl
 regrouped false a z = refl
 
 -- the component filter marks an index only where one of its points survives
-component-survives : (w : View) (sides drops : List ℕ) (k : ℕ) → k < w.count → is_set (filterOf w sides drops).marks k ≡ true
-    → (j : ℕ) × (j < w.count) × (survives w.count drops j ≡ true) × (w.byIdx j ≡ w.byIdx k)
-unfolding filterOf othersOf othersBy
+component-survives : (w : View) (sides drops : List ℕ) (k : ℕ) → k < w.count → is_set (filter_of w sides drops).marks k ≡ true
+    → (j : ℕ) × (j < w.count) × (survives w.count drops j ≡ true) × (w.by_idx j ≡ w.by_idx k)
+unfolding filter_of others_of others_by
 component-survives w sides drops k h e =
     let n = w.count in
-    let labels : List ℕ = patchLabels w sides drops in
-    let other : ℕ → Bool = inOtherPatch n labels (winnerOf n labels) in
-    let v = some_at (λ (j : ℕ). other j && alike w j k) n (sym (set_is maxPoints n (indexHas w other) (componentMark w sides drops) (index-marks w other (othersOf n labels) refl) k h) ∙ e) in
+    let labels : List ℕ = patch_labels w sides drops in
+    let other : ℕ → Bool = in_other_patch n labels (winner_of n labels) in
+    let v = some_at (λ (j : ℕ). other j && alike w j k) n (sym (set_is max_points n (index_has w other) (component_mark w sides drops) (index-marks w other (others_of n labels) refl) k h) ∙ e) in
     let j = v.0 in
-    let below = ltb-true (get_or labels j 0) n (and_left (ltb (get_or labels j 0) n) (not (eqb (get_or labels j 0) (winnerOf n labels))) (and_left (other j) (alike w j k) v.2)) in
-    (j, v.1, label-lives n w.near sides drops j v.1 below, eqb-true (w.byIdx j) (w.byIdx k) (and_right (other j) (alike w j k) v.2))
+    let below = ltb-true (get_or labels j 0) n (and_left (ltb (get_or labels j 0) n) (not (eqb (get_or labels j 0) (winner_of n labels))) (and_left (other j) (alike w j k) v.2)) in
+    (j, v.1, label-lives n w.near sides drops j v.1 below, eqb-true (w.by_idx j) (w.by_idx k) (and_right (other j) (alike w j k) v.2))
 
 module _ (s : Settings) (ps : List Point) where
   abbrev view : View
@@ -95,20 +95,20 @@ module _ (s : Settings) (ps : List Point) where
 
   -- the bytes before the weak-end filter, its test of weakness, and what it finds
   abbrev drops : List ℕ
-  drops = pointMarks s view (cells_of ps)
+  drops = point_marks s view (cells_of ps)
 
   abbrev weak : List ℕ
-  weak = weakBy s.score_frac view.count (strengthsOf ps)
+  weak = weak_by s.score_frac view.count (strengths_of ps)
 
   abbrev found : Peeled
-  found = peelOf s view (strengthsOf ps) drops
+  found = peel_of s view (strengths_of ps) drops
 
-  marked-is : (k : ℕ) → k < length ps → hasMark leaf (marksIn s ps k) ≡ is_set found.marks k
-  unfolding judgedFor view_of
-  marked-is k h = leaf-bit s view (cells_of ps) (strengthsOf ps) k h
+  marked-is : (k : ℕ) → k < length ps → has_mark leaf (marks_in s ps k) ≡ is_set found.marks k
+  unfolding judged_for view_of
+  marked-is k h = leaf-bit s view (cells_of ps) (strengths_of ps) k h
 
-  pub rounds-are : roundsOf s ps ≡ found.rounds
-  unfolding judgedFor judgedOf measuredOf patchedOf
+  pub rounds-are : rounds_of s ps ≡ found.rounds
+  unfolding judged_for judged_of measured_of patched_of
   rounds-are = refl
 
   -- a survivor is a point that neither an earlier filter nor this one has marked
@@ -116,7 +116,7 @@ module _ (s : Settings) (ps : List Point) where
   unfolding view_of
   survivor-left k =
       survivor-is s ps k
-      ∙ and-under (ltb k (length ps)) (λ e. left-zero s view (cells_of ps) (strengthsOf ps) k (ltb-true k (length ps) e))
+      ∙ and-under (ltb k (length ps)) (λ e. left-zero s view (cells_of ps) (strengths_of ps) k (ltb-true k (length ps) e))
       ∙ regrouped (ltb k (length ps)) (is_set found.marks k) (eqb (get_or drops k 0) 0)
 
   module _ (o : CellOrder ps) where
@@ -132,146 +132,146 @@ module _ (s : Settings) (ps : List Point) where
 
     -- ---- neighbours
 
-    module _ (k : ℕ) (hk : k < length ps) (i : ℕ) (hi : i < length (sidesOf s)) where
+    module _ (k : ℕ) (hk : k < length ps) (i : ℕ) (hi : i < length (sides_of s)) where
       abbrev side : Offset
-      side = get_or (sidesOf s) i own
+      side = get_or (sides_of s) i own
 
       abbrev beside : ℕ
-      beside = view.near (25 * k + get_or (places (sidesOf s)) i 0)
+      beside = view.near (25 * k + get_or (places (sides_of s)) i 0)
 
       at_side : beside ≡ rank_at view k side
-      at_side = ap (λ (m : ℕ). view.near (25 * k + m)) (places-at (sidesOf s) i hi)
+      at_side = ap (λ (m : ℕ). view.near (25 * k + m)) (places-at (sides_of s) i hi)
 
-      side-is : survivorAt s ps k i ≡ left view drops found.marks beside
-      side-is = both_ways (survivorAt s ps k i) (left view drops found.marks beside) to from
+      side-is : survivor_at s ps k i ≡ left view drops found.marks beside
+      side-is = both_ways (survivor_at s ps k i) (left view drops found.marks beside) to from
         where
           test : ℕ → Bool
-          test j = survivor s ps j && coincide (cell_of (get_or ps j nowhere)) (offsetBy side (cell_of (get_or ps k nowhere)))
+          test j = survivor s ps j && coincide (cell_of (get_or ps j nowhere)) (offset_by side (cell_of (get_or ps k nowhere)))
 
-          to : survivorAt s ps k i ≡ true → left view drops found.marks beside ≡ true
+          to : survivor_at s ps k i ≡ true → left view drops found.marks beside ≡ true
           to e =
               let v = some_at test (length ps) e in
               let j = v.0 in
-              let c = coincide (cell_of (get_or ps j nowhere)) (offsetBy side (cell_of (get_or ps k nowhere))) in
-              let there = near-found ps o k side j hk (square-near i hi) v.1 (coincide-true (cell_of (get_or ps j nowhere)) (offsetBy side (cell_of (get_or ps k nowhere))) (and_right (survivor s ps j) c v.2)) in
+              let c = coincide (cell_of (get_or ps j nowhere)) (offset_by side (cell_of (get_or ps k nowhere))) in
+              let there = near-found ps o k side j hk (square-near i hi) v.1 (coincide-true (cell_of (get_or ps j nowhere)) (offset_by side (cell_of (get_or ps k nowhere))) (and_right (survivor s ps j) c v.2)) in
               ap (left view drops found.marks) (at_side ∙ there) ∙ sym (survivor-left j) ∙ and_left (survivor s ps j) c v.2
 
-          from : left view drops found.marks beside ≡ true → survivorAt s ps k i ≡ true
+          from : left view drops found.marks beside ≡ true → survivor_at s ps k i ≡ true
           from e =
               let l = below beside e in
               some-yes test (length ps) beside l
-              (and_both (survivor s ps beside) (coincide (cell_of (get_or ps beside nowhere)) (offsetBy side (cell_of (get_or ps k nowhere)))) (survivor-left beside ∙ e)
-              (coincide-same (cell_of (get_or ps beside nowhere)) (offsetBy side (cell_of (get_or ps k nowhere))) (near-means ps o k side beside hk (square-near i hi) l (sym at_side))))
+              (and_both (survivor s ps beside) (coincide (cell_of (get_or ps beside nowhere)) (offset_by side (cell_of (get_or ps k nowhere)))) (survivor-left beside ∙ e)
+              (coincide-same (cell_of (get_or ps beside nowhere)) (offset_by side (cell_of (get_or ps k nowhere))) (near-means ps o k side beside hk (square-near i hi) l (sym at_side))))
 
-    neighbours-are : (k : ℕ) → k < length ps → liveNeighbours s ps k ≡ leftSides view (places (sidesOf s)) drops found.marks k
-    neighbours-are k h = tally-ext (survivorAt s ps k) (λ (i : ℕ). left view drops found.marks (view.near (25 * k + get_or (places (sidesOf s)) i 0))) (length (sidesOf s)) (side-is k h)
+    neighbours-are : (k : ℕ) → k < length ps → live_neighbours s ps k ≡ left_sides view (places (sides_of s)) drops found.marks k
+    neighbours-are k h = tally-ext (survivor_at s ps k) (λ (i : ℕ). left view drops found.marks (view.near (25 * k + get_or (places (sides_of s)) i 0))) (length (sides_of s)) (side-is k h)
 
     -- ---- what is left, and what was removed
 
-    two-left : (k : ℕ) → survivor s ps k ≡ true → weakRank s ps k ≡ true → 2 ≤ liveNeighbours s ps k
+    two-left : (k : ℕ) → survivor s ps k ≡ true → weak_rank s ps k ≡ true → 2 ≤ live_neighbours s ps k
     unfolding view_of
     two-left k e f =
         let l = sym (survivor-left k) ∙ e in
-        rw (neighbours-are k (below k l)) (left-sides view (places (sidesOf s)) drops weak placed k l f)
+        rw (neighbours-are k (below k l)) (left-sides view (places (sides_of s)) drops weak placed k l f)
 
     module _ (one : OneStrength ps) where
-      strengths-alike : (j k : ℕ) → j < length ps → k < length ps → view.byIdx j ≡ view.byIdx k → get_or (strengthsOf ps) j nan ≡ get_or (strengthsOf ps) k nan
-      unfolding strengthsOf
+      strengths-alike : (j k : ℕ) → j < length ps → k < length ps → view.by_idx j ≡ view.by_idx k → get_or (strengths_of ps) j nan ≡ get_or (strengths_of ps) k nan
+      unfolding strengths_of
       strengths-alike j k a b e =
           let strength : ℕ → _ = λ k. f32 (get_or ps k nowhere).strength in
-          column-at maxPoints nan (length ps) strength j a ∙ ap f32 (one j k a b (one_index ps j k a b e)) ∙ sym (column-at maxPoints nan (length ps) strength k b)
+          column-at max_points nan (length ps) strength j a ∙ ap f32 (one j k a b (one_index ps j k a b e)) ∙ sym (column-at max_points nan (length ps) strength k b)
 
-      weak-shared : (j k : ℕ) → j < length ps → k < length ps → view.byIdx j ≡ view.byIdx k → weakRank s ps j ≡ weakRank s ps k
+      weak-shared : (j k : ℕ) → j < length ps → k < length ps → view.by_idx j ≡ view.by_idx k → weak_rank s ps j ≡ weak_rank s ps k
       weak-shared j k a b e = go s.score_frac
         where
-          none : (m : ℕ) → is_set (replicate maxPoints 0) m ≡ false
-          none m = ap (λ (x : ℕ). eqb x 1) (replicate-at maxPoints 0 m)
+          none : (m : ℕ) → is_set (replicate max_points 0) m ≡ false
+          none m = ap (λ (x : ℕ). eqb x 1) (replicate-at max_points 0 m)
 
-          go : (x : Fraction) → is_set (weakBy x (length ps) (strengthsOf ps)) j ≡ is_set (weakBy x (length ps) (strengthsOf ps)) k
+          go : (x : Fraction) → is_set (weak_by x (length ps) (strengths_of ps)) j ≡ is_set (weak_by x (length ps) (strengths_of ps)) k
           go Missing = none j ∙ sym (none k)
           go Outside = none j ∙ sym (none k)
-          go (Given x) = ap (λ (m : ℕ). eqb m 1) (weak-alike (length ps) (strengthsOf ps) x j k a b (strengths-alike j k a b e))
+          go (Given x) = ap (λ (m : ℕ). eqb m 1) (weak-alike (length ps) (strengths_of ps) x j k a b (strengths-alike j k a b e))
 
-      was-weak : (k : ℕ) → k < length ps → hasMark leaf (marksIn s ps k) ≡ true → weakRank s ps k ≡ true
+      was-weak : (k : ℕ) → k < length ps → has_mark leaf (marks_in s ps k) ≡ true → weak_rank s ps k ≡ true
       unfolding view_of
-      was-weak k h e = removed-own view (places (sidesOf s)) drops weak placed weak-shared k h (sym (marked-is k h) ∙ e)
+      was-weak k h e = removed-own view (places (sides_of s)) drops weak placed weak-shared k h (sym (marked-is k h) ∙ e)
 
-    was-live : (k : ℕ) → k < length ps → hasMark leaf (marksIn s ps k) ≡ true → get_or drops k 0 ≡ 0
+    was-live : (k : ℕ) → k < length ps → has_mark leaf (marks_in s ps k) ≡ true → get_or drops k 0 ≡ 0
     unfolding view_of
     was-live k h e =
-        removed-live view (places (sidesOf s)) drops weak placed (λ i j a b q. points-shared s view (cells_of ps) (strengthsOf ps) i j a b q) k h (sym (marked-is k h) ∙ e)
+        removed-live view (places (sides_of s)) drops weak placed (λ i j a b q. points-shared s view (cells_of ps) (strengths_of ps) i j a b q) k h (sym (marked-is k h) ∙ e)
 
     -- the marks of the earlier filters are those of the byte before
-    module _ (k : ℕ) (h : k < length ps) (e : hasMark leaf (marksIn s ps k) ≡ true) where
-      before : (f : ℕ) → hasMark f 0 ≡ false → hasMark f (get_or drops k 0) ≡ false
-      before f z = ap (hasMark f) (was-live k h e) ∙ z
+    module _ (k : ℕ) (h : k < length ps) (e : has_mark leaf (marks_in s ps k) ≡ true) where
+      before : (f : ℕ) → has_mark f 0 ≡ false → has_mark f (get_or drops k 0) ≡ false
+      before f z = ap (has_mark f) (was-live k h e) ∙ z
 
-      no-validate : hasMark validate (marksIn s ps k) ≡ false
-      unfolding judgedFor view_of pointMarks
+      no-validate : has_mark validate (marks_in s ps k) ≡ false
+      unfolding judged_for view_of point_marks
       no-validate =
-          validate-bit s view (cells_of ps) (strengthsOf ps) k h
-          ∙ sym (marked_by view.count k h [] (viewFilters s view) (byPoints validate (validateMark s view (cells_of ps))) refl refl refl refl) ∙ before validate refl
+          validate-bit s view (cells_of ps) (strengths_of ps) k h
+          ∙ sym (marked-by view.count k h [] (view_filters s view) (by_points validate (validate_mark s view (cells_of ps))) refl refl refl refl) ∙ before validate refl
 
-      no-orientation : hasMark orientation (marksIn s ps k) ≡ false
-      unfolding judgedFor view_of pointMarks
+      no-orientation : has_mark orientation (marks_in s ps k) ≡ false
+      unfolding judged_for view_of point_marks
       no-orientation =
-          orientation-bit s view (cells_of ps) (strengthsOf ps) k h
-          ∙ sym (marked_by view.count k h (byPoints validate (validateMark s view (cells_of ps)) ∷ []) (byPoints wrong (wrongMark s view) ∷ []) (byPoints orientation (orientationMark view)) refl refl refl refl)
+          orientation-bit s view (cells_of ps) (strengths_of ps) k h
+          ∙ sym (marked-by view.count k h (by_points validate (validate_mark s view (cells_of ps)) ∷ []) (by_points wrong (wrong_mark s view) ∷ []) (by_points orientation (orientation_mark view)) refl refl refl refl)
           ∙ before orientation refl
 
-      no-wrong : hasMark wrong (marksIn s ps k) ≡ false
-      unfolding judgedFor view_of pointMarks
+      no-wrong : has_mark wrong (marks_in s ps k) ≡ false
+      unfolding judged_for view_of point_marks
       no-wrong =
-          wrong-bit s view (cells_of ps) (strengthsOf ps) k h
-          ∙ sym (marked_by view.count k h (byPoints validate (validateMark s view (cells_of ps)) ∷ byPoints orientation (orientationMark view) ∷ []) [] (byPoints wrong (wrongMark s view)) refl refl refl refl)
+          wrong-bit s view (cells_of ps) (strengths_of ps) k h
+          ∙ sym (marked-by view.count k h (by_points validate (validate_mark s view (cells_of ps)) ∷ by_points orientation (orientation_mark view) ∷ []) [] (by_points wrong (wrong_mark s view)) refl refl refl refl)
           ∙ before wrong refl
 
       -- a removed index survives at none of its cells
-      no-component : hasMark component (marksIn s ps k) ≡ false
-      unfolding judgedFor view_of
+      no-component : has_mark component (marks_in s ps k) ≡ false
+      unfolding judged_for view_of
       no-component =
-          component-bit s view (cells_of ps) (strengthsOf ps) k h
-          ∙ not-true (componentMarked s view (dropped s ps) k)
+          component-bit s view (cells_of ps) (strengths_of ps) k h
+          ∙ not-true (component_marked s view (dropped s ps) k)
           (λ t.
-          let v = component-survives view (places (sidesOf s)) (dropped s ps) k h (and_right s.apply_largest_component (is_set (filterOf view (places (sidesOf s)) (dropped s ps)).marks k) t) in
+          let v = component-survives view (places (sides_of s)) (dropped s ps) k h (and_right s.apply_largest_component (is_set (filter_of view (places (sides_of s)) (dropped s ps)).marks k) t) in
           let j = v.0 in
           let stays = and_right (survives (length ps) drops j) (not (is_set found.marks j)) (sym (survivor-left j) ∙ survivor-is s ps j ∙ v.2) in
-          true≢false (sym stays ∙ ap not (marks-shared view (places (sidesOf s)) drops weak j k v.1 h v.3 ∙ sym (marked-is k h) ∙ e)))
+          true≢false (sym stays ∙ ap not (marks-shared view (places (sides_of s)) drops weak j k v.1 h v.3 ∙ sym (marked-is k h) ∙ e)))
 
     -- ---- the rounds
 
-    unremoved : ((k : ℕ) → k < length ps → hasMark leaf (marksIn s ps k) ≡ false) → roundsOf s ps ≡ 0
+    unremoved : ((k : ℕ) → k < length ps → has_mark leaf (marks_in s ps k) ≡ false) → rounds_of s ps ≡ 0
     unfolding view_of
-    unremoved f = rounds-are ∙ none-rounds view (places (sidesOf s)) drops weak placed (λ k h. sym (marked-is k h) ∙ f k h)
+    unremoved f = rounds-are ∙ none-rounds view (places (sides_of s)) drops weak placed (λ k h. sym (marked-is k h) ∙ f k h)
 
-    unrounded : roundsOf s ps ≡ 0 → (k : ℕ) → k < length ps → hasMark leaf (marksIn s ps k) ≡ false
+    unrounded : rounds_of s ps ≡ 0 → (k : ℕ) → k < length ps → has_mark leaf (marks_in s ps k) ≡ false
     unfolding view_of
-    unrounded e k h = marked-is k h ∙ rounds-none view (places (sidesOf s)) drops weak placed (sym rounds-are ∙ e) k h
+    unrounded e k h = marked-is k h ∙ rounds-none view (places (sides_of s)) drops weak placed (sym rounds-are ∙ e) k h
 
 -- ---- of an accepted file
 
 -- "one index with different strength bits" is refused
-one-strength : (file : List ℕ) (room : ℕ) (s : Settings) (ps : List Point) → rulingOf file room ≡ accepted s ps → OneStrength ps
+one-strength : (file : List ℕ) (room : ℕ) (s : Settings) (ps : List Point) → ruling_of file room ≡ accepted s ps → OneStrength ps
 unfolding applies
 one-strength file room s ps e j k a b q = go (dec_lt j k) (dec_lt k j)
   where
     at : ℕ → Point
     at i = get_or ps i nowhere
 
-    either : (p q : Point) → twoStrengths p q ≡ twoStrengths q p
+    either : (p q : Point) → two_strengths p q ≡ two_strengths q p
     either p q = rw (eqb_swap p.index q.index, eqb_swap p.strength q.strength)
 
-    none : pairIn twoStrengths (list_of (length ps) at) ≡ false
+    none : pair_in two_strengths (list_of (length ps) at) ≡ false
     none =
-        ap (pairIn twoStrengths) (sym (is-list nowhere (length ps) at ps refl (λ k h. refl)) ∙ (accepted-file file room s ps e).points-are)
-        ∙ sym (pair-order twoStrengths either (sort-perm comesBefore (points_of file))) ∙ none-applies file room e 14
+        ap (pair_in two_strengths) (sym (is-list nowhere (length ps) at ps refl (λ k h. refl)) ∙ (accepted-file file room s ps e).points-are)
+        ∙ sym (pair-order two_strengths either (sort-perm comes_before (points_of file))) ∙ none-applies file room e 14
 
     differ : (i m : ℕ) → i < m → m < length ps → (at i).index ≡ (at m).index → (at i).strength ≡ (at m).strength
     differ i m l h q =
         eqb-true (at i).strength (at m).strength
         (not-false (eqb (at i).strength (at m).strength)
         (not-true (not (eqb (at i).strength (at m).strength))
-        (λ t. true≢false (sym (pair-yes at (length ps) twoStrengths i m l h (and_both (eqb (at i).index (at m).index) (not (eqb (at i).strength (at m).strength)) (eq-eqb (at i).index (at m).index q) t)) ∙ none))))
+        (λ t. true≢false (sym (pair-yes at (length ps) two_strengths i m l h (and_both (eqb (at i).index (at m).index) (not (eqb (at i).strength (at m).strength)) (eq-eqb (at i).index (at m).index q) t)) ∙ none))))
 
     go : Dec (j < k) → Dec (k < j) → (at j).strength ≡ (at k).strength
     go (yes l) d = differ j k l b q
@@ -294,16 +294,16 @@ weak-ends file room s ps b e =
     }
 
 -- without tag 4 there is no fraction, and no point is weak
-no_fraction : (file : List ℕ) (f : Layout) → f.weighed ≡ false → fractionOf file f ≡ Missing
-unfolding fractionOf
+no_fraction : (file : List ℕ) (f : Layout) → f.weighed ≡ false → fraction_of file f ≡ Missing
+unfolding fraction_of
 no_fraction file f w = rw w
 
-no-leaves : (s : Settings) (ps : List Point) → s.score_frac ≡ Missing → length ps ≤ maxPoints → NoLeaves s ps
+no-leaves : (s : Settings) (ps : List Point) → s.score_frac ≡ Missing → length ps ≤ max_points → NoLeaves s ps
 unfolding view_of
 no-leaves s ps x few =
-    let z : noLeaves ≡ found s ps = unpeeled s (view_of ps) (strengthsOf ps) (drops s ps) (rw x) few in
+    let z : no_leaves ≡ found s ps = unpeeled s (view_of ps) (strengths_of ps) (drops s ps) (rw x) few in
     record {
-      marks = λ k h. marked-is s ps k h ∙ ap (λ (p : Peeled). is_set p.marks k) (sym z) ∙ ap (λ (m : ℕ). eqb m 1) (replicate-at maxPoints 0 k);
+      marks = λ k h. marked-is s ps k h ∙ ap (λ (p : Peeled). is_set p.marks k) (sym z) ∙ ap (λ (m : ℕ). eqb m 1) (replicate-at max_points 0 k);
       rounds = rounds-are s ps ∙ ap (λ (p : Peeled). p.rounds) (sym z);
     }
 

@@ -4,21 +4,21 @@ use mathlib.Core.List.{List}
 use Prim.Native.Nat.{ℕ}
 use native.Mathlib.Omega.{arith}
 use lib.ListN.{length, get_or}
-use Rattle.cells.specs.Points.{indicesOf}
+use Rattle.cells.specs.Points.{indices_of}
 use Rattle.cells.specs.Cell.{Cell, cells_of}
 use Rattle.sheet_file.specs.Bytes.{Bytes}
-use Rattle.ruling.specs.Ruling.{Ruling, refused, accepted, rulingOf, rowsSize}
+use Rattle.ruling.specs.Ruling.{Ruling, refused, accepted, ruling_of, rows_size}
 use Rattle.ruling.proofs.Limit.{limit}
 use Rattle.judged.specs.Judged.{Judged}
 use Rattle.predict.specs.declared.Prediction.{Prediction}
-use Rattle.judging.specs.Judging.{judgedFor, fillsFor}
-use Rattle.text.specs.Text.{refusalOf}
-use Rattle.listing.specs.Listing.{listingOf}
+use Rattle.judging.specs.Judging.{judged_for, fills_for}
+use Rattle.text.specs.Text.{refusal_of}
+use Rattle.listing.specs.Listing.{listing_of}
 use Rattle.map_lines.proofs.Start.{refusal-first}
-use Rattle.kept.specs.Answer.{answerBy, answer_of}
+use Rattle.kept.specs.Answer.{answer_by, answer_of}
 use Rattle.kept.specs.declared.Answer.TheVariants.{Refused, Accepted}
 use Rattle.kept.specs.declared.Counts.{Counts}
-use Rattle.sheet_listing.specs.Text.{textBy, text_of}
+use Rattle.sheet_listing.specs.Text.{text_by, text_of}
 use Rattle.sheet_listing.proofs.Laws.{text-is}
 use Rattle.sheet_map.proofs.Laws.{older-first, number-given}
 use Rattle.sheet_map.proofs.Texts.{number-printed, number_read}
@@ -26,53 +26,53 @@ use Rattle.promises.specs.Limit.{AllRefuse, NoneRefuses, LimitShownPromise}
 
 -- ---- the call
 
-number-answered : (file : List ℕ) (room k : ℕ) → rulingOf file room ≡ refused k → answer_of file room ≡ Refused k
+number-answered : (file : List ℕ) (room k : ℕ) → ruling_of file room ≡ refused k → answer_of file room ≡ Refused k
 unfolding answer_of
-number-answered file room k e = ap answerBy e
+number-answered file room k e = ap answer_by e
 
 other : {k : ℕ} {c : Counts} → Accepted c ≡ Refused k → ⊥
 other e = let z : ◌≡◌ {A = ℕ} 0 1 = cc in omega arith
 
-answer-read : (file : List ℕ) (room k : ℕ) → answer_of file room ≡ Refused k → rulingOf file room ≡ refused k
+answer-read : (file : List ℕ) (room k : ℕ) → answer_of file room ≡ Refused k → ruling_of file room ≡ refused k
 unfolding answer_of
-answer-read file room k e = go (rulingOf file room) refl e
+answer-read file room k e = go (ruling_of file room) refl e
   where
-    go : (x : Ruling) → rulingOf file room ≡ x → answerBy x ≡ Refused k → rulingOf file room ≡ refused k
+    go : (x : Ruling) → ruling_of file room ≡ x → answer_by x ≡ Refused k → ruling_of file room ≡ refused k
     go (refused j) q e = let p : j ≡ k = cc e in q ∙ ap refused p
     go (accepted s ps) q e = absurd (other e)
 
 -- ---- the listing
 
-number-listed : (file : List ℕ) (k : ℕ) → rulingOf file rowsSize ≡ refused k → text_of file ≡ refusalOf k
-number-listed file k e = text-is file ∙ ap textBy e
+number-listed : (file : List ℕ) (k : ℕ) → ruling_of file rows_size ≡ refused k → text_of file ≡ refusal_of k
+number-listed file k e = text-is file ∙ ap text_by e
 
 -- a listing begins with the p of `points`, a refusal with the r of `refused`
-listing-first : (n : ℕ) (cell : ℕ → Cell) (indices : List ℕ) (j : Judged) (fills : List Prediction) → get_or (listingOf n cell indices j fills) 0 0 ≡ 112
-unfolding listingOf
+listing-first : (n : ℕ) (cell : ℕ → Cell) (indices : List ℕ) (j : Judged) (fills : List Prediction) → get_or (listing_of n cell indices j fills) 0 0 ≡ 112
+unfolding listing_of
 listing-first n cell indices j fills = refl
 
-no-refusal : (n : ℕ) (cell : ℕ → Cell) (indices : List ℕ) (j : Judged) (fills : List Prediction) (k : ℕ) → listingOf n cell indices j fills ≡ refusalOf k → ⊥
+no-refusal : (n : ℕ) (cell : ℕ → Cell) (indices : List ℕ) (j : Judged) (fills : List Prediction) (k : ℕ) → listing_of n cell indices j fills ≡ refusal_of k → ⊥
 no-refusal n cell indices j fills k e =
     let z : ◌≡◌ {A = ℕ} 112 114 = sym (listing-first n cell indices j fills) ∙ ap (λ (t : List ℕ). get_or t 0 0) e ∙ refusal-first k in
     omega arith
 
 -- so a refusal is printed of its own number alone; that two numbers are printed apart is known from the map
-pub listing-read : (file : List ℕ) → Bytes file → (k : ℕ) → text_of file ≡ refusalOf k → rulingOf file rowsSize ≡ refused k
-listing-read file b k e = go (rulingOf file rowsSize) refl
+pub listing-read : (file : List ℕ) → Bytes file → (k : ℕ) → text_of file ≡ refusal_of k → ruling_of file rows_size ≡ refused k
+listing-read file b k e = go (ruling_of file rows_size) refl
   where
-    go : (x : Ruling) → rulingOf file rowsSize ≡ x → rulingOf file rowsSize ≡ refused k
+    go : (x : Ruling) → ruling_of file rows_size ≡ x → ruling_of file rows_size ≡ refused k
     go (refused j) q =
         let m = older-first file j q in
         q ∙ sym m ∙ number_read file b k (number-printed file j m ∙ sym (number-listed file j q) ∙ e)
-    go (accepted s ps) q = absurd (no-refusal (length ps) (cells_of ps) (indicesOf ps) (judgedFor s ps) (fillsFor s ps) k (sym (text-is file ∙ ap textBy q) ∙ e))
+    go (accepted s ps) q = absurd (no-refusal (length ps) (cells_of ps) (indices_of ps) (judged_for s ps) (fills_for s ps) k (sym (text-is file ∙ ap text_by q) ∙ e))
 
 -- ---- the three, by the ruling with the buffer and that of the programs
 
 module _ (file : List ℕ) (room k : ℕ) where
-  all-refuse : rulingOf file room ≡ refused k → rulingOf file rowsSize ≡ refused k → AllRefuse file room k
+  all-refuse : ruling_of file room ≡ refused k → ruling_of file rows_size ≡ refused k → AllRefuse file room k
   all-refuse e f = record { answer = number-answered file room k e; listing = number-listed file k f; map = number-printed file k (older-first file k f) }
 
-  none-refuses : Bytes file → (k ≡ 10 → ⊥) → (rulingOf file room ≡ refused k → ⊥) → (rulingOf file rowsSize ≡ refused k → ⊥) → NoneRefuses file room k
+  none-refuses : Bytes file → (k ≡ 10 → ⊥) → (ruling_of file room ≡ refused k → ⊥) → (ruling_of file rows_size ≡ refused k → ⊥) → NoneRefuses file room k
   none-refuses b n e f = record {
     answer = λ q. e (answer-read file room k q);
     listing = λ q. f (listing-read file b k q);
@@ -82,7 +82,7 @@ module _ (file : List ℕ) (room k : ℕ) where
 pub limit-shown : LimitShownPromise
 limit-shown file room b =
     let call = limit file room b in
-    let printed = limit file rowsSize b in
+    let printed = limit file rows_size b in
     let one-not-ten : ◌≡◌ {A = ℕ} 1 10 → ⊥ = λ q. omega arith in
     let twelve-not-ten : ◌≡◌ {A = ℕ} 12 10 → ⊥ = λ q. omega arith in
     let two-not-ten : ◌≡◌ {A = ℕ} 2 10 → ⊥ = λ q. omega arith in

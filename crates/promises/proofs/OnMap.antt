@@ -11,20 +11,20 @@ use lib.Dec.{eqb, ltb}
 use lib.ListN.{length, get_or}
 use Rattle.folds.specs.Below.{some}
 use Rattle.folds.proofs.Below.{and_right, and_both, some-no}
-use Rattle.cells.specs.Points.{Point, nowhere, strengthsOf}
+use Rattle.cells.specs.Points.{Point, nowhere, strengths_of}
 use Rattle.cells.specs.Cell.{Cell, cell_of, cells_of, before}
 use Rattle.cells.proofs.Keys.{cell_at}
 use Rattle.grid.specs.Views.{view_of}
 use Rattle.grid.specs.InOrder.{CellOrder}
 use Rattle.sheet_file.specs.declared.Settings.{Settings}
-use Rattle.marks.specs.Filters.{filterCount}
-use Rattle.marks.specs.Byte.{hasMark, firstMark}
-use Rattle.judging.specs.Judging.{judgedFor}
+use Rattle.marks.specs.Filters.{filter_count}
+use Rattle.marks.specs.Byte.{has_mark, first_mark}
+use Rattle.judging.specs.Judging.{judged_for}
 use Rattle.text.specs.Text.{bytes}
-use Rattle.map_lines.specs.Map.{pointCharacter}
+use Rattle.map_lines.specs.Map.{point_character}
 use Rattle.map_lines.proofs.Characters.{kept-only}
 use Rattle.map_lines.proofs.Extremes.{not-below-itself}
-use Rattle.promises.specs.Words.{marksIn, keptRank}
+use Rattle.promises.specs.Words.{marks_in, kept_rank}
 use Rattle.promises.proofs.Bits.{none-marked}
 
 -- no cell comes before itself
@@ -47,15 +47,15 @@ cells-apart ps o j k hj hk e = go (dec_lt j k) (dec_lt k j)
     go (no f) (no g) = omega (arith, f, g)
 
 module _ (s : Settings) (ps : List Point) (k : ℕ) where
-  pub kept-shown : keptRank s ps k ≡ true → pointCharacter (marksIn s ps k) ≡ bytes "#"
-  unfolding firstMark
-  kept-shown e = ap pointCharacter (eqb-true (marksIn s ps k) 0 (and_right (ltb k (length ps)) (eqb (marksIn s ps k) 0) e))
+  pub kept-shown : kept_rank s ps k ≡ true → point_character (marks_in s ps k) ≡ bytes "#"
+  unfolding first_mark
+  kept-shown e = ap point_character (eqb-true (marks_in s ps k) 0 (and_right (ltb k (length ps)) (eqb (marks_in s ps k) 0) e))
 
-  none_in : k < length ps → eqb (marksIn s ps k) 0 ≡ not (some (λ (f : ℕ). hasMark f (marksIn s ps k)) filterCount)
-  unfolding judgedFor view_of
-  none_in h = none-marked s (view_of ps) (cells_of ps) (strengthsOf ps) k h
+  none_in : k < length ps → eqb (marks_in s ps k) 0 ≡ not (some (λ (f : ℕ). has_mark f (marks_in s ps k)) filter_count)
+  unfolding judged_for view_of
+  none_in h = none-marked s (view_of ps) (cells_of ps) (strengths_of ps) k h
 
-  pub only-kept-shown : k < length ps → pointCharacter (marksIn s ps k) ≡ bytes "#" → keptRank s ps k ≡ true
+  pub only-kept-shown : k < length ps → point_character (marks_in s ps k) ≡ bytes "#" → kept_rank s ps k ≡ true
   only-kept-shown h e =
-      and_both (ltb k (length ps)) (eqb (marksIn s ps k) 0) (lt-ltb k (length ps) h)
-      (none_in h ∙ ap not (some-no (λ (f : ℕ). hasMark f (marksIn s ps k)) filterCount (kept-only (marksIn s ps k) e)))
+      and_both (ltb k (length ps)) (eqb (marks_in s ps k) 0) (lt-ltb k (length ps) h)
+      (none_in h ∙ ap not (some-no (λ (f : ℕ). has_mark f (marks_in s ps k)) filter_count (kept-only (marks_in s ps k) e)))

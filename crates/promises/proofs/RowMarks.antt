@@ -10,29 +10,29 @@ use lib.ListN.{length, get_or}
 use Rattle.folds.proofs.Below.{and-under}
 use Rattle.cells.specs.Points.{Point}
 use Rattle.sheet_file.specs.declared.Settings.{Settings}
-use Rattle.ruling.specs.Ruling.{Ruling, accepted, rulingOf}
-use Rattle.judged.specs.Shown.{shownAt}
-use Rattle.judging.specs.Judging.{judgedFor}
-use Rattle.rows.specs.Rows.{row_of, rowSize, rowsOver}
+use Rattle.ruling.specs.Ruling.{Ruling, accepted, ruling_of}
+use Rattle.judged.specs.Shown.{shown_at}
+use Rattle.judging.specs.Judging.{judged_for}
+use Rattle.rows.specs.Rows.{row_of, row_size, rows_over}
 use Rattle.rows.proofs.Theorems.{byte-shown}
-use Rattle.kept.specs.Answer.{rows_by, rowsAfter}
-use Rattle.promises.specs.Words.{marksIn, keptRank, marksByte}
+use Rattle.kept.specs.Answer.{rows_by, rows_after}
+use Rattle.promises.specs.Words.{marks_in, kept_rank, marks_byte}
 
-first_byte : (s : Settings) (ps : List Point) (k : ℕ) → get_or (row_of (shownAt (judgedFor s ps) k)) 0 0 ≡ marksIn s ps k
-unfolding row_of shownAt
+first_byte : (s : Settings) (ps : List Point) (k : ℕ) → get_or (row_of (shown_at (judged_for s ps) k)) 0 0 ≡ marks_in s ps k
+unfolding row_of shown_at
 first_byte s ps k = refl
 
 -- "Byte 0: marks": of an accepted file's row k
-pub row-marks : (file buffer : List ℕ) (s : Settings) (ps : List Point) → rulingOf file (length buffer) ≡ accepted s ps → (k : ℕ) → k < length ps
-    → marksByte file buffer k ≡ marksIn s ps k
-unfolding rowsAfter
+pub row-marks : (file buffer : List ℕ) (s : Settings) (ps : List Point) → ruling_of file (length buffer) ≡ accepted s ps → (k : ℕ) → k < length ps
+    → marks_byte file buffer k ≡ marks_in s ps k
+unfolding rows_after
 row-marks file buffer s ps e k h =
-    let z : rowSize * k ≡ rowSize * k + 0 = omega arith in
-    ap (λ (r : Ruling). get_or (rows_by buffer r) (rowSize * k) 0) e
-    ∙ ap (λ (i : ℕ). get_or (rowsOver (length ps) (shownAt (judgedFor s ps)) buffer) i 0) z
-    ∙ byte-shown (shownAt (judgedFor s ps)) (length ps) buffer k 0 h (omega arith)
+    let z : row_size * k ≡ row_size * k + 0 = omega arith in
+    ap (λ (r : Ruling). get_or (rows_by buffer r) (row_size * k) 0) e
+    ∙ ap (λ (i : ℕ). get_or (rows_over (length ps) (shown_at (judged_for s ps)) buffer) i 0) z
+    ∙ byte-shown (shown_at (judged_for s ps)) (length ps) buffer k 0 h (omega arith)
     ∙ first_byte s ps k
 
 -- "On any accepted sheet the kept patch is the points whose row has no mark."
-pub kept-rows : (file buffer : List ℕ) (s : Settings) (ps : List Point) → rulingOf file (length buffer) ≡ accepted s ps → (k : ℕ) → keptRank s ps k ≡ ltb k (length ps) && eqb (marksByte file buffer k) 0
+pub kept-rows : (file buffer : List ℕ) (s : Settings) (ps : List Point) → ruling_of file (length buffer) ≡ accepted s ps → (k : ℕ) → kept_rank s ps k ≡ ltb k (length ps) && eqb (marks_byte file buffer k) 0
 kept-rows file buffer s ps e k = and-under (ltb k (length ps)) (λ l. ap (λ (b : ℕ). eqb b 0) (sym (row-marks file buffer s ps e k (ltb-true k (length ps) l))))

@@ -14,20 +14,20 @@ use Rattle.folds.specs.Below.{tally}
 use Rattle.folds.proofs.Below.{and_right, and-true, not-true, some-ext, some-no, tally-ext, first-le}
 use Rattle.folds.specs.Lists.{up_from, list_of}
 use Rattle.folds.proofs.Lists.{list_at, list_ext}
-use Rattle.cells.specs.Points.{Point, strengthsOf}
+use Rattle.cells.specs.Points.{Point, strengths_of}
 use Rattle.cells.specs.Cell.{cells_of}
-use Rattle.grid.specs.Tables.{entryIn, lastWithIndex}
+use Rattle.grid.specs.Tables.{entry_in, last_with_index}
 use Rattle.grid.specs.Views.{view_of}
-use Rattle.grid.proofs.Views.{indexList, index_read}
+use Rattle.grid.proofs.Views.{index_list, index_read}
 use Rattle.grid.proofs.Alike.{index_same}
 use Rattle.sheet_file.specs.declared.Settings.{Settings}
-use Rattle.marks.specs.Filters.{filterCount}
-use Rattle.marks.specs.Byte.{hasMark, firstMark}
-use Rattle.marks.specs.Tally.{isUnder, isPlace, countUnder, countsOf}
-use Rattle.drop_set.specs.Filters.{patchedOf, judgedOf}
-use Rattle.judging.specs.Judging.{judgedFor}
-use Rattle.promises.specs.Words.{DistinctIndices, marksIn}
-use Rattle.promises.specs.Tally.{different, total, pointsUnder, pointCounts, anyPoint, indexIn, CountsIndices}
+use Rattle.marks.specs.Filters.{filter_count}
+use Rattle.marks.specs.Byte.{has_mark, first_mark}
+use Rattle.marks.specs.Tally.{is_under, is_place, count_under, counts_of}
+use Rattle.drop_set.specs.Filters.{patched_of, judged_of}
+use Rattle.judging.specs.Judging.{judged_for}
+use Rattle.promises.specs.Words.{DistinctIndices, marks_in}
+use Rattle.promises.specs.Tally.{different, total, points_under, point_counts, any_point, index_in, CountsIndices}
 use Rattle.promises.proofs.Different.{is_last, last-different}
 use Rattle.promises.proofs.Shared.{byte-shared}
 
@@ -88,57 +88,57 @@ different-all q f n one =
 -- ---- the tally of a sheet
 
 module _ (s : Settings) (ps : List Point) where
-  pub marks-shared : (i j : ℕ) → i < length ps → j < length ps → indexIn ps i ≡ indexIn ps j → marksIn s ps i ≡ marksIn s ps j
-  unfolding judgedFor view_of
-  marks-shared i j a b e = byte-shared s (view_of ps) (cells_of ps) (strengthsOf ps) i j a b (index_same ps i j a b e)
+  pub marks-shared : (i j : ℕ) → i < length ps → j < length ps → index_in ps i ≡ index_in ps j → marks_in s ps i ≡ marks_in s ps j
+  unfolding judged_for view_of
+  marks-shared i j a b e = byte-shared s (view_of ps) (cells_of ps) (strengths_of ps) i j a b (index_same ps i j a b e)
 
-  tally-is : (judgedFor s ps).tally ≡ countsOf (view_of ps) (judgedFor s ps).marks
-  unfolding judgedFor judgedOf patchedOf
+  tally-is : (judged_for s ps).tally ≡ counts_of (view_of ps) (judged_for s ps).marks
+  unfolding judged_for judged_of patched_of
   tally-is = refl
 
   abbrev held : ℕ → ℕ
-  held = entryIn (indexList ps)
+  held = entry_in (index_list ps)
 
-  held-is : (k : ℕ) → k < length ps → held k ≡ indexIn ps k
-  held-is k h = list_at (length ps) (indexIn ps) k 0 h
+  held-is : (k : ℕ) → k < length ps → held k ≡ index_in ps k
+  held-is k h = list_at (length ps) (index_in ps) k 0 h
 
   -- the places of indices are the last ranks that have them
-  place-last : (k : ℕ) → k < length ps → isPlace (view_of ps) k ≡ is_last held (length ps) k
-  unfolding lastWithIndex
+  place-last : (k : ℕ) → k < length ps → is_place (view_of ps) k ≡ is_last held (length ps) k
+  unfolding last_with_index
   place-last k h = ap (λ (m : ℕ). eqb m k) (index_read ps k h)
 
   -- of the indices whose points pass, one place for each
-  places : (q : ℕ → Bool) → ((i j : ℕ) → i < length ps → j < length ps → indexIn ps i ≡ indexIn ps j → q i ≡ q j)
-      → tally (λ (k : ℕ). q k && isPlace (view_of ps) k) (length ps) ≡ different q (indexIn ps) (length ps)
+  places : (q : ℕ → Bool) → ((i j : ℕ) → i < length ps → j < length ps → index_in ps i ≡ index_in ps j → q i ≡ q j)
+      → tally (λ (k : ℕ). q k && is_place (view_of ps) k) (length ps) ≡ different q (index_in ps) (length ps)
   places q alike =
-      tally-ext (λ (k : ℕ). q k && isPlace (view_of ps) k) (λ (k : ℕ). q k && is_last held (length ps) k) (length ps) (λ k l. ap (λ (b : Bool). q k && b) (place-last k l))
+      tally-ext (λ (k : ℕ). q k && is_place (view_of ps) k) (λ (k : ℕ). q k && is_last held (length ps) k) (length ps) (λ k l. ap (λ (b : Bool). q k && b) (place-last k l))
       ∙ last-different held q (length ps) (λ i j a b e. alike i j a b (sym (held-is i a) ∙ e ∙ held-is j b))
-      ∙ different-ext q q held (indexIn ps) (length ps) (λ k l. refl) held-is
+      ∙ different-ext q q held (index_in ps) (length ps) (λ k l. refl) held-is
 
   abbrev marks : List ℕ
-  marks = (judgedFor s ps).marks
+  marks = (judged_for s ps).marks
 
-  count-once : (f : ℕ) → countUnder (view_of ps) marks f ≡ different (λ (k : ℕ). isUnder f (get_or marks k 0)) (indexIn ps) (length ps)
-  unfolding countUnder view_of
-  count-once f = places (λ (k : ℕ). isUnder f (get_or marks k 0)) (λ i j a b e. ap (isUnder f) (marks-shared i j a b e))
+  count-once : (f : ℕ) → count_under (view_of ps) marks f ≡ different (λ (k : ℕ). is_under f (get_or marks k 0)) (index_in ps) (length ps)
+  unfolding count_under view_of
+  count-once f = places (λ (k : ℕ). is_under f (get_or marks k 0)) (λ i j a b e. ap (is_under f) (marks-shared i j a b e))
 
-  once : (f : ℕ) → f ≤ filterCount → get_or (judgedFor s ps).tally f 0 ≡ different (λ (k : ℕ). isUnder f (marksIn s ps k)) (indexIn ps) (length ps)
-  unfolding countsOf
-  once f l = ap (λ (t : List ℕ). get_or t f 0) tally-is ∙ list_at (filterCount + 1) (countUnder (view_of ps) marks) f 0 (omega arith) ∙ count-once f
+  once : (f : ℕ) → f ≤ filter_count → get_or (judged_for s ps).tally f 0 ≡ different (λ (k : ℕ). is_under f (marks_in s ps k)) (index_in ps) (length ps)
+  unfolding counts_of
+  once f l = ap (λ (t : List ℕ). get_or t f 0) tally-is ∙ list_at (filter_count + 1) (count_under (view_of ps) marks) f 0 (omega arith) ∙ count-once f
 
-  adds-up : total (judgedFor s ps).tally ≡ different anyPoint (indexIn ps) (length ps)
-  unfolding countsOf countUnder firstMark view_of
+  adds-up : total (judged_for s ps).tally ≡ different any_point (index_in ps) (length ps)
+  unfolding counts_of count_under first_mark view_of
   adds-up =
       ap total tally-is
-      ∙ total-counts (λ (k : ℕ). firstMark (get_or marks k 0)) (isPlace (view_of ps)) (filterCount + 1) (length ps) (λ k. omega (arith, first-le (λ (f : ℕ). hasMark f (get_or marks k 0)) 0 filterCount (omega arith)))
-      ∙ places anyPoint (λ i j a b e. refl)
+      ∙ total-counts (λ (k : ℕ). first_mark (get_or marks k 0)) (is_place (view_of ps)) (filter_count + 1) (length ps) (λ k. omega (arith, first-le (λ (f : ℕ). has_mark f (get_or marks k 0)) 0 filter_count (omega arith)))
+      ∙ places any_point (λ i j a b e. refl)
 
-  as_before : DistinctIndices ps → (judgedFor s ps).tally ≡ pointCounts (length ps) marks
-  unfolding countsOf pointCounts pointsUnder
+  as_before : DistinctIndices ps → (judged_for s ps).tally ≡ point_counts (length ps) marks
+  unfolding counts_of point_counts points_under
   as_before one =
       tally-is
-      ∙ list_ext 0 (filterCount + 1) (countUnder (view_of ps) marks) (pointsUnder (length ps) marks)
-      (λ f l. count-once f ∙ different-all (λ (k : ℕ). isUnder f (get_or marks k 0)) (indexIn ps) (length ps) one)
+      ∙ list_ext 0 (filter_count + 1) (count_under (view_of ps) marks) (points_under (length ps) marks)
+      (λ f l. count-once f ∙ different-all (λ (k : ℕ). is_under f (get_or marks k 0)) (index_in ps) (length ps) one)
 
   pub counts-indices : CountsIndices s ps
   counts-indices = record { shared = marks-shared; once = once; sum = adds-up; as_before = as_before }

@@ -8,7 +8,7 @@ use native.Mathlib.Decide.{ℕ_discrete}
 use lib.Dec.{eqb, ltb}
 use lib.ListN.{length}
 use borrow.Author.Tests.{ltb-true}
-use Rattle.folds.specs.Among.{anyIn}
+use Rattle.folds.specs.Among.{any_in}
 use Rattle.folds.specs.Below.{tally}
 use Rattle.folds.proofs.Below.{and_left}
 use Rattle.cells.specs.Points.{Point}
@@ -17,38 +17,38 @@ use Rattle.cells.proofs.Keys.{cell_at}
 use Rattle.grid.specs.Views.{view_of}
 use Rattle.grid.proofs.Moved.{view-moved}
 use Rattle.sheet_file.specs.Bytes.{byte_at}
-use Rattle.sheet_file.specs.Frame.{layout_of, layoutIn}
+use Rattle.sheet_file.specs.Frame.{layout_of, layout_in}
 use Rattle.sheet_file.specs.declared.Layout.{Layout}
 use Rattle.sheet_file.specs.declared.Settings.{Settings}
-use Rattle.points.specs.Records.{pointsIn}
-use Rattle.points.specs.Refusals.{offRange}
-use Rattle.ruling.specs.Ruling.{Ruling, accepted, rulingOf, applies, rowsSize}
+use Rattle.points.specs.Records.{points_in}
+use Rattle.points.specs.Refusals.{off_range}
+use Rattle.ruling.specs.Ruling.{Ruling, accepted, ruling_of, applies, rows_size}
 use Rattle.ruling.proofs.Header.{frame_same}
 use Rattle.ruling.proofs.Standing.{accepted-file, accepted-order}
 use Rattle.ruling.proofs.Order.{same-ruling}
 use Rattle.ruling.specs.Switches.{switched}
 use Rattle.ruling.proofs.Switches.{switches}
-use Rattle.ruling.specs.Offset.{movedFile}
+use Rattle.ruling.specs.Offset.{moved_file}
 use Rattle.ruling.proofs.Offset.{offset}
 use Rattle.ruling.proofs.MovedFile.{moved-bytes, moved-offset, moved-in-range}
 use Rattle.components.proofs.Whole.{smallest}
 use Rattle.marks.specs.Filters.{validate, orientation, wrong, leaf}
-use Rattle.marks.specs.Byte.{hasMark}
-use Rattle.judging.specs.Judging.{judgedFor}
-use Rattle.kept.specs.Answer.{answerBy, rows_by, tallyBy, answer_of, rowsAfter, tally_of}
+use Rattle.marks.specs.Byte.{has_mark}
+use Rattle.judging.specs.Judging.{judged_for}
+use Rattle.kept.specs.Answer.{answer_by, rows_by, tally_by, answer_of, rows_after, tally_of}
 use Rattle.kept.specs.declared.Answer.TheVariants.{Accepted}
-use Rattle.sheet_listing.specs.Text.{textBy, text_of}
-use Rattle.map_lines.specs.Map.{pointCharacter, lineCharacters, mapOf}
+use Rattle.sheet_listing.specs.Text.{text_by, text_of}
+use Rattle.map_lines.specs.Map.{point_character, line_characters, map_of}
 use Rattle.map_lines.proofs.Characters.{first-character, no-full-stop}
 use Rattle.map_lines.proofs.Moved.{map-lines}
-use Rattle.map_lines.proofs.Places.{lineOfRank, columnOfRank, cell-of-rank, line-drawn, column-drawn, point-byte, empty-byte}
+use Rattle.map_lines.proofs.Places.{line_of_rank, column_of_rank, cell-of-rank, line-drawn, column-drawn, point-byte, empty-byte}
 use Rattle.map_lines.proofs.Size.{characters-long, line-no-newline, line-size, few-lines}
-use Rattle.sheet_fills.specs.Answer.{asRows, fillAnswerBy, fillsBy, fillAnswerOf, fillsAfter}
-use Rattle.sheet_map.specs.Text.{mapRuling, mapBy, mapRulingOf, mapTextOf}
+use Rattle.sheet_fills.specs.Answer.{as_rows, fill_answer_by, fills_by, fill_answer_of, fills_after}
+use Rattle.sheet_map.specs.Text.{map_ruling, map_by, map_ruling_of, map_text_of}
 use Rattle.sheet_map.proofs.Laws.{text-is, older-first, ten-given, none-given, is_wide, is-drawn, number-given, never-ten, never-three-drawn}
 use Rattle.sheet_map.proofs.Texts.{number-printed, drawn-printed, number_read}
 use Rattle.sheet_map.proofs.Whole.{v-within, text-fits}
-use Rattle.promises.specs.Words.{marksIn, roundsOf}
+use Rattle.promises.specs.Words.{marks_in, rounds_of}
 use Rattle.promises.proofs.Patch.{none_kept, all-marked, reached-below, largest-kept, roots, patch_of, all-counted, count-on, count-off}
 use Rattle.promises.proofs.Tallied.{counts-indices}
 use Rattle.promises.proofs.Unswitched.{validate-stays}
@@ -57,7 +57,7 @@ use Rattle.promises.proofs.Moving.{strengths-moved, validate-in, orientation-in,
 use Rattle.promises.proofs.MovingMap.{ten-moved, ten-before, map-stays}
 use Rattle.promises.proofs.OnMap.{cells-apart, kept-shown, only-kept-shown}
 use Rattle.promises.specs.Tally.{TallyPromise}
-use Rattle.promises.specs.Map.{onMap, MapLinesPromise, MapPointsPromise, MapSizePromise, MapNumbersPromise, MapTextsPromise, TenAlonePromise, OffsetMapPromise, MovedFileMapPromise}
+use Rattle.promises.specs.Map.{on_map, MapLinesPromise, MapPointsPromise, MapSizePromise, MapNumbersPromise, MapTextsPromise, TenAlonePromise, OffsetMapPromise, MovedFileMapPromise}
 use Rattle.promises.specs.Promises.{RanksAreCells, KeptByRows, KeptPatchPromise, ComponentCountPromise, NoCountPromise, AnotherOrderPromise, OffsetPromise, OffsetRowsPromise, MovedFilePromise, MovedFileRowsPromise, SwitchesPromise, SwitchedRowsPromise}
 
 pub ranks-are-cells : RanksAreCells
@@ -80,9 +80,9 @@ kept-patch file room s ps b e one on =
       has-smallest = λ W p. smallest (length ps) p (λ k h. reached-below s ps (p.inner k h));
     }
 
-pub answer-is : (file : List ℕ) (room : ℕ) (s : Settings) (ps : List Point) → rulingOf file room ≡ accepted s ps → answer_of file room ≡ Accepted (record { points = length ps; components = (judgedFor s ps).components; rounds = roundsOf s ps })
+pub answer-is : (file : List ℕ) (room : ℕ) (s : Settings) (ps : List Point) → ruling_of file room ≡ accepted s ps → answer_of file room ≡ Accepted (record { points = length ps; components = (judged_for s ps).components; rounds = rounds_of s ps })
 unfolding answer_of
-answer-is file room s ps e = ap answerBy e
+answer-is file room s ps e = ap answer_by e
 
 pub component-count : ComponentCountPromise
 component-count file room s ps b e on =
@@ -90,37 +90,37 @@ component-count file room s ps b e on =
     record {
       first = roots s ps o;
       patch = patch_of s ps o;
-      answer = answer-is file room s ps e ∙ ap (λ (c : ℕ). Accepted (record { points = length ps; components = c; rounds = roundsOf s ps })) (count-on s ps o on);
+      answer = answer-is file room s ps e ∙ ap (λ (c : ℕ). Accepted (record { points = length ps; components = c; rounds = rounds_of s ps })) (count-on s ps o on);
       each = all-counted s ps o;
     }
 
 pub no-count : NoCountPromise
-no-count file room s ps e off = answer-is file room s ps e ∙ ap (λ (c : ℕ). Accepted (record { points = length ps; components = c; rounds = roundsOf s ps })) (count-off s ps off)
+no-count file room s ps e off = answer-is file room s ps e ∙ ap (λ (c : ℕ). Accepted (record { points = length ps; components = c; rounds = rounds_of s ps })) (count-off s ps off)
 
 -- ---- the tally
 
 pub tally-by-index : TallyPromise
 unfolding tally_of
-tally-by-index file room s ps e = record { tally = ap tallyBy e; counts = counts-indices s ps }
+tally-by-index file room s ps e = record { tally = ap tally_by e; counts = counts-indices s ps }
 
 pub another-order : AnotherOrderPromise
-unfolding answer_of rowsAfter tally_of text_of mapTextOf mapRulingOf fillAnswerOf fillsAfter
+unfolding answer_of rows_after tally_of text_of map_text_of map_ruling_of fill_answer_of fills_after
 another-order file other f b e r = record {
-  answer = λ room. ap answerBy (sym (same-ruling file other f b e r room));
+  answer = λ room. ap answer_by (sym (same-ruling file other f b e r room));
   rows = λ buffer. ap (rows_by buffer) (sym (same-ruling file other f b e r (length buffer)));
-  tally = λ room. ap tallyBy (sym (same-ruling file other f b e r room));
-  listing = ap textBy (sym (same-ruling file other f b e r rowsSize));
-  map = ap (λ (x : Ruling). mapBy (mapRuling x)) (sym (same-ruling file other f b e r rowsSize));
-  fill-answer = λ room. ap fillAnswerBy (sym (same-ruling file other f b e r (asRows room)));
-  fills = λ buffer. ap (fillsBy buffer) (sym (same-ruling file other f b e r (asRows (length buffer))));
+  tally = λ room. ap tally_by (sym (same-ruling file other f b e r room));
+  listing = ap text_by (sym (same-ruling file other f b e r rows_size));
+  map = ap (λ (x : Ruling). map_by (map_ruling x)) (sym (same-ruling file other f b e r rows_size));
+  fill-answer = λ room. ap fill_answer_by (sym (same-ruling file other f b e r (as_rows room)));
+  fills = λ buffer. ap (fills_by buffer) (sym (same-ruling file other f b e r (as_rows (length buffer))));
 }
 
 pub moved-sheet : OffsetPromise
 unfolding applies
 moved-sheet file other a b bf bo o room in-range s ps e =
     let framed = (accepted-file file room s ps e).framed in
-    let same : layout_of file ≡ layout_of other = sym (ap layoutIn (frame_same file other (layout_of file) framed (record { size = o.size; head = o.head; after = λ k l m. o.after k l }))) in
-    let m = offset file other a b bf bo o (ap (λ (f : Layout). anyIn offRange (pointsIn other f)) same ∙ in-range) room s ps e in
+    let same : layout_of file ≡ layout_of other = sym (ap layout_in (frame_same file other (layout_of file) framed (record { size = o.size; head = o.head; after = λ k l m. o.after k l }))) in
+    let m = offset file other a b bf bo o (ap (λ (f : Layout). any_in off_range (points_in other f)) same ∙ in-range) room s ps e in
     let v = view-moved a b ps m.points m.size m.along in
     let t = strengths-moved a b ps m.points m.size m.along in
     record {
@@ -128,7 +128,7 @@ moved-sheet file other a b bf bo o room in-range s ps e =
       orientation = orientation-stays s ps m.points m.size v t;
       wrong = wrong_stays s ps m.points m.size v t;
       same = marks_stay s ps m.points m.size v t;
-      leaf = λ h k. ap (hasMark leaf) (marks_stay s ps m.points m.size v t h k);
+      leaf = λ h k. ap (has_mark leaf) (marks_stay s ps m.points m.size v t h k);
       rounds = λ h. (counts-stay s ps m.points m.size v t h).1;
       kept = kept-stays s ps m.points m.size v t;
     }
@@ -149,12 +149,12 @@ moved-rows file other buffer a b bf bo o in-range s ps e =
 pub moved-file : MovedFilePromise
 moved-file file a b bytes room s ps e in-range =
     let o = moved-offset file a b room s ps e in-range in
-    moved-sheet file (movedFile file a b) a b bytes (moved-bytes file a b bytes) o room (moved-in-range file a b room s ps e in-range) s ps e
+    moved-sheet file (moved_file file a b) a b bytes (moved-bytes file a b bytes) o room (moved-in-range file a b room s ps e in-range) s ps e
 
 pub moved-file-rows : MovedFileRowsPromise
 moved-file-rows file buffer a b bytes s ps e in-range =
     let o = moved-offset file a b (length buffer) s ps e in-range in
-    moved-rows file (movedFile file a b) buffer a b bytes (moved-bytes file a b bytes) o (moved-in-range file a b (length buffer) s ps e in-range) s ps e
+    moved-rows file (moved_file file a b) buffer a b bytes (moved-bytes file a b bytes) o (moved-in-range file a b (length buffer) s ps e in-range) s ps e
 
 pub switched-sheet : SwitchesPromise
 switched-sheet file other b w full room s ps e =
@@ -170,8 +170,8 @@ pub switched-rows : SwitchedRowsPromise
 switched-rows file other buffer b w full s ps e =
     let r = switched-sheet file other b w full (length buffer) s ps e in
     record {
-      validate = λ k h. ap (hasMark validate) (row-marks other buffer r.settings ps r.ruling k h) ∙ r.validate k h ∙ ap (hasMark validate) (sym (row-marks file buffer s ps e k h));
-      orientation = λ k h. ap (hasMark orientation) (row-marks other buffer r.settings ps r.ruling k h) ∙ r.orientation k h ∙ ap (hasMark orientation) (sym (row-marks file buffer s ps e k h));
+      validate = λ k h. ap (has_mark validate) (row-marks other buffer r.settings ps r.ruling k h) ∙ r.validate k h ∙ ap (has_mark validate) (sym (row-marks file buffer s ps e k h));
+      orientation = λ k h. ap (has_mark orientation) (row-marks other buffer r.settings ps r.ruling k h) ∙ r.orientation k h ∙ ap (has_mark orientation) (sym (row-marks file buffer s ps e k h));
     }
 
 -- ---- the map
@@ -180,10 +180,10 @@ pub map-of-lines : MapLinesPromise
 map-of-lines file s ps b e =
     let d = is-drawn file s ps e in
     let cell = cells_of ps in
-    let marks = (judgedFor s ps).marks in
+    let marks = (judged_for s ps).marks in
     record {
-      characters = lineCharacters (length ps) cell marks;
-      whole = text-is file ∙ ap mapBy e ∙ map-lines (length ps) cell marks;
+      characters = line_characters (length ps) cell marks;
+      whole = text-is file ∙ ap map_by e ∙ map-lines (length ps) cell marks;
       cells = λ i l. characters-long (length ps) cell marks i;
       long = line-size (length ps) cell marks (v-within file b s ps d.ruled);
       no-newline = λ i l. line-no-newline (length ps) cell marks i;
@@ -195,24 +195,24 @@ map-points file s ps b e =
     let d = is-drawn file s ps e in
     let n = length ps in
     let cell = cells_of ps in
-    let marks = (judgedFor s ps).marks in
+    let marks = (judged_for s ps).marks in
     let inside = v-within file b s ps d.ruled in
-    let text : mapTextOf file ≡ mapOf n cell marks = text-is file ∙ ap mapBy e in
-    let apart = cells-apart ps (accepted-order file rowsSize s ps b d.ruled) in
-    let Shown : ℕ → Type 0 = λ k. onMap (mapTextOf file) (lineOfRank n cell k) (columnOfRank n cell k) ≡ pointCharacter (marksIn s ps k) in
-    let shown : (k : ℕ) → k < n → Shown k = λ k h. ap (λ (t : List ℕ). onMap t (lineOfRank n cell k) (columnOfRank n cell k)) text ∙ point-byte n cell marks inside d.narrow apart k h in
+    let text : map_text_of file ≡ map_of n cell marks = text-is file ∙ ap map_by e in
+    let apart = cells-apart ps (accepted-order file rows_size s ps b d.ruled) in
+    let Shown : ℕ → Type 0 = λ k. on_map (map_text_of file) (line_of_rank n cell k) (column_of_rank n cell k) ≡ point_character (marks_in s ps k) in
+    let shown : (k : ℕ) → k < n → Shown k = λ k h. ap (λ (t : List ℕ). on_map t (line_of_rank n cell k) (column_of_rank n cell k)) text ∙ point-byte n cell marks inside d.narrow apart k h in
     record {
-      line = lineOfRank n cell;
-      column = columnOfRank n cell;
+      line = line_of_rank n cell;
+      column = column_of_rank n cell;
       line-drawn = line-drawn n cell;
       column-drawn = column-drawn n cell d.narrow;
       cell = λ k h. cell-of-rank n cell k h ∙ cell_at ps k h;
       character = shown;
-      kept = λ k q. shown k (ltb-true k n (and_left (ltb k n) (eqb (marksIn s ps k) 0) q)) ∙ kept-shown s ps k q;
+      kept = λ k q. shown k (ltb-true k n (and_left (ltb k n) (eqb (marks_in s ps k) 0) q)) ∙ kept-shown s ps k q;
       kept-only = λ k h q. only-kept-shown s ps k h (sym (shown k h) ∙ q);
-      letter = λ k f h l q before. shown k h ∙ first-character (marksIn s ps k) f l q before;
-      none = λ i j l m f. ap (λ (t : List ℕ). onMap t i j) text ∙ empty-byte n cell marks inside i j l m (λ k h q. f k h (sym (cell_at ps k h) ∙ q));
-      none_only = λ k h q. no-full-stop (marksIn s ps k) (sym (shown k h) ∙ q);
+      letter = λ k f h l q before. shown k h ∙ first-character (marks_in s ps k) f l q before;
+      none = λ i j l m f. ap (λ (t : List ℕ). on_map t i j) text ∙ empty-byte n cell marks inside i j l m (λ k h q. f k h (sym (cell_at ps k h) ∙ q));
+      none_only = λ k h q. no-full-stop (marks_in s ps k) (sym (shown k h) ∙ q);
     }
 
 pub map-size : MapSizePromise
@@ -242,7 +242,7 @@ ten-alone = never-ten
 
 pub moved-map : OffsetMapPromise
 moved-map file other a b bf bo o in-range s ps e =
-    let r = moved-sheet file other a b bf bo o rowsSize in-range s ps e in
+    let r = moved-sheet file other a b bf bo o rows_size in-range s ps e in
     let m = r.along in
     record {
       along = m;
@@ -253,5 +253,5 @@ moved-map file other a b bf bo o in-range s ps e =
 
 pub moved-file-map : MovedFileMapPromise
 moved-file-map file a b bytes s ps e in-range =
-    let o = moved-offset file a b rowsSize s ps e in-range in
-    moved-map file (movedFile file a b) a b bytes (moved-bytes file a b bytes) o (moved-in-range file a b rowsSize s ps e in-range) s ps e
+    let o = moved-offset file a b rows_size s ps e in-range in
+    moved-map file (moved_file file a b) a b bytes (moved-bytes file a b bytes) o (moved-in-range file a b rows_size s ps e in-range) s ps e

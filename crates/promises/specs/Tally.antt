@@ -5,13 +5,13 @@ use Rattle.folds.specs.Below.{some, tally}
 use Rattle.folds.specs.Lists.{list_of}
 use Rattle.cells.specs.Points.{Point, nowhere}
 use Rattle.sheet_file.specs.declared.Settings.{Settings}
-use Rattle.ruling.specs.Ruling.{accepted, rulingOf}
-use Rattle.marks.specs.Filters.{filterCount}
-use Rattle.marks.specs.Byte.{firstMark}
-use Rattle.marks.specs.Tally.{isUnder}
-use Rattle.judging.specs.Judging.{judgedFor}
+use Rattle.ruling.specs.Ruling.{accepted, ruling_of}
+use Rattle.marks.specs.Filters.{filter_count}
+use Rattle.marks.specs.Byte.{first_mark}
+use Rattle.marks.specs.Tally.{is_under}
+use Rattle.judging.specs.Judging.{judged_for}
 use Rattle.kept.specs.Answer.{tally_of}
-use Rattle.promises.specs.Words.{DistinctIndices, marksIn}
+use Rattle.promises.specs.Words.{DistinctIndices, marks_in}
 
 -- how many different numbers f k there are, of the k below n that pass q: each is counted at the first such k that has it
 unfoldable pub different : (ℕ → Bool) → (ℕ → ℕ) → ℕ → ℕ
@@ -24,37 +24,37 @@ total [] = 0
 total (a ∷ l) = a + total l
 
 -- the old count, "yet the tally counts it at each cell": how many of n points with these bytes of marks are counted under filter f
-unfoldable pub pointsUnder : ℕ → List ℕ → ℕ → ℕ
-unfolding tally firstMark
-pointsUnder n marks f = tally (λ (k : ℕ). isUnder f (get_or marks k 0)) n
+unfoldable pub points_under : ℕ → List ℕ → ℕ → ℕ
+unfolding tally first_mark
+points_under n marks f = tally (λ (k : ℕ). is_under f (get_or marks k 0)) n
 
-unfoldable pub pointCounts : ℕ → List ℕ → List ℕ
-unfolding list_of pointsUnder
-pointCounts n marks = list_of (filterCount + 1) (pointsUnder n marks)
+unfoldable pub point_counts : ℕ → List ℕ → List ℕ
+unfolding list_of points_under
+point_counts n marks = list_of (filter_count + 1) (points_under n marks)
 
 -- every point passes
-abbrev pub anyPoint : ℕ → Bool
-anyPoint k = true
+abbrev pub any_point : ℕ → Bool
+any_point k = true
 
 -- the index of rank k
-abbrev pub indexIn : List Point → ℕ → ℕ
-indexIn ps k = (get_or ps k nowhere).index
+abbrev pub index_in : List Point → ℕ → ℕ
+index_in ps k = (get_or ps k nowhere).index
 
 -- "From now on the tally counts indices": of points ps in cell order with settings s
 pub record CountsIndices (s : Settings) (ps : List Point) : Type 0 where
   -- the cells of an index share their marks
-  pub shared : (i j : ℕ) → i < length ps → j < length ps → indexIn ps i ≡ indexIn ps j → marksIn s ps i ≡ marksIn s ps j
+  pub shared : (i j : ℕ) → i < length ps → j < length ps → index_in ps i ≡ index_in ps j → marks_in s ps i ≡ marks_in s ps j
   -- each index once, kept or under the first filter that marks it
-  pub once : (f : ℕ) → f ≤ filterCount → get_or (judgedFor s ps).tally f 0 ≡ different (λ (k : ℕ). isUnder f (marksIn s ps k)) (indexIn ps) (length ps)
+  pub once : (f : ℕ) → f ≤ filter_count → get_or (judged_for s ps).tally f 0 ≡ different (λ (k : ℕ). is_under f (marks_in s ps k)) (index_in ps) (length ps)
   -- its numbers add up to the number of different indices
-  pub sum : total (judgedFor s ps).tally ≡ different anyPoint (indexIn ps) (length ps)
+  pub sum : total (judged_for s ps).tally ≡ different any_point (index_in ps) (length ps)
   -- on a sheet without repeated indices it is the old count
-  pub as_before : DistinctIndices ps → (judgedFor s ps).tally ≡ pointCounts (length ps) (judgedFor s ps).marks
+  pub as_before : DistinctIndices ps → (judged_for s ps).tally ≡ point_counts (length ps) (judged_for s ps).marks
 
 -- the tally of every accepted file is so, whatever the buffer
 pub record FileTally (file : List ℕ) (room : ℕ) (s : Settings) (ps : List Point) : Type 0 where
-  pub tally : tally_of file room ≡ option.some (judgedFor s ps).tally
+  pub tally : tally_of file room ≡ option.some (judged_for s ps).tally
   pub counts : CountsIndices s ps
 
 abbrev pub TallyPromise : Type 0
-TallyPromise = (file : List ℕ) (room : ℕ) (s : Settings) (ps : List Point) → rulingOf file room ≡ accepted s ps → FileTally file room s ps
+TallyPromise = (file : List ℕ) (room : ℕ) (s : Settings) (ps : List Point) → ruling_of file room ≡ accepted s ps → FileTally file room s ps

@@ -6,6 +6,6 @@ use native.Mathlib.Omega.{arith}
 use Rattle.recorded.specs.Recorded.{differing}
 
 -- one case more
-pub one_more : {r : ℕ} (agrees : Bool) → r ≡ differing agrees → r ≤ 1
-one_more true e = omega arith
-one_more false e = omega arith
+pub one-more : {r : ℕ} (agrees : Bool) → r ≡ differing agrees → r ≤ 1
+one-more true e = omega arith
+one-more false e = omega arith

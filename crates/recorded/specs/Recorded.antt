@@ -22,27 +22,27 @@ unfolding list_of
 filler size = list_of size (λ (i : ℕ). i % 251)
 
 -- the number of a refusal is the recorded one; of an accepted sheet 0 is recorded, and its counts, that of the rounds too
-abbrev pub isRecorded : Answer → RecordedAnswer → Bool
-isRecorded (Refused k) r = eqb k r.number
-isRecorded (Accepted c) r = eqb r.number 0 && (eqb c.points r.points && (eqb c.components r.components && eqb c.rounds r.rounds))
+abbrev pub is_recorded : Answer → RecordedAnswer → Bool
+is_recorded (Refused k) r = eqb k r.number
+is_recorded (Accepted c) r = eqb r.number 0 && (eqb c.points r.points && (eqb c.components r.components && eqb c.rounds r.rounds))
 
 -- of the call for the fills: the number of a refusal; of an accepted sheet 0, and how many fills there are
-abbrev pub isFilled : FillAnswer → RecordedFills → Bool
-isFilled (fills.Refused k) r = eqb k r.number
-isFilled (fills.Filled c) r = eqb r.number 0 && eqb c.fills r.fills
+abbrev pub is_filled : FillAnswer → RecordedFills → Bool
+is_filled (fills.Refused k) r = eqb k r.number
+is_filled (fills.Filled c) r = eqb r.number 0 && eqb c.fills r.fills
 
 -- two records of a run are the same
-abbrev pub sameRun : Run → Run → Bool
-sameRun a b = (same_list a.old_sums b.old_sums && eqb a.sheets b.sheets) && same_list a.new_sums b.new_sums
+abbrev pub same_run : Run → Run → Bool
+same_run a b = (same_list a.old_sums b.old_sums && eqb a.sheets b.sheets) && same_list a.new_sums b.new_sums
 
 -- t was written whole to the start of the buffer
-abbrev pub isShown : Written → List ℕ → List ℕ → Bool
-isShown (Whole n) out t = leb n (length out) && same_list (take n out) t
-isShown NoRoom out t = false
+abbrev pub is_shown : Written → List ℕ → List ℕ → Bool
+is_shown (Whole n) out t = leb n (length out) && same_list (take n out) t
+is_shown NoRoom out t = false
 
 -- the recorded text was, which is the first `size` bytes of what was read
-abbrev pub isText : Written → List ℕ → List ℕ → ℕ → Bool
-isText written out recorded size = leb size (length recorded) && isShown written out (take size recorded)
+abbrev pub is_text : Written → List ℕ → List ℕ → ℕ → Bool
+is_text written out recorded size = leb size (length recorded) && is_shown written out (take size recorded)
 
 -- how many differ, of one case
 abbrev pub differing : Bool → ℕ

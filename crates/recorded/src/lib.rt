@@ -5,7 +5,7 @@
 
 ghost use Rattle.std.specs.Prelude.{◌≡◌, length};
 ghost use Rattle.folds.specs.Same.{same_list};
-ghost use Rattle.recorded.specs.Recorded.{Fits, filler, isRecorded, isFilled, sameRun, isText, differing};
+ghost use Rattle.recorded.specs.Recorded.{Fits, filler, is_recorded, is_filled, same_run, is_text, differing};
 
 use kept::Answer;
 use runs::{NEW_SUMS, OLD_SUMS, Run};
@@ -121,7 +121,7 @@ pub fn read_entries<R: Read>(input: &mut R, buffer: &mut [u8], size: u8, count: 
 // ---- what came against what is recorded
 
 pub fn is_recorded(answer: Answer, recorded: RecordedAnswer) -> bool
-    ensures { result ≡ isRecorded answer recorded }
+    ensures { result ≡ is_recorded answer recorded }
 {
     match answer {
         Answer::Refused(number) => number as usize == recorded.number,
@@ -141,7 +141,7 @@ pub fn is_recorded(answer: Answer, recorded: RecordedAnswer) -> bool
 }
 
 pub fn is_filled(answer: FillAnswer, recorded: RecordedFills) -> bool
-    ensures { result ≡ isFilled answer recorded }
+    ensures { result ≡ is_filled answer recorded }
 {
     match answer {
         FillAnswer::Refused(number) => number as usize == recorded.number,
@@ -172,7 +172,7 @@ fn same_words(a: &[u32], b: &[u32]) -> bool
 
 // Whether two records of a run are the same.
 pub fn same_run(a: Run, b: Run) -> bool
-    ensures { result ≡ sameRun a b }
+    ensures { result ≡ same_run a b }
 {
     let old_a = a.old_sums;
     let old_b = b.old_sums;
@@ -185,7 +185,7 @@ pub fn same_run(a: Run, b: Run) -> bool
 
 // Whether a text was written whole to the start of the buffer, and is the recorded one, the first `size` bytes of `recorded`.
 pub fn is_text(written: Written, out: &[u8], recorded: &[u8], size: usize) -> bool
-    ensures { result ≡ isText written out.now recorded.now size }
+    ensures { result ≡ is_text written out.now recorded.now size }
 {
     if recorded.len() < size {
         return false;

@@ -12,9 +12,9 @@ ruled refuse z [] = z
 ruled refuse z (c ∷ l) = cond c.1 (refuse c.0) (ruled refuse z l)
 
 -- the condition of number k holds
-abbrev pub appliesIn : List Refusal → ℕ → Bool
-appliesIn [] k = false
-appliesIn (c ∷ l) k = cond (eqb c.0 k) c.1 (appliesIn l k)
+abbrev pub applies_in : List Refusal → ℕ → Bool
+applies_in [] k = false
+applies_in (c ∷ l) k = cond (eqb c.0 k) c.1 (applies_in l k)
 
 -- the number given, 0 for none, as code hands it on
 abbrev pub number_in : List Refusal → ℕ

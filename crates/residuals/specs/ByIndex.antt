@@ -2,26 +2,26 @@
 use Rattle.std.specs.Prelude.{Bool, true, false, cond, ◌&&◌, ℕ, ltb, Float}
 use Rattle.std.specs.Float.{nan}
 use Rattle.std.specs.Float.Ieee.{lt}
-use Rattle.folds.specs.Arith.{◌⊗◌, zeroF}
+use Rattle.folds.specs.Arith.{◌⊗◌, zero_f}
 use Rattle.folds.specs.Below.{last}
 use Rattle.folds.specs.Column.{column}
 use Rattle.folds.specs.Marked.{bit}
 use Rattle.float.specs.Constants.{two}
-use Rattle.view.specs.View.{View, maxPoints, alike, indexHas}
+use Rattle.view.specs.View.{View, max_points, alike, index_has}
 use Rattle.cells.specs.Cell.{Cell}
-use Rattle.local_h.specs.Residual.{residualAt}
+use Rattle.local_h.specs.Residual.{residual_at}
 use Rattle.local_h.specs.declared.Residual.{Residual}
 use Rattle.local_h.specs.declared.Residual.TheVariants.{Value, NoFit}
 use Rattle.residuals.specs.declared.Residuals.{Residuals}
 
-abbrev pub hasValue : Residual → Bool
-hasValue (Value x) = true
-hasValue NoFit = false
+abbrev pub has_value : Residual → Bool
+has_value (Value x) = true
+has_value NoFit = false
 
 -- "Absent is zero"
 abbrev pub value_of : Residual → Float
 value_of (Value x) = x
-value_of NoFit = zeroF
+value_of NoFit = zero_f
 
 -- "residual over tolerance", where the limit is the tolerance times the scale of the index
 abbrev pub exceeds : Float → Residual → Bool
@@ -29,45 +29,45 @@ exceeds limit (Value x) = lt limit x
 exceeds limit NoFit = false
 
 -- "residual over twice the tolerance", which the source asks only of a residual over the tolerance
-abbrev pub isHigh : Float → Residual → Bool
-isHigh limit r = exceeds limit r && exceeds (two ⊗ limit) r
+abbrev pub is_high : Float → Residual → Bool
+is_high limit r = exceeds limit r && exceeds (two ⊗ limit) r
 
 -- the value of the last rank with rank k's index that has the mark t, or 0
-abbrev pub lastValue : View → (ℕ → Bool) → (ℕ → Float) → ℕ → Float
-lastValue w t value k = let j = last (λ (j : ℕ). t j && alike w j k) w.count w.count in cond (ltb j w.count) (value j) zeroF
+abbrev pub last_value : View → (ℕ → Bool) → (ℕ → Float) → ℕ → Float
+last_value w t value k = let j = last (λ (j : ℕ). t j && alike w j k) w.count w.count in cond (ltb j w.count) (value j) zero_f
 
 module _ (w : View) (cell : ℕ → Cell) where
   -- the last rank with rank k's index that has a residual, or the count
-  unfoldable pub lastFit : ℕ → ℕ
-  lastFit k = last (λ (j : ℕ). hasValue (residualAt w cell j) && alike w j k) w.count w.count
+  unfoldable pub last_fit : ℕ → ℕ
+  last_fit k = last (λ (j : ℕ). has_value (residual_at w cell j) && alike w j k) w.count w.count
 
   -- "a residual comes from the last cell, in the order of the rows, having one"
-  unfoldable pub indexResidual : ℕ → Residual
-  indexResidual k = cond (ltb (lastFit k) w.count) (residualAt w cell (lastFit k)) NoFit
+  unfoldable pub index_residual : ℕ → Residual
+  index_residual k = cond (ltb (last_fit k) w.count) (residual_at w cell (last_fit k)) NoFit
 
   module _ (scale : ℕ → Float) (tolerance : Float) where
-    abbrev pub overAt : ℕ → Bool
-    overAt k = exceeds (tolerance ⊗ scale k) (residualAt w cell k)
+    abbrev pub over_at : ℕ → Bool
+    over_at k = exceeds (tolerance ⊗ scale k) (residual_at w cell k)
 
-    abbrev pub highAt : ℕ → Bool
-    highAt k = isHigh (tolerance ⊗ scale k) (residualAt w cell k)
+    abbrev pub high_at : ℕ → Bool
+    high_at k = is_high (tolerance ⊗ scale k) (residual_at w cell k)
 
     -- what each rank has
-    unfoldable pub cellColumns : Residuals
-    cellColumns =
+    unfoldable pub cell_columns : Residuals
+    cell_columns =
         record {
-          has = column maxPoints 0 w.count (λ (k : ℕ). bit (hasValue (residualAt w cell k)));
-          value = column maxPoints nan w.count (λ (k : ℕ). value_of (residualAt w cell k));
-          over = column maxPoints 0 w.count (λ (k : ℕ). bit (overAt k));
-          high = column maxPoints 0 w.count (λ (k : ℕ). bit (highAt k));
+          has = column max_points 0 w.count (λ (k : ℕ). bit (has_value (residual_at w cell k)));
+          value = column max_points nan w.count (λ (k : ℕ). value_of (residual_at w cell k));
+          over = column max_points 0 w.count (λ (k : ℕ). bit (over_at k));
+          high = column max_points 0 w.count (λ (k : ℕ). bit (high_at k));
         }
 
     -- what the index of each rank has: "a flag from any cell stays"
-    unfoldable pub indexColumns : Residuals
-    indexColumns =
+    unfoldable pub index_columns : Residuals
+    index_columns =
         record {
-          has = column maxPoints 0 w.count (λ (k : ℕ). bit (hasValue (indexResidual k)));
-          value = column maxPoints nan w.count (λ (k : ℕ). value_of (indexResidual k));
-          over = column maxPoints 0 w.count (λ (k : ℕ). bit (indexHas w overAt k));
-          high = column maxPoints 0 w.count (λ (k : ℕ). bit (indexHas w highAt k));
+          has = column max_points 0 w.count (λ (k : ℕ). bit (has_value (index_residual k)));
+          value = column max_points nan w.count (λ (k : ℕ). value_of (index_residual k));
+          over = column max_points 0 w.count (λ (k : ℕ). bit (index_has w over_at k));
+          high = column max_points 0 w.count (λ (k : ℕ). bit (index_has w high_at k));
         }

@@ -4,9 +4,9 @@
 ghost use Rattle.std.specs.Prelude.{◌≡◌, ℕ, ◌≤◌, get_or};
 ghost use Rattle.std.specs.Float.{nan};
 ghost use Rattle.folds.specs.Marked.{bit};
-ghost use Rattle.view.specs.View.{maxPoints, viewAt, Ranked};
-ghost use Rattle.cells.specs.Cell.{cellsAt};
-ghost use Rattle.residuals.specs.ByIndex.{hasValue, value_of, exceeds, isHigh, cellColumns, indexColumns};
+ghost use Rattle.view.specs.View.{max_points, view_at, Ranked};
+ghost use Rattle.cells.specs.Cell.{cells_at};
+ghost use Rattle.residuals.specs.ByIndex.{has_value, value_of, exceeds, is_high, cell_columns, index_columns};
 
 use local_h::Residual;
 use view::{Floats, MAX_POINTS, Marks, Ranks, Words};
@@ -23,7 +23,7 @@ pub struct Residuals {
 }
 
 fn has_value(r: Residual) -> u8
-    ensures { result ≡ bit (hasValue r) }
+    ensures { result ≡ bit (has_value r) }
 {
     match r {
         Residual::Value(_) => 1,
@@ -50,7 +50,7 @@ fn exceeds_limit(limit: f32, r: Residual) -> bool
 }
 
 fn is_high(limit: f32, r: Residual) -> bool
-    ensures { result ≡ isHigh limit r }
+    ensures { result ≡ is_high limit r }
 {
     if exceeds_limit(limit, r) {
         return exceeds_limit(2.0 * limit, r);
@@ -68,8 +68,8 @@ fn cell_residuals(
     n: usize,
     tolerance: f32,
 ) -> Residuals
-    requires { n ≤ maxPoints }
-    ensures { result ≡ cellColumns (viewAt n ranks.now x.now y.now) (cellsAt keys.now) (λ (j : ℕ). get_or scale.now j nan) tolerance }
+    requires { n ≤ max_points }
+    ensures { result ≡ cell_columns (view_at n ranks.now x.now y.now) (cells_at keys.now) (λ (j : ℕ). get_or scale.now j nan) tolerance }
 {
     let none: f32 = 0.0 / 0.0;
     let mut has = [0u8; MAX_POINTS];
@@ -105,7 +105,7 @@ pub fn index_residuals(
     tolerance: f32,
 ) -> Residuals
     requires { Ranked n ranks.now }
-    ensures { result ≡ indexColumns (viewAt n ranks.now x.now y.now) (cellsAt keys.now) (λ (j : ℕ). get_or scale.now j nan) tolerance }
+    ensures { result ≡ index_columns (view_at n ranks.now x.now y.now) (cells_at keys.now) (λ (j : ℕ). get_or scale.now j nan) tolerance }
 {
     let cells = cell_residuals(ranks, keys, x, y, scale, n, tolerance);
     let has = cells.has;

@@ -10,12 +10,12 @@ use lib.Seq.{get_or-append-add, get_or-drop}
 use lib.Ieee.{Float, nan, binary32, of_bits, to_bits}
 use Rattle.edge_shape.specs.declared.Measure.TheVariants.{Absent, Held}
 use Rattle.edge_shape.specs.declared.Reason.TheVariants.{BadContinuation}
-use Rattle.edge_shape.specs.Figures.{noFigures}
+use Rattle.edge_shape.specs.Figures.{no_figures}
 use Rattle.folds.specs.Lists.{list_of}
 use Rattle.folds.proofs.Lists.{length-list, list_at, is-list}
 use Rattle.folds.specs.Marked.{bit}
-use Rattle.sheet_file.specs.Bytes.{littleEndian}
-use Rattle.rows.specs.Rows.{bits_of, isPresent, row_of, rowSize, rowByte, rowsOver}
+use Rattle.sheet_file.specs.Bytes.{little_endian}
+use Rattle.rows.specs.Rows.{bits_of, is_present, row_of, row_size, row_byte, rows_over}
 use Rattle.judged.specs.Shown.{Shown}
 use Rattle.rows.proofs.Laws.{row-length, row-byte}
 
@@ -38,10 +38,10 @@ unfolding row_of of_bits
 worked-row = refl
 
 -- "Without tag 2, bytes 1, 3 to 7 and all edge floats are zero": of a point without figures
-pub blank-row : (marks : ℕ) (residual : Option Float) → row_of (record { marks = marks; residual = residual; figures = noFigures; boundary = 0 })
-    ≡ marks ∷ 0 ∷ bit (isPresent residual) ∷ replicate 5 0 ++ littleEndian (bits_of residual) ++ replicate 16 0
+pub blank-row : (marks : ℕ) (residual : Option Float) → row_of (record { marks = marks; residual = residual; figures = no_figures; boundary = 0 })
+    ≡ marks ∷ 0 ∷ bit (is_present residual) ∷ replicate 5 0 ++ little_endian (bits_of residual) ++ replicate 16 0
 unfolding row_of
-blank-row marks residual = rw (add-zero (bit (isPresent residual)))
+blank-row marks residual = rw (add-zero (bit (is_present residual)))
 
 -- ---- the rows, one after the other
 
@@ -72,32 +72,32 @@ module _ (shown : ℕ → Shown) where
       ∙ ap (λ (m : ℕ). get_or (row_of (shown m)) j 0) (sym z)
 
   -- the bytes of the rows are the rows, one after the other
-  pub rows-joined : (n : ℕ) → list_of (28 * n) (rowByte shown) ≡ rows_from shown 0 n
-  rows-joined n = sym (is-list 0 (28 * n) (rowByte shown) (rows_from shown 0 n) (rows-length 0 n) (λ i h. go i h))
+  pub rows-joined : (n : ℕ) → list_of (28 * n) (row_byte shown) ≡ rows_from shown 0 n
+  rows-joined n = sym (is-list 0 (28 * n) (row_byte shown) (rows_from shown 0 n) (rows-length 0 n) (λ i h. go i h))
     where
-      go : (i : ℕ) → i < 28 * n → get_or (rows_from shown 0 n) i 0 ≡ rowByte shown i
+      go : (i : ℕ) → i < 28 * n → get_or (rows_from shown 0 n) i 0 ≡ row_byte shown i
       go i h =
           let e : 28 * (i / 28) + i % 28 ≡ i = omega arith in
           let z : 0 + i / 28 ≡ i / 28 = omega arith in
           rw (← e) (rows-byte 0 n (i / 28) (i % 28) (omega arith) (omega arith) ∙ rw z (sym (row-byte shown (i / 28) (i % 28) (omega arith))))
 
   -- the buffer: the rows, and what stood beyond
-  pub buffer-is : (n : ℕ) (l : List ℕ) → rowsOver n shown l ≡ rows_from shown 0 n ++ drop (rowSize * n) l
-  unfolding rowsOver
-  buffer-is n l = ap (λ (r : List ℕ). r ++ drop (rowSize * n) l) (rows-joined n)
+  pub buffer-is : (n : ℕ) (l : List ℕ) → rows_over n shown l ≡ rows_from shown 0 n ++ drop (row_size * n) l
+  unfolding rows_over
+  buffer-is n l = ap (λ (r : List ℕ). r ++ drop (row_size * n) l) (rows-joined n)
 
   -- byte j of row k in the buffer
-  pub byte-shown : (n : ℕ) (l : List ℕ) (k j : ℕ) → k < n → j < rowSize → get_or (rowsOver n shown l) (rowSize * k + j) 0 ≡ get_or (row_of (shown k)) j 0
-  unfolding rowsOver
+  pub byte-shown : (n : ℕ) (l : List ℕ) (k j : ℕ) → k < n → j < row_size → get_or (rows_over n shown l) (row_size * k + j) 0 ≡ get_or (row_of (shown k)) j 0
+  unfolding rows_over
   byte-shown n l k j h m =
-      get_or-append (list_of (rowSize * n) (rowByte shown)) (drop (rowSize * n) l) 0 (rowSize * k + j) (omega (arith, length-list (rowSize * n) (rowByte shown)))
-      ∙ list_at (rowSize * n) (rowByte shown) (rowSize * k + j) 0 (omega arith) ∙ row-byte shown k j m
+      get_or-append (list_of (row_size * n) (row_byte shown)) (drop (row_size * n) l) 0 (row_size * k + j) (omega (arith, length-list (row_size * n) (row_byte shown)))
+      ∙ list_at (row_size * n) (row_byte shown) (row_size * k + j) 0 (omega arith) ∙ row-byte shown k j m
 
   -- each byte after the rows is as it was
-  pub byte-beyond : (n : ℕ) (l : List ℕ) (i : ℕ) → rowSize * n ≤ i → get_or (rowsOver n shown l) i 0 ≡ get_or l i 0
-  unfolding rowsOver
+  pub byte-beyond : (n : ℕ) (l : List ℕ) (i : ℕ) → row_size * n ≤ i → get_or (rows_over n shown l) i 0 ≡ get_or l i 0
+  unfolding rows_over
   byte-beyond n l i h =
-      let e : length (list_of (rowSize * n) (rowByte shown)) + (i - rowSize * n) ≡ i = omega (arith, length-list (rowSize * n) (rowByte shown)) in
-      let w : rowSize * n + (i - rowSize * n) ≡ i = omega arith in
-      rw e at (get_or-append-add (list_of (rowSize * n) (rowByte shown)) (drop (rowSize * n) l) (i - rowSize * n) 0)
-      ∙ get_or-drop (rowSize * n) l (i - rowSize * n) 0 ∙ ap (λ (m : ℕ). get_or l m 0) w
+      let e : length (list_of (row_size * n) (row_byte shown)) + (i - row_size * n) ≡ i = omega (arith, length-list (row_size * n) (row_byte shown)) in
+      let w : row_size * n + (i - row_size * n) ≡ i = omega arith in
+      rw e at (get_or-append-add (list_of (row_size * n) (row_byte shown)) (drop (row_size * n) l) (i - row_size * n) 0)
+      ∙ get_or-drop (row_size * n) l (i - row_size * n) 0 ∙ ap (λ (m : ℕ). get_or l m 0) w

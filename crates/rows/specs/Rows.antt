@@ -5,11 +5,11 @@ use Rattle.std.specs.Float.{binary32}
 use Rattle.std.specs.Float.Ieee.{to_bits}
 use Rattle.folds.specs.Column.{overlaid}
 use Rattle.folds.specs.Marked.{bit}
-use Rattle.edge_shape.specs.Figures.{reasonNumber}
+use Rattle.edge_shape.specs.Figures.{reason_number}
 use Rattle.edge_shape.specs.declared.Measure.{Measure}
 use Rattle.edge_shape.specs.declared.Measure.TheVariants.{Absent, Held}
 use Rattle.judged.specs.Shown.{Shown}
-use Rattle.sheet_file.specs.Bytes.{littleEndian}
+use Rattle.sheet_file.specs.Bytes.{little_endian}
 
 -- ---- the floats
 
@@ -18,32 +18,32 @@ abbrev pub bits_of : Option Float → ℕ
 bits_of none = 0
 bits_of (some x) = to_bits binary32 x
 
-abbrev pub isPresent : Option Float → Bool
-isPresent none = false
-isPresent (some x) = true
+abbrev pub is_present : Option Float → Bool
+is_present none = false
+is_present (some x) = true
 
 -- the least cosine and the largest ratio of a measure
-abbrev pub cosineOf : Measure → Option Float
-cosineOf Absent = none
-cosineOf (Held c q) = some c
+abbrev pub cosine_of : Measure → Option Float
+cosine_of Absent = none
+cosine_of (Held c q) = some c
 
-abbrev pub ratioOf : Measure → Option Float
-ratioOf Absent = none
-ratioOf (Held c q) = some q
+abbrev pub ratio_of : Measure → Option Float
+ratio_of Absent = none
+ratio_of (Held c q) = some q
 
 -- "residual, least continuation cosine, largest continuation ratio, least cell cosine, largest cell ratio"
-abbrev pub floatsOf : Option Float → Measure → Measure → List (Option Float)
-floatsOf residual continuation cells = residual ∷ cosineOf continuation ∷ ratioOf continuation ∷ cosineOf cells ∷ ratioOf cells ∷ []
+abbrev pub floats_of : Option Float → Measure → Measure → List (Option Float)
+floats_of residual continuation cells = residual ∷ cosine_of continuation ∷ ratio_of continuation ∷ cosine_of cells ∷ ratio_of cells ∷ []
 
 -- "Byte 2: which floats are present, from bit 0 in the order below."
 abbrev pub presence : List (Option Float) → ℕ
 presence [] = 0
-presence (x ∷ l) = bit (isPresent x) + 2 * presence l
+presence (x ∷ l) = bit (is_present x) + 2 * presence l
 
 -- "From byte 8, f32s"
-abbrev pub floatBytes : List (Option Float) → List ℕ
-floatBytes [] = []
-floatBytes (x ∷ l) = littleEndian (bits_of x) ++ floatBytes l
+abbrev pub float_bytes : List (Option Float) → List ℕ
+float_bytes [] = []
+float_bytes (x ∷ l) = little_endian (bits_of x) ++ float_bytes l
 
 -- ---- a row
 
@@ -52,23 +52,23 @@ unfoldable pub row_of : Shown → List ℕ
 unfolding to_bits
 row_of s =
     let f = s.figures in
-    let floats = floatsOf s.residual f.continuation f.cells in
-    s.marks ∷ reasonNumber f.reason ∷ presence floats
+    let floats = floats_of s.residual f.continuation f.cells in
+    s.marks ∷ reason_number f.reason ∷ presence floats
     ∷ f.degree ∷ s.boundary ∷ f.adjacent ∷ f.valid ∷ 0
-    ∷ floatBytes floats
+    ∷ float_bytes floats
 
 -- ---- the rows of a sheet
 
 -- the bytes of a row: "28 bytes per point"
-abbrev pub rowSize : ℕ
-rowSize = 28
+abbrev pub row_size : ℕ
+row_size = 28
 
 -- byte i of the rows: byte i % 28 of row i / 28
-unfoldable pub rowByte : (ℕ → Shown) → ℕ → ℕ
+unfoldable pub row_byte : (ℕ → Shown) → ℕ → ℕ
 unfolding row_of
-rowByte shown i = get_or (row_of (shown (i / rowSize))) (i % rowSize) 0
+row_byte shown i = get_or (row_of (shown (i / row_size))) (i % row_size) 0
 
 -- the buffer with the rows of n ranks, and what stood beyond them
-unfoldable pub rowsOver : ℕ → (ℕ → Shown) → List ℕ → List ℕ
+unfoldable pub rows_over : ℕ → (ℕ → Shown) → List ℕ → List ℕ
 unfolding overlaid
-rowsOver n shown buffer = overlaid (rowSize * n) (rowByte shown) buffer
+rows_over n shown buffer = overlaid (row_size * n) (row_byte shown) buffer

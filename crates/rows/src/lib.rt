@@ -3,12 +3,12 @@
 
 ghost use Rattle.std.specs.Prelude.{◌≡◌, ◌+◌, ◌*◌, ◌≤◌, length};
 ghost use Rattle.std.proofs.lemmas.List.Edits.{sets};
-ghost use Rattle.view.specs.View.{maxPoints};
+ghost use Rattle.view.specs.View.{max_points};
 ghost use Rattle.folds.specs.Marked.{bit};
-ghost use Rattle.judged.specs.Judged.{judgedFrom};
-ghost use Rattle.judged.specs.Shown.{residualOf, shownAt};
-ghost use Rattle.sheet_file.specs.Bytes.{littleEndian};
-ghost use Rattle.rows.specs.Rows.{bits_of, isPresent, cosineOf, ratioOf, floatsOf, presence, row_of, rowSize, rowsOver};
+ghost use Rattle.judged.specs.Judged.{judged_from};
+ghost use Rattle.judged.specs.Shown.{residual_of, shown_at};
+ghost use Rattle.sheet_file.specs.Bytes.{little_endian};
+ghost use Rattle.rows.specs.Rows.{bits_of, is_present, cosine_of, ratio_of, floats_of, presence, row_of, row_size, rows_over};
 
 use edge_shape::{Figures, Measure};
 use judged::Findings;
@@ -20,7 +20,7 @@ pub const ROW_SIZE: usize = 28;
 // Puts the bytes of b into the rows from a place on, the lowest first.
 fn put_word(b: u32, rows: &mut [u8], at: usize)
     requires { at + 4 ≤ length rows.old }
-    ensures { rows.new ≡ sets rows.old at (littleEndian b) }
+    ensures { rows.new ≡ sets rows.old at (little_endian b) }
 {
     rows[at] = (b % 256) as u8;
     rows[at + 1] = (b / 256 % 256) as u8;
@@ -30,7 +30,7 @@ fn put_word(b: u32, rows: &mut [u8], at: usize)
 
 // The pattern of the residual, or 0.
 fn residual_bits(has: u8, value: f32) -> u32
-    ensures { result ≡ bits_of (residualOf has value) }
+    ensures { result ≡ bits_of (residual_of has value) }
 {
     if has == 1 {
         return float::to_bits(value);
@@ -40,7 +40,7 @@ fn residual_bits(has: u8, value: f32) -> u32
 
 // The pattern of the cosine, or 0.
 fn cosine_bits(m: Measure) -> u32
-    ensures { result ≡ bits_of (cosineOf m) }
+    ensures { result ≡ bits_of (cosine_of m) }
 {
     match m {
         Measure::Absent => 0,
@@ -50,7 +50,7 @@ fn cosine_bits(m: Measure) -> u32
 
 // The pattern of the ratio, or 0.
 fn ratio_bits(m: Measure) -> u32
-    ensures { result ≡ bits_of (ratioOf m) }
+    ensures { result ≡ bits_of (ratio_of m) }
 {
     match m {
         Measure::Absent => 0,
@@ -60,7 +60,7 @@ fn ratio_bits(m: Measure) -> u32
 
 // 1 if there is a residual, else 0.
 fn residual_count(has: u8, value: f32) -> u8
-    ensures { (result ≡ bit (isPresent (residualOf has value))) × (result ≤ 1) }
+    ensures { (result ≡ bit (is_present (residual_of has value))) × (result ≤ 1) }
 {
     if has == 1 {
         return 1;
@@ -70,7 +70,7 @@ fn residual_count(has: u8, value: f32) -> u8
 
 // 1 if there are a cosine and a ratio, else 0.
 fn measure_count(m: Measure) -> u8
-    ensures { (result ≡ bit (isPresent (cosineOf m))) × (result ≤ 1) }
+    ensures { (result ≡ bit (is_present (cosine_of m))) × (result ≤ 1) }
 {
     match m {
         Measure::Absent => 0,
@@ -80,15 +80,15 @@ fn measure_count(m: Measure) -> u8
 
 // Which floats are present: the cosine and the ratio of a measure are so together.
 fn present(has: u8, value: f32, continuation: Measure, cells: Measure) -> u8
-    ensures { result ≡ presence (floatsOf (residualOf has value) continuation cells) }
+    ensures { result ≡ presence (floats_of (residual_of has value) continuation cells) }
 {
     residual_count(has, value) + 6 * measure_count(continuation) + 24 * measure_count(cells)
 }
 
 // Puts the row that shows these into the rows, from a place on.
 fn put_row(marks: u8, has: u8, value: f32, f: Figures, boundary: u8, rows: &mut [u8], at: usize)
-    requires { at + rowSize ≤ length rows.old }
-    ensures { rows.new ≡ sets rows.old at (row_of (record { marks = marks; residual = residualOf has value; figures = f; boundary = boundary })) }
+    requires { at + row_size ≤ length rows.old }
+    ensures { rows.new ≡ sets rows.old at (row_of (record { marks = marks; residual = residual_of has value; figures = f; boundary = boundary })) }
 {
     let continuation = f.continuation;
     let cells = f.cells;
@@ -118,8 +118,8 @@ pub fn write_rows(
     n: usize,
     rows: &mut [u8],
 )
-    requires { (n ≤ maxPoints) × (rowSize * n ≤ length rows.old) }
-    ensures { rows.new ≡ rowsOver n (shownAt (judgedFrom j counts.now measures.now)) rows.old }
+    requires { (n ≤ max_points) × (row_size * n ≤ length rows.old) }
+    ensures { rows.new ≡ rows_over n (shown_at (judged_from j counts.now measures.now)) rows.old }
 {
     let mut k: usize = 0;
     while k < n {

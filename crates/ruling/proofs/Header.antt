@@ -8,13 +8,13 @@ use Prim.Native.Nat.{ℕ, ◌+◌, ◌*◌, ◌/◌, ◌≤◌, ◌<◌}
 use native.Mathlib.Omega.{arith}
 use lib.Ieee.{Float}
 use lib.ListN.{length, get_or}
-use Rattle.folds.specs.Among.{anyIn}
+use Rattle.folds.specs.Among.{any_in}
 use Rattle.folds.proofs.Below.{and-under}
 use Rattle.refusals.specs.First.{ruled}
 use Rattle.sheet_file.specs.Bytes.{byte_at, le16, le32}
 use Rattle.sheet_file.specs.Limit.{outside}
-use Rattle.sheet_file.specs.Frame.{fieldAt, unweighed, strengthsFrom, pointsFrom, gateFrom, framingOf, gateStart}
-use Rattle.sheet_file.specs.Refusals.{float_at, defaultsFor, settingsIn, gateIn, edgeShapeOf, fractionIn, fractionOf, settingsOf, badFlag, settingsFloats, gateFloats, badFloat, headerRefusals}
+use Rattle.sheet_file.specs.Frame.{field_at, unweighed, strengths_from, points_from, gate_from, framing_of, gate_start}
+use Rattle.sheet_file.specs.Refusals.{float_at, defaults_for, settings_in, gate_in, edge_shape_of, fraction_in, fraction_of, settings_of, bad_flag, settings_floats, gate_floats, bad_float, header_refusals}
 use Rattle.sheet_file.specs.declared.Layout.{Layout}
 use Rattle.sheet_file.specs.declared.EdgeGate.{EdgeGate}
 use Rattle.sheet_file.specs.declared.EdgeGate.TheVariants.{Off, On}
@@ -23,9 +23,9 @@ use Rattle.sheet_file.specs.declared.Fraction.TheVariants.{Missing}
 use Rattle.sheet_file.specs.declared.Framing.TheVariants.{Framed, Misframed}
 use Rattle.sheet_file.proofs.Words.{le16-same, le32-same}
 use Rattle.sheet_file.proofs.Fields.{field_in, points-from-is, StrengthsAt, strengths-there, strengths-absent, GateAt, gate-there, gate-absent, Fields, full-settings, short-settings, fields-of, points-in, before-points}
-use Rattle.points.specs.Records.{pointsIn}
-use Rattle.ruling.specs.Ruling.{refused, rulingFor, rulingOf}
-use Rattle.ruling.specs.Header.{pointsEnd, Headed}
+use Rattle.points.specs.Records.{points_in}
+use Rattle.ruling.specs.Ruling.{refused, ruling_for, ruling_of}
+use Rattle.ruling.specs.Header.{points_end, Headed}
 use Rattle.ruling.specs.Switches.{switched}
 use Rattle.ruling.proofs.Given.{by-points}
 
@@ -34,9 +34,9 @@ use Rattle.ruling.proofs.Given.{by-points}
 pub record SameHeader (file other : List ℕ) (f : Layout) : Type 0 where
   pub size : length other ≡ length file
   pub same : (k : ℕ) → k < f.points → (f.full ≡ true → (k < 22) ⊎ (24 ≤ k)) → get_or other k 0 ≡ get_or file k 0
-  pub after : (k : ℕ) → pointsEnd f ≤ k → k < pointsEnd f + 7 → get_or other k 0 ≡ get_or file k 0
+  pub after : (k : ℕ) → points_end f ≤ k → k < points_end f + 7 → get_or other k 0 ≡ get_or file k 0
 
-module _ (file other : List ℕ) (f : Layout) (framed : framingOf file ≡ Framed f) (h : SameHeader file other f) where
+module _ (file other : List ℕ) (f : Layout) (framed : framing_of file ≡ Framed f) (h : SameHeader file other f) where
   -- ---- before the switches, and after them
 
   low : (k : ℕ) → k < 22 → k < f.points → get_or other k 0 ≡ get_or file k 0
@@ -62,39 +62,39 @@ module _ (file other : List ℕ) (f : Layout) (framed : framingOf file ≡ Frame
 
   -- ---- the fields
 
-  field-by : (at tag n : ℕ) → get_or other at 0 ≡ get_or file at 0 → le16 other (at + 1) ≡ le16 file (at + 1) → fieldAt other at tag n ≡ fieldAt file at tag n
-  unfolding fieldAt
+  field-by : (at tag n : ℕ) → get_or other at 0 ≡ get_or file at 0 → le16 other (at + 1) ≡ le16 file (at + 1) → field_at other at tag n ≡ field_at file at tag n
+  unfolding field_at
   field-by at tag n e q = rw (h.size, e, q)
 
-  late-field : (at tag n : ℕ) → Late at → at + 3 ≤ f.points → fieldAt other at tag n ≡ fieldAt file at tag n
+  late-field : (at tag n : ℕ) → Late at → at + 3 ≤ f.points → field_at other at tag n ≡ field_at file at tag n
   late-field at tag n l m = field-by at tag n (late at l (omega arith)) (late-half (at + 1) (λ t. omega (arith, l t)) (omega arith))
 
   -- tag 4, or the end
-  after-half : (at : ℕ) → pointsEnd f ≤ at → at + 2 ≤ pointsEnd f + 7 → le16 other at ≡ le16 file at
+  after-half : (at : ℕ) → points_end f ≤ at → at + 2 ≤ points_end f + 7 → le16 other at ≡ le16 file at
   after-half at l m = le16-same file at other at (λ k b. h.after (at + k) (omega arith) (omega arith))
 
-  after-word : (at : ℕ) → pointsEnd f ≤ at → at + 4 ≤ pointsEnd f + 7 → le32 other at ≡ le32 file at
+  after-word : (at : ℕ) → points_end f ≤ at → at + 4 ≤ points_end f + 7 → le32 other at ≡ le32 file at
   after-word at l m = le32-same file at other at (λ k b. h.after (at + k) (omega arith) (omega arith))
 
-  strengths-same : (g : Layout) → strengthsFrom other (pointsEnd f) g ≡ strengthsFrom file (pointsEnd f) g
-  unfolding strengthsFrom
+  strengths-same : (g : Layout) → strengths_from other (points_end f) g ≡ strengths_from file (points_end f) g
+  unfolding strengths_from
   strengths-same g =
-      let at = pointsEnd f in
+      let at = points_end f in
       let n : le16 other (at + 1) ≡ le16 file (at + 1) = after-half (at + 1) (omega arith) (omega arith) in
       rw (h.size, n, field-by at 4 (le16 file (at + 1)) (h.after at (omega arith) (omega arith)) n)
 
-  points-same : (at : ℕ) (full gated : Bool) → Late at → pointsFrom file at full gated ≡ Framed f → pointsFrom other at full gated ≡ Framed f
+  points-same : (at : ℕ) (full gated : Bool) → Late at → points_from file at full gated ≡ Framed f → points_from other at full gated ≡ Framed f
   points-same at full gated l e =
       let p = points-in file f at full gated e in
       let s = (field_in file at 3 (20 * f.count) p.field-there).size_is in
       let m : at + 3 ≤ f.points = omega (arith, p.points-at) in
-      let q : at + 3 + le16 file (at + 1) ≡ pointsEnd f = omega (arith, s, p.points-at) in
+      let q : at + 3 + le16 file (at + 1) ≡ points_end f = omega (arith, s, p.points-at) in
       let n : le16 other (at + 1) ≡ le16 file (at + 1) = late-half (at + 1) (λ t. omega (arith, l t)) (omega arith) in
       rw (points-from-is other at full gated, n, late-field at 3 (le16 file (at + 1)) l m, q, strengths-same (unweighed full gated (at + 3) (le16 file (at + 1) / 20)))
       (rw (points-from-is file at full gated, q) at e)
 
-  gate_same : (at : ℕ) (full : Bool) → Late at → GateAt file f at full → gateFrom other at full ≡ Framed f
-  unfolding gateFrom
+  gate_same : (at : ℕ) (full : Bool) → Late at → GateAt file f at full → gate_from other at full ≡ Framed f
+  unfolding gate_from
   gate_same at full l (gate-there u e) =
       let p : at + 3 ≤ f.points = omega (arith, (points-in file f (at + 20) full true e).points-at) in
       rw (late-field at 2 17 l p, u) (points-same (at + 20) full true (λ t. omega (arith, l t)) e)
@@ -106,95 +106,95 @@ module _ (file other : List ℕ) (f : Layout) (framed : framingOf file ≡ Frame
   full_is at full (gate-there u e) = (points-in file f (at + 20) full true e).full_is
   full_is at full (gate-absent u e) = (points-in file f at full false e).full_is
 
-  frame-alike : framingOf other ≡ Framed f
-  unfolding framingOf
+  frame-alike : framing_of other ≡ Framed f
+  unfolding framing_of
   frame-alike = go (fields-of file f framed)
     where
-      first : (n : ℕ) → fieldAt other 0 1 n ≡ fieldAt file 0 1 n
+      first : (n : ℕ) → field_at other 0 1 n ≡ field_at file 0 1 n
       first n = let b = before-points file f framed in field-by 0 1 n (low 0 (omega arith) (omega arith)) (low_half 1 (omega arith) (omega arith))
 
-      go : Fields file f → cond (fieldAt other 0 1 21) (gateFrom other 24 true) (cond (fieldAt other 0 1 4) (gateFrom other 7 false) Misframed) ≡ Framed f
+      go : Fields file f → cond (field_at other 0 1 21) (gate_from other 24 true) (cond (field_at other 0 1 4) (gate_from other 7 false) Misframed) ≡ Framed f
       go (full-settings u g) = rw (first 21, u) (gate_same 24 true (λ t. omega arith) g)
       go (short-settings v u g) = rw (first 21, v, first 4, u) (gate_same 7 false (λ t. absurd (true≢false (sym t ∙ full_is 7 false g))) g)
 
   -- ---- the gate, which stands after the switches
 
-  gate-late : (b : Bool) → (b ≡ true → 24 ≤ gateStart b)
+  gate-late : (b : Bool) → (b ≡ true → 24 ≤ gate_start b)
   gate-late true t = omega arith
   gate-late false t = absurd (true≢false (sym t))
 
   gate-word : (at : ℕ) → Late at → at + 17 ≤ f.points → (j : ℕ) → j + 4 ≤ 17 → le32 other (at + j) ≡ le32 file (at + j)
   gate-word at l m j b = late-word (at + j) (λ t. omega (arith, l t)) (omega arith)
 
-  gate-floats : (at : ℕ) → Late at → at + 17 ≤ f.points → gateFloats other at ≡ gateFloats file at
+  gate-floats : (at : ℕ) → Late at → at + 17 ≤ f.points → gate_floats other at ≡ gate_floats file at
   gate-floats at l m =
       let word = gate-word at l m in
       rw (word 1 (omega arith), word 5 (omega arith), word 9 (omega arith), word 13 (omega arith))
 
-  gate-in-same : (at : ℕ) → Late at → at + 17 ≤ f.points → gateIn other at ≡ gateIn file at
-  unfolding gateIn
+  gate-in-same : (at : ℕ) → Late at → at + 17 ≤ f.points → gate_in other at ≡ gate_in file at
+  unfolding gate_in
   gate-in-same at l m =
       let word = gate-word at l m in
       rw (late at l (omega arith), word 1 (omega arith), word 5 (omega arith), word 9 (omega arith), word 13 (omega arith))
 
-  edge_same : edgeShapeOf other f ≡ edgeShapeOf file f
-  unfolding edgeShapeOf
+  edge_same : edge_shape_of other f ≡ edge_shape_of file f
+  unfolding edge_shape_of
   edge_same = go f.gated (before-points file f framed).gate
     where
-      go : (b : Bool) → (b ≡ true → gateStart f.full + 17 ≤ f.points) → cond b (On (gateIn other (gateStart f.full))) Off ≡ cond b (On (gateIn file (gateStart f.full))) Off
-      go true l = rw (gate-in-same (gateStart f.full) (gate-late f.full) (l refl))
+      go : (b : Bool) → (b ≡ true → gate_start f.full + 17 ≤ f.points) → cond b (On (gate_in other (gate_start f.full))) Off ≡ cond b (On (gate_in file (gate_start f.full))) Off
+      go true l = rw (gate-in-same (gate_start f.full) (gate-late f.full) (l refl))
       go false l = refl
 
   -- ---- the settings
 
-  settings-floats : settingsFloats other f.full ≡ settingsFloats file f.full
+  settings-floats : settings_floats other f.full ≡ settings_floats file f.full
   settings-floats = rw (low_word 3 (omega arith) (omega (arith, (before-points file f framed).short))) (go f.full (before-points file f framed).long)
     where
       go : (b : Bool) → (b ≡ true → 27 ≤ f.points) → float_at file 3 ∷ cond b (float_at other 7 ∷ float_at other 13 ∷ float_at other 18 ∷ []) [] ≡ float_at file 3 ∷ cond b (float_at file 7 ∷ float_at file 13 ∷ float_at file 18 ∷ []) []
       go true l = let m = l refl in rw (low_word 7 (omega arith) (omega arith), low_word 13 (omega arith) (omega arith), low_word 18 (omega arith) (omega arith))
       go false l = refl
 
-  floats_same : badFloat other f ≡ badFloat file f
-  unfolding badFloat
+  floats_same : bad_float other f ≡ bad_float file f
+  unfolding bad_float
   floats_same =
-      ap (λ (l : List Float). anyIn outside l || (f.gated && anyIn outside (gateFloats other (gateStart f.full)))) settings-floats
-      ∙ ap (λ (b : Bool). anyIn outside (settingsFloats file f.full) || b)
-      (and-under f.gated (λ e. ap (anyIn outside) (gate-floats (gateStart f.full) (gate-late f.full) ((before-points file f framed).gate e))))
+      ap (λ (l : List Float). any_in outside l || (f.gated && any_in outside (gate_floats other (gate_start f.full)))) settings-floats
+      ∙ ap (λ (b : Bool). any_in outside (settings_floats file f.full) || b)
+      (and-under f.gated (λ e. ap (any_in outside) (gate-floats (gate_start f.full) (gate-late f.full) ((before-points file f framed).gate e))))
 
-  fraction-same : fractionOf other f ≡ fractionOf file f
-  unfolding fractionOf
+  fraction-same : fraction_of other f ≡ fraction_of file f
+  unfolding fraction_of
   fraction-same = go f.weighed (strengths-at (before-points file f framed).after)
     where
-      strengths-at : StrengthsAt file f (pointsEnd f) → f.weighed ≡ true → f.strengths ≡ pointsEnd f + 3
+      strengths-at : StrengthsAt file f (points_end f) → f.weighed ≡ true → f.strengths ≡ points_end f + 3
       strengths-at (strengths-there t w s e) b = s
       strengths-at (strengths-absent w e) b = absurd (true≢false (sym b ∙ w))
 
-      go : (b : Bool) → (b ≡ true → f.strengths ≡ pointsEnd f + 3) → cond b (fractionIn (float_at other f.strengths)) Missing ≡ cond b (fractionIn (float_at file f.strengths)) Missing
+      go : (b : Bool) → (b ≡ true → f.strengths ≡ points_end f + 3) → cond b (fraction_in (float_at other f.strengths)) Missing ≡ cond b (fraction_in (float_at file f.strengths)) Missing
       go true s = let e = s refl in rw (after-word f.strengths (omega arith) (omega arith))
       go false s = refl
 
-  settings-in-same : (g : EdgeGate) (x : Fraction) → 27 ≤ f.points → settingsIn other g x ≡ switched (settingsIn file g x) (byte_at other 22) (byte_at other 23)
-  unfolding settingsIn
+  settings-in-same : (g : EdgeGate) (x : Fraction) → 27 ≤ f.points → settings_in other g x ≡ switched (settings_in file g x) (byte_at other 22) (byte_at other 23)
+  unfolding settings_in
   settings-in-same g x l =
       rw (low_word 3 (omega arith) (omega arith), low_word 7 (omega arith) (omega arith), low_half 11 (omega arith) (omega arith), low_word 13 (omega arith) (omega arith), low 17 (omega arith) (omega arith), low_word 18 (omega arith) (omega arith))
 
   -- settings with the other file's switches, if they have any
-  pub settings-alike : settingsOf other f ≡ cond f.full (switched (settingsOf file f) (byte_at other 22) (byte_at other 23)) (settingsOf file f)
-  unfolding settingsOf
-  settings-alike = rw (edge_same, fraction-same) (go f.full (before-points file f framed).long (edgeShapeOf file f) (fractionOf file f))
+  pub settings-alike : settings_of other f ≡ cond f.full (switched (settings_of file f) (byte_at other 22) (byte_at other 23)) (settings_of file f)
+  unfolding settings_of
+  settings-alike = rw (edge_same, fraction-same) (go f.full (before-points file f framed).long (edge_shape_of file f) (fraction_of file f))
     where
       go : (b : Bool) → (b ≡ true → 27 ≤ f.points) → (g : EdgeGate) (x : Fraction)
-          → cond b (settingsIn other g x) (defaultsFor (float_at other 3) g x)
-          ≡ cond b (switched (cond b (settingsIn file g x) (defaultsFor (float_at file 3) g x)) (byte_at other 22) (byte_at other 23)) (cond b (settingsIn file g x) (defaultsFor (float_at file 3) g x))
+          → cond b (settings_in other g x) (defaults_for (float_at other 3) g x)
+          ≡ cond b (switched (cond b (settings_in file g x) (defaults_for (float_at file 3) g x)) (byte_at other 22) (byte_at other 23)) (cond b (settings_in file g x) (defaults_for (float_at file 3) g x))
       go true l g x = settings-in-same g x (l refl)
       go false l g x = rw (low_word 3 (omega arith) (omega (arith, (before-points file f framed).short)))
 
   -- ---- the ruling
 
   -- a file whose flags are as good is ruled on by the same header, and then by its own settings and points
-  pub carried-alike : badFlag other f ≡ badFlag file f → (room : ℕ)
-      → rulingOf other room ≡ ruled refused (rulingFor (settingsOf other f) (pointsIn other f)) (headerRefusals file room (Framed f))
-  unfolding headerRefusals
+  pub carried-alike : bad_flag other f ≡ bad_flag file f → (room : ℕ)
+      → ruling_of other room ≡ ruled refused (ruling_for (settings_of other f) (points_in other f)) (header_refusals file room (Framed f))
+  unfolding header_refusals
   carried-alike e room = by-points other room ∙ rw (frame-alike, e, floats_same)
 
 -- ---- with the same switches
@@ -202,28 +202,28 @@ module _ (file other : List ℕ) (f : Layout) (framed : framingOf file ≡ Frame
 pub same-headed : (file : List ℕ) (f : Layout) → Headed file file f
 same-headed file f = record { size = refl; head = λ k l. refl; after = λ k l m. refl }
 
-module _ (file other : List ℕ) (f : Layout) (framed : framingOf file ≡ Framed f) (h : Headed file other f) where
+module _ (file other : List ℕ) (f : Layout) (framed : framing_of file ≡ Framed f) (h : Headed file other f) where
   alike : SameHeader file other f
   alike = record { size = h.size; same = λ k m l. h.head k m; after = h.after }
 
-  pub frame_same : framingOf other ≡ Framed f
+  pub frame_same : framing_of other ≡ Framed f
   frame_same = frame-alike file other f framed alike
 
-  own-switches : f.full ≡ true → switched (settingsOf file f) (byte_at file 22) (byte_at file 23) ≡ settingsOf file f
-  unfolding settingsOf settingsIn
+  own-switches : f.full ≡ true → switched (settings_of file f) (byte_at file 22) (byte_at file 23) ≡ settings_of file f
+  unfolding settings_of settings_in
   own-switches t = rw t
 
-  settings-same : settingsOf other f ≡ settingsOf file f
+  settings-same : settings_of other f ≡ settings_of file f
   settings-same = settings-alike file other f framed alike ∙ go f.full refl
     where
-      go : (b : Bool) → f.full ≡ b → cond b (switched (settingsOf file f) (byte_at other 22) (byte_at other 23)) (settingsOf file f) ≡ settingsOf file f
+      go : (b : Bool) → f.full ≡ b → cond b (switched (settings_of file f) (byte_at other 22) (byte_at other 23)) (settings_of file f) ≡ settings_of file f
       go true t = let l = (before-points file f framed).long t in rw (h.head 22 (omega arith), h.head 23 (omega arith)) (own-switches t)
       go false t = refl
 
-  flags-same : badFlag other f ≡ badFlag file f
-  unfolding badFlag
+  flags-same : bad_flag other f ≡ bad_flag file f
+  unfolding bad_flag
   flags-same = and-under f.full (λ e. let l = (before-points file f framed).long e in rw (h.head 17 (omega arith), h.head 22 (omega arith), h.head 23 (omega arith)))
 
   -- a file with this header is ruled on by it, and then by its own points
-  pub carried : (room : ℕ) → rulingOf other room ≡ ruled refused (rulingFor (settingsOf file f) (pointsIn other f)) (headerRefusals file room (Framed f))
+  pub carried : (room : ℕ) → ruling_of other room ≡ ruled refused (ruling_for (settings_of file f) (points_in other f)) (header_refusals file room (Framed f))
   carried room = carried-alike file other f framed alike flags-same room ∙ rw settings-same

@@ -14,27 +14,27 @@ use Rattle.folds.specs.Lists.{All}
 use Rattle.folds.proofs.Below.{not-false}
 use Rattle.refusals.proofs.Laws.{neither-holds}
 use Rattle.folds.proofs.Column.{replicate-at}
-use Rattle.view.specs.View.{maxPoints}
+use Rattle.view.specs.View.{max_points}
 use Rattle.sheet_file.specs.Bytes.{Bytes, byte_at, le16}
 use Rattle.sheet_file.specs.Frame.{layout_of}
-use Rattle.sheet_file.specs.Grammar.{absent, WellFramed, mostRecords}
+use Rattle.sheet_file.specs.Grammar.{absent, WellFramed, most_records}
 use Rattle.sheet_file.specs.Refusals.{misframed, misfit}
 use Rattle.sheet_file.specs.declared.Layout.{Layout}
 use Rattle.sheet_file.proofs.Fields.{is_framed, field_in, StrengthsAt, strengths-there, strengths-absent, GateAt, gate-there, gate-absent, Fields, full-settings, short-settings, fields-of, PointsAt, points-in}
 use Rattle.sheet_file.proofs.Words.{le16-small}
 use Rattle.sheet_file.proofs.Grammar.{well-framed, points-counted, weights-counted, accepted-well}
-use Rattle.ruling.specs.Ruling.{refused, rulingOf, applies}
-use Rattle.ruling.specs.Limit.{pointCount, WeightsFit, Passes, LimitPromise, shortSheet, zeroSheet}
+use Rattle.ruling.specs.Ruling.{refused, ruling_of, applies}
+use Rattle.ruling.specs.Limit.{point_count, WeightsFit, Passes, LimitPromise, short_sheet, zero_sheet}
 use Rattle.ruling.proofs.Given.{given, is-given}
 
 -- ---- every file
 
 module _ (file : List ℕ) (room : ℕ) where
-  misframed-one : misframed file ≡ true → rulingOf file room ≡ refused 1
+  misframed-one : misframed file ≡ true → ruling_of file room ≡ refused 1
   unfolding applies
   misframed-one m = given file room 1 m refl
 
-  framed-not-one : WellFramed file → rulingOf file room ≡ refused 1 → ⊥
+  framed-not-one : WellFramed file → ruling_of file room ≡ refused 1 → ⊥
   unfolding applies
   framed-not-one w e = true≢false (sym (is-given file room 1 e).holding ∙ well-framed file w)
 
@@ -60,7 +60,7 @@ module _ (file : List ℕ) (room : ℕ) where
       go true e m = inr (omega (arith, eqb-true n (4 + 4 * (layout_of file).count) (not-false (eqb n (4 + 4 * (layout_of file).count)) m), points-counted file w))
       go false e m = inl (sym e)
 
-  unfit-twelve : (w : WellFramed file) → (WeightsFit w → ⊥) → rulingOf file room ≡ refused 12
+  unfit-twelve : (w : WellFramed file) → (WeightsFit w → ⊥) → ruling_of file room ≡ refused 12
   unfolding applies
   unfit-twelve w f = given file room 12 (go (misfit (layout_of file)) refl) (neither-holds (well-framed file w) refl)
     where
@@ -69,17 +69,17 @@ module _ (file : List ℕ) (room : ℕ) where
       go false m = absurd (f (fitting w m))
 
   -- more points than the limit, whatever else is wrong with the file and however short the buffer
-  pub more-refused : (w : WellFramed file) → WeightsFit w → maxPoints < pointCount w → rulingOf file room ≡ refused 2
+  pub more-refused : (w : WellFramed file) → WeightsFit w → max_points < point_count w → ruling_of file room ≡ refused 2
   unfolding applies
   more-refused w o l =
-      given file room 2 (lt-ltb maxPoints (layout_of file).count (omega (arith, points-counted file w))) (neither-holds (well-framed file w) (neither-holds (fits w o) refl))
+      given file room 2 (lt-ltb max_points (layout_of file).count (omega (arith, points-counted file w))) (neither-holds (well-framed file w) (neither-holds (fits w o) refl))
 
   -- at most as many
-  pub few-pass : (w : WellFramed file) → pointCount w ≤ maxPoints → Passes file room
+  pub few-pass : (w : WellFramed file) → point_count w ≤ max_points → Passes file room
   unfolding applies
   few-pass w l = record {
     not-one = framed-not-one w;
-    not-two = λ e. omega (arith, ltb-true maxPoints (layout_of file).count (is-given file room 2 e).holding, points-counted file w);
+    not-two = λ e. omega (arith, ltb-true max_points (layout_of file).count (is-given file room 2 e).holding, points-counted file w);
   }
 
   -- "on longer lists the program still tells 1 from 2"
@@ -97,11 +97,11 @@ module _ (file : List ℕ) (room : ℕ) where
     two-only = λ e.
         let g = is-given file room 2 e in
         let w = accepted-well file b (g.earlier 1) in
-        (w, fitting w (g.earlier 12), omega (arith, ltb-true maxPoints (layout_of file).count g.holding, points-counted file w));
+        (w, fitting w (g.earlier 12), omega (arith, ltb-true max_points (layout_of file).count g.holding, points-counted file w));
     passes = few-pass;
   }
     where
-      go : (WellFramed file → ⊥) → (m : Bool) → misframed file ≡ m → rulingOf file room ≡ refused 1
+      go : (WellFramed file → ⊥) → (m : Bool) → misframed file ≡ m → ruling_of file room ≡ refused 1
       go f true m = misframed-one m
       go f false m = absurd (f (accepted-well file b m))
 
@@ -116,20 +116,20 @@ bytes_after (a ∷ l) r h b (suc k) = bytes_after l r h.1 b k
 abbrev head_of : List ℕ → List ℕ
 head_of p = 1 ∷ 4 ∷ 0 ∷ 0 ∷ 0 ∷ 0 ∷ 0 ∷ 3 ∷ length p % 256 ∷ length p / 256 % 256 ∷ []
 
-pub after-head : (p : List ℕ) (k : ℕ) → byte_at (shortSheet p) (10 + k) ≡ byte_at p k
-unfolding shortSheet
+pub after-head : (p : List ℕ) (k : ℕ) → byte_at (short_sheet p) (10 + k) ≡ byte_at p k
+unfolding short_sheet
 after-head p k = get_or-append-add (head_of p) p k 0
 
-pub short-bytes : (p : List ℕ) → Bytes p → Bytes (shortSheet p)
-unfolding shortSheet
+pub short-bytes : (p : List ℕ) → Bytes p → Bytes (short_sheet p)
+unfolding short_sheet
 short-bytes p b =
     bytes_after (head_of p) p
     (omega arith, (omega arith, (omega arith, (omega arith, (omega arith, (omega arith, (omega arith, (omega arith, (omega arith, (omega arith, tt)))))))))) b
 
 module _ (p : List ℕ) (n : ℕ) (size : length p ≡ 20 * n) where
   -- a two-byte length holds so many
-  pub short-framed : n ≤ mostRecords → (w : WellFramed (shortSheet p)) × (pointCount w ≡ n) × (length w.weights ≡ 0)
-  unfolding shortSheet
+  pub short-framed : n ≤ most_records → (w : WellFramed (short_sheet p)) × (point_count w ≡ n) × (length w.weights ≡ 0)
+  unfolding short_sheet
   short-framed l =
       let q : length p / 256 % 256 ≡ length p / 256 = omega arith in (
         record {
@@ -147,13 +147,13 @@ module _ (p : List ℕ) (n : ℕ) (size : length p ≡ 20 * n) where
         refl,
       )
 
-  short-size : length (shortSheet p) ≡ 10 + 20 * n
-  unfolding shortSheet
+  short-size : length (short_sheet p) ≡ 10 + 20 * n
+  unfolding short_sheet
   short-size = omega (arith, size)
 
 -- its length stands in two bytes, without what these cannot hold
-length-there : (p : List ℕ) → le16 (shortSheet p) 8 ≡ length p % 65536
-unfolding shortSheet le16
+length-there : (p : List ℕ) → le16 (short_sheet p) 8 ≡ length p % 65536
+unfolding short_sheet le16
 length-there p = omega arith
 
 -- tag 3 follows on settings of length 4
@@ -166,36 +166,36 @@ module _ (file : List ℕ) (f : Layout) (s : le16 file 1 ≡ 4) (t : byte_at fil
   points-after (full-settings u g) = absurd (omega (arith, s, (field_in file 0 1 21 u).size_is))
   points-after (short-settings v u g) = points-next g
 
-pub short-fields : (p : List ℕ) → WellFramed (shortSheet p) → PointsAt (shortSheet p) (layout_of (shortSheet p)) 7 false false
-unfolding shortSheet le16
-short-fields p w = let file = shortSheet p in points-after file (layout_of file) refl refl (fields-of file (layout_of file) (is_framed file (well-framed file w)))
+pub short-fields : (p : List ℕ) → WellFramed (short_sheet p) → PointsAt (short_sheet p) (layout_of (short_sheet p)) 7 false false
+unfolding short_sheet le16
+short-fields p w = let file = short_sheet p in points-after file (layout_of file) refl refl (fields-of file (layout_of file) (is_framed file (well-framed file w)))
 
 -- a length of more than two bytes, less what these hold, is no tag 4 either: it would be of 65,536 bytes, which are no twenties
-no_room : (n count len q : ℕ) → 20 * n ≡ 65536 * q + 20 * count → mostRecords < n → 20 * count < 65536 → 3 + len + 20 * count ≡ 20 * n → len < 65536 → ⊥
+no_room : (n count len q : ℕ) → 20 * n ≡ 65536 * q + 20 * count → most_records < n → 20 * count < 65536 → 3 + len + 20 * count ≡ 20 * n → len < 65536 → ⊥
 no_room n count len q e l s d b = go (omega arith)
   where
     go : q ≡ 1 → ⊥
     go o = let t : 20 * n ≡ 65536 + 20 * count = omega arith in omega (arith, t)
 
 module _ (p : List ℕ) (n : ℕ) (size : length p ≡ 20 * n) (room : ℕ) where
-  short-pass : n ≤ maxPoints → Passes (shortSheet p) room
-  short-pass l = let w = short-framed p n size (omega arith) in few-pass (shortSheet p) room w.0 (omega (arith, w.1))
+  short-pass : n ≤ max_points → Passes (short_sheet p) room
+  short-pass l = let w = short-framed p n size (omega arith) in few-pass (short_sheet p) room w.0 (omega (arith, w.1))
 
-  short-many : maxPoints < n → n ≤ mostRecords → rulingOf (shortSheet p) room ≡ refused 2
-  short-many l m = let w = short-framed p n size m in more-refused (shortSheet p) room w.0 (inl w.2) (omega (arith, w.1))
+  short-many : max_points < n → n ≤ most_records → ruling_of (short_sheet p) room ≡ refused 2
+  short-many l m = let w = short-framed p n size m in more-refused (short_sheet p) room w.0 (inl w.2) (omega (arith, w.1))
 
-  short-unframed : Bytes p → mostRecords < n → rulingOf (shortSheet p) room ≡ refused 1
-  short-unframed b l = (limit (shortSheet p) room c).one no
+  short-unframed : Bytes p → most_records < n → ruling_of (short_sheet p) room ≡ refused 1
+  short-unframed b l = (limit (short_sheet p) room c).one no
     where
-      c : Bytes (shortSheet p)
+      c : Bytes (short_sheet p)
       c = short-bytes p b
 
       -- what follows the points is not tag 4, and there is something
-      no : WellFramed (shortSheet p) → ⊥
+      no : WellFramed (short_sheet p) → ⊥
       no w = go h.after
         where
           file : List ℕ
-          file = shortSheet p
+          file = short_sheet p
 
           h : PointsAt file (layout_of file) 7 false false
           h = short-fields p w
@@ -217,45 +217,45 @@ module _ (p : List ℕ) (n : ℕ) (size : length p ≡ 20 * n) (room : ℕ) wher
 zeros : (n k : ℕ) → get_or (replicate (20 * n) 0) k 0 < 256
 zeros n k = rw (replicate-at {A = ℕ} (20 * n) 0 k) (omega arith)
 
-pub zero-bytes : (n : ℕ) → Bytes (zeroSheet n)
+pub zero-bytes : (n : ℕ) → Bytes (zero_sheet n)
 zero-bytes n = short-bytes (replicate (20 * n) 0) (zeros n)
 
 module _ (n room : ℕ) where
-  pub zero-pass : n ≤ maxPoints → Passes (zeroSheet n) room
+  pub zero-pass : n ≤ max_points → Passes (zero_sheet n) room
   zero-pass l = short-pass (replicate (20 * n) 0) n (length-replicate {A = ℕ} (20 * n) 0) room l
 
-  pub zero-many : maxPoints < n → n ≤ mostRecords → rulingOf (zeroSheet n) room ≡ refused 2
+  pub zero-many : max_points < n → n ≤ most_records → ruling_of (zero_sheet n) room ≡ refused 2
   zero-many l m = short-many (replicate (20 * n) 0) n (length-replicate {A = ℕ} (20 * n) 0) room l m
 
   -- the length field cannot hold so many
-  pub zero-unframed : mostRecords < n → rulingOf (zeroSheet n) room ≡ refused 1
+  pub zero-unframed : most_records < n → ruling_of (zero_sheet n) room ≡ refused 1
   zero-unframed l = short-unframed (replicate (20 * n) 0) n (length-replicate {A = ℕ} (20 * n) 0) room (zeros n) l
 
 -- "2,304 points pass"
-pub limit_is : maxPoints ≡ 2304
+pub limit_is : max_points ≡ 2304
 limit_is = refl
 
-pub at-limit : (n room : ℕ) → n ≡ 2304 → Passes (zeroSheet n) room
+pub at-limit : (n room : ℕ) → n ≡ 2304 → Passes (zero_sheet n) room
 at-limit n room e = zero-pass n room (omega arith)
 
 -- "and 2,305 give refusal 2", though there is no result buffer
-pub above-limit : (n : ℕ) → n ≡ 2305 → rulingOf (zeroSheet n) 0 ≡ refused 2
+pub above-limit : (n : ℕ) → n ≡ 2305 → ruling_of (zero_sheet n) 0 ≡ refused 2
 above-limit n e = zero-many n 0 (omega arith) (omega arith)
 
 -- so do the most points that a length field can hold
-pub most-is : mostRecords ≡ 3276
+pub most-is : most_records ≡ 3276
 most-is = refl
 
-pub most-refused : (n : ℕ) → n ≡ 3276 → rulingOf (zeroSheet n) 0 ≡ refused 2
+pub most-refused : (n : ℕ) → n ≡ 3276 → ruling_of (zero_sheet n) 0 ≡ refused 2
 most-refused n e = zero-many n 0 (omega arith) (omega arith)
 
 -- The first number above the limit that is not refused with 2, since the file is not well framed: of the length 65,540 of 3,277 points two
 -- bytes hold 4.
-pub wrapped-length : (20 * (mostRecords + 1) % 256 ≡ 4) × (20 * (mostRecords + 1) / 256 % 256 ≡ 0)
+pub wrapped-length : (20 * (most_records + 1) % 256 ≡ 4) × (20 * (most_records + 1) / 256 % 256 ≡ 0)
 wrapped-length = (refl, refl)
 
-pub past-most : (n room : ℕ) → n ≡ 3277 → rulingOf (zeroSheet n) room ≡ refused 1
+pub past-most : (n room : ℕ) → n ≡ 3277 → ruling_of (zero_sheet n) room ≡ refused 1
 past-most n room e = zero-unframed n room (omega arith)
 
-pub framing-needed : ((n room : ℕ) → maxPoints < n → rulingOf (zeroSheet n) room ≡ refused 2) → ⊥
-framing-needed f = let e : refused 1 ≡ refused 2 = sym (past-most (mostRecords + 1) 0 refl) ∙ f (mostRecords + 1) 0 (omega arith) in let z : ◌≡◌ {A = ℕ} 1 2 = cc in omega arith
+pub framing-needed : ((n room : ℕ) → max_points < n → ruling_of (zero_sheet n) room ≡ refused 2) → ⊥
+framing-needed f = let e : refused 1 ≡ refused 2 = sym (past-most (most_records + 1) 0 refl) ∙ f (most_records + 1) 0 (omega arith) in let z : ◌≡◌ {A = ℕ} 1 2 = cc in omega arith

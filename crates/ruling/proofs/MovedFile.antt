@@ -16,7 +16,7 @@ use mir.Syntax.{w32}
 use mir.Val.{SFits, of_z, to_z}
 use mir.ValLaws.{to_z-of_z, of_z-to_z}
 use borrow.Author.Tests.{lt-ltb, le-ltb, le-leb, lt-leb}
-use Rattle.folds.specs.Among.{anyIn}
+use Rattle.folds.specs.Among.{any_in}
 use Rattle.folds.proofs.Among.{any-list}
 use Rattle.folds.proofs.Below.{some-no, or-true}
 use Rattle.folds.proofs.Lists.{length-list, list_at, list_over}
@@ -25,18 +25,18 @@ use Rattle.cells.specs.Cell.{Cell, CellInRange, cell_of, signed, within, moved}
 use Rattle.cells.proofs.Coordinates.{lift-range}
 use Rattle.sort.proofs.Sorted.{sorted-has}
 use Rattle.sheet_file.specs.Bytes.{Bytes, le32}
-use Rattle.sheet_file.specs.Frame.{framingOf, layout_of, layoutIn}
+use Rattle.sheet_file.specs.Frame.{framing_of, layout_of, layout_in}
 use Rattle.sheet_file.specs.declared.Framing.TheVariants.{Framed}
 use Rattle.sheet_file.specs.declared.Layout.{Layout}
 use Rattle.sheet_file.specs.declared.Settings.{Settings}
 use Rattle.sheet_file.proofs.Words.{le32-small}
 use Rattle.sheet_file.proofs.Fields.{framed-held}
-use Rattle.points.specs.Records.{ithPoint, pointsIn}
-use Rattle.points.specs.Refusals.{offRange, comesBefore}
+use Rattle.points.specs.Records.{ith_point, points_in}
+use Rattle.points.specs.Refusals.{off_range, comes_before}
 use Rattle.points.proofs.Located.{length-points}
-use Rattle.ruling.specs.Ruling.{accepted, rulingOf, points_of, applies}
-use Rattle.ruling.specs.Header.{pointsEnd, Headed}
-use Rattle.ruling.specs.Offset.{FileDisplaced, byte_of, movedByte, byteMoved, movedFile, StaysInRange}
+use Rattle.ruling.specs.Ruling.{accepted, ruling_of, points_of, applies}
+use Rattle.ruling.specs.Header.{points_end, Headed}
+use Rattle.ruling.specs.Offset.{FileDisplaced, byte_of, moved_byte, byte_moved, moved_file, StaysInRange}
 use Rattle.ruling.proofs.Header.{frame_same}
 use Rattle.ruling.proofs.Standing.{accepted-file}
 
@@ -102,58 +102,58 @@ module _ (file : List ℕ) (a b : ℤ) where
   f = layout_of file
 
   abbrev other : List ℕ
-  other = movedFile file a b
+  other = moved_file file a b
 
   abbrev place : ℕ → ℕ
   place i = f.points + 20 * i
 
   -- the moved cell of point i
   abbrev cell_at : ℕ → Cell
-  cell_at i = moved a b (cell_of (ithPoint file f i))
+  cell_at i = moved a b (cell_of (ith_point file f i))
 
-  moved_at : (k : ℕ) → k < length file → get_or other k 0 ≡ byteMoved file a b k
-  unfolding movedFile
-  moved_at k h = list_at (length file) (byteMoved file a b) k 0 h
+  moved_at : (k : ℕ) → k < length file → get_or other k 0 ≡ byte_moved file a b k
+  unfolding moved_file
+  moved_at k h = list_at (length file) (byte_moved file a b) k 0 h
 
   -- the moved file consists of bytes
   pub moved-bytes : Bytes file → Bytes other
-  unfolding movedFile
+  unfolding moved_file
   moved-bytes bytes k = go (dec_lt k (length file))
     where
       either : (t : Bool) (x y : ℕ) → x < 256 → y < 256 → cond t x y < 256
       either true x y h l = h
       either false x y h l = l
 
-      small : (at j : ℕ) → movedByte file a b at j < 256
+      small : (at j : ℕ) → moved_byte file a b at j < 256
       small at j = either (ltb j 4) _ _ (omega arith) (either (ltb j 8) _ _ (omega arith) (bytes (at + j)))
 
       go : Dec (k < length file) → get_or other k 0 < 256
-      go (yes h) = rw (moved_at k h) (either (ltb k f.points || leb (pointsEnd f) k) _ _ (bytes k) (small (place ((k - f.points) / 20)) ((k - f.points) % 20)))
-      go (no h) = rw (list_over (length file) (byteMoved file a b) k 0 (omega (arith, h))) (omega arith)
+      go (yes h) = rw (moved_at k h) (either (ltb k f.points || leb (points_end f) k) _ _ (bytes k) (small (place ((k - f.points) / 20)) ((k - f.points) % 20)))
+      go (no h) = rw (list_over (length file) (byte_moved file a b) k 0 (omega (arith, h))) (omega arith)
 
-  module _ (framed : framingOf file ≡ Framed f) where
+  module _ (framed : framing_of file ≡ Framed f) where
     size-stays : length other ≡ length file
-    unfolding movedFile
-    size-stays = length-list (length file) (byteMoved file a b)
+    unfolding moved_file
+    size-stays = length-list (length file) (byte_moved file a b)
 
     head-stays : (k : ℕ) → k < f.points → get_or other k 0 ≡ get_or file k 0
     head-stays k h = moved_at k (omega (arith, (framed-held file f framed).fit)) ∙ rw (lt-ltb k f.points h)
 
-    after-stays : (k : ℕ) → pointsEnd f ≤ k → get_or other k 0 ≡ get_or file k 0
+    after-stays : (k : ℕ) → points_end f ≤ k → get_or other k 0 ≡ get_or file k 0
     after-stays k h = go (dec_lt k (length file))
       where
         go : Dec (k < length file) → get_or other k 0 ≡ get_or file k 0
-        go (yes l) = moved_at k l ∙ rw (le-leb (pointsEnd f) k h, or-true (ltb k f.points))
+        go (yes l) = moved_at k l ∙ rw (le-leb (points_end f) k h, or-true (ltb k f.points))
         go (no l) = get_or-eq_default other 0 {n = k} (omega (arith, l, size-stays)) ∙ sym (get_or-eq_default file 0 {n = k} (omega (arith, l)))
 
     headed : Headed file other f
     headed = record { size = size-stays; head = head-stays; after = λ k l m. after-stays k l }
 
-    point-byte : (i j : ℕ) → i < f.count → j < 20 → get_or other (place i + j) 0 ≡ movedByte file a b (place i) j
+    point-byte : (i j : ℕ) → i < f.count → j < 20 → get_or other (place i + j) 0 ≡ moved_byte file a b (place i) j
     point-byte i j h l =
         let q : (place i + j - f.points) / 20 ≡ i = omega arith in
         let r : (place i + j - f.points) % 20 ≡ j = omega arith in
-        moved_at (place i + j) (omega (arith, (framed-held file f framed).fit)) ∙ rw (le-ltb (place i + j) f.points (omega arith), lt-leb (pointsEnd f) (place i + j) (omega arith), q, r)
+        moved_at (place i + j) (omega (arith, (framed-held file f framed).fit)) ∙ rw (le-ltb (place i + j) f.points (omega arith), lt-leb (points_end f) (place i + j) (omega arith), q, r)
 
     u-byte : (i j : ℕ) → i < f.count → j < 4 → get_or other (place i + j) 0 ≡ byte_of (cell_at i).u j
     u-byte i j h l = point-byte i j h (omega arith) ∙ rw (lt-ltb j 4 l)
@@ -167,9 +167,9 @@ module _ (file : List ℕ) (a b : ℤ) where
     -- and no other file is the file with a added to every u and b to every v
     pub only-moved : (file' : List ℕ) → Bytes file' → FileDisplaced file file' f a b → file' ≡ other
     only-moved file' bytes o =
-        ext_get_or 0 file' other (o.size ∙ sym size-stays) (λ k h. each k (dec_lt k f.points) (dec_lt k (pointsEnd f)))
+        ext_get_or 0 file' other (o.size ∙ sym size-stays) (λ k h. each k (dec_lt k f.points) (dec_lt k (points_end f)))
       where
-        byte : (i j : ℕ) → i < f.count → j < 20 → Dec (j < 4) → Dec (j < 8) → get_or file' (place i + j) 0 ≡ movedByte file a b (place i) j
+        byte : (i j : ℕ) → i < f.count → j < 20 → Dec (j < 4) → Dec (j < 8) → get_or file' (place i + j) 0 ≡ moved_byte file a b (place i) j
         byte i j h l (yes u) e = rw (lt-ltb j 4 u) (byte-of file' (place i) (cell_at i).u bytes (ap (λ (c : Cell). c.u) (o.cell i h)) j u)
         byte i j h l (no u) (yes v) =
             let e : place i + j ≡ place i + 4 + (j - 4) = omega (arith, u) in
@@ -177,7 +177,7 @@ module _ (file : List ℕ) (a b : ℤ) where
             (byte-of file' (place i + 4) (cell_at i).v bytes (ap (λ (c : Cell). c.v) (o.cell i h)) (j - 4) (omega arith))
         byte i j h l (no u) (no v) = rw (le-ltb j 4 (omega (arith, u)), le-ltb j 8 (omega (arith, v))) (o.rest i j h (omega (arith, v)) l)
 
-        each : (k : ℕ) → Dec (k < f.points) → Dec (k < pointsEnd f) → get_or file' k 0 ≡ get_or other k 0
+        each : (k : ℕ) → Dec (k < f.points) → Dec (k < points_end f) → get_or file' k 0 ≡ get_or other k 0
         each k (yes l) d = o.head k l ∙ sym (head-stays k l)
         each k (no l) (no m) = o.after k (omega (arith, m)) ∙ sym (after-stays k (omega (arith, m)))
         each k (no l) (yes m) =
@@ -189,7 +189,7 @@ module _ (file : List ℕ) (a b : ℤ) where
             rw e (byte i j hi hj (dec_lt j 4) (dec_lt j 8) ∙ sym (point-byte i j hi hj))
 
     module _ (in-range : (i : ℕ) → i < f.count → CellInRange (cell_at i)) where
-      cell-moved : (i : ℕ) → i < f.count → cell_of (ithPoint other f i) ≡ cell_at i
+      cell-moved : (i : ℕ) → i < f.count → cell_of (ith_point other f i) ≡ cell_at i
       cell-moved i h =
           let u = read_back other (place i) (cell_at i).u (in-range i h).u (λ j l. u-byte i j h l) in
           let v = read_back other (place i + 4) (cell_at i).v (in-range i h).v (λ j l. v-byte i j h l) in
@@ -206,24 +206,24 @@ module _ (file : List ℕ) (a b : ℤ) where
 
       -- "In range means that the condition of number 6 fails."
       six-fails : (room : ℕ) → applies other room 6 ≡ false
-      unfolding applies pointsIn
+      unfolding applies points_in
       six-fails room =
           let off : Cell → Bool = λ c. not (within c.u) || not (within c.v) in
-          let same : layout_of other ≡ f = ap layoutIn (frame_same file other f framed headed) in
-          ap (λ (g : Layout). anyIn offRange (pointsIn other g)) same
-          ∙ any-list (ithPoint other f) f.count offRange
-          ∙ some-no (λ (i : ℕ). offRange (ithPoint other f i)) f.count (λ i h. ap off (cell-moved i h) ∙ rw ((in-range i h).u, (in-range i h).v))
+          let same : layout_of other ≡ f = ap layout_in (frame_same file other f framed headed) in
+          ap (λ (g : Layout). any_in off_range (points_in other g)) same
+          ∙ any-list (ith_point other f) f.count off_range
+          ∙ some-no (λ (i : ℕ). off_range (ith_point other f i)) f.count (λ i h. ap off (cell-moved i h) ∙ rw ((in-range i h).u, (in-range i h).v))
 
   -- ---- of an accepted file
 
-  module _ (room : ℕ) (s : Settings) (ps : List Point) (e : rulingOf file room ≡ accepted s ps) (in-range : StaysInRange a b ps) where
+  module _ (room : ℕ) (s : Settings) (ps : List Point) (e : ruling_of file room ≡ accepted s ps) (in-range : StaysInRange a b ps) where
     each-in-range : (i : ℕ) → i < f.count → CellInRange (cell_at i)
-    unfolding pointsIn
+    unfolding points_in
     each-in-range i h =
         let are = (accepted-file file room s ps e).points-are in
-        let at = sorted-has comesBefore nowhere (points_of file) i (omega (arith, length-points file f)) in
-        let listed = list_at f.count (ithPoint file f) i nowhere h in
-        let same : get_or ps at.place nowhere ≡ ithPoint file f i = ap (λ (l : List Point). get_or l at.place nowhere) are ∙ sym at.is ∙ listed in
+        let at = sorted-has comes_before nowhere (points_of file) i (omega (arith, length-points file f)) in
+        let listed = list_at f.count (ith_point file f) i nowhere h in
+        let same : get_or ps at.place nowhere ≡ ith_point file f i = ap (λ (l : List Point). get_or l at.place nowhere) are ∙ sym at.is ∙ listed in
         rw same at (in-range at.place (omega (arith, at.below, ap length are)))
 
     pub moved-offset : FileDisplaced file other f a b

@@ -5,7 +5,7 @@ use mathlib.Core.List.{List, [], ◌∷◌, map}
 use Prim.Native.Nat.{ℕ, ◌<◌}
 use native.Mathlib.Omega.{arith}
 use lib.ListN.{length-map, get_or-map}
-use Rattle.folds.specs.Among.{anyIn, pairIn}
+use Rattle.folds.specs.Among.{any_in, pair_in}
 use Rattle.folds.proofs.Among.{any-list, pair-ext}
 use Rattle.folds.proofs.Below.{some-ext}
 use Rattle.folds.specs.Lists.{All, list_of}
@@ -14,11 +14,11 @@ use Rattle.sort.specs.Sorted.{sort}
 use Rattle.sort.proofs.Sorted.{at_all, Agree, sort-map}
 
 module _ {A B : Type 0} (g : A → B) where
-  any-map : (t : B → Bool) (l : List A) → anyIn t (map g l) ≡ anyIn (λ (i : A). t (g i)) l
+  any-map : (t : B → Bool) (l : List A) → any_in t (map g l) ≡ any_in (λ (i : A). t (g i)) l
   any-map t [] = refl
   any-map t (i ∷ l) = rw (any-map t l)
 
-  pair-map : (t : B → B → Bool) (l : List A) → pairIn t (map g l) ≡ pairIn (λ (i j : A). t (g i) (g j)) l
+  pair-map : (t : B → B → Bool) (l : List A) → pair_in t (map g l) ≡ pair_in (λ (i j : A). t (g i) (g j)) l
   pair-map t [] = refl
   pair-map t (i ∷ l) = rw (any-map (t (g i)) l, pair-map t l)
 
@@ -31,30 +31,30 @@ module _ {A B : Type 0} (g : A → B) where
   agree-all first second f (i ∷ l) h = (all_map (λ j p. f i j h.0 p) l h.1, agree-all first second f l h.1)
 
 -- 0, .., n - 1
-unfoldable pub firstNumbers : ℕ → List ℕ
+unfoldable pub first_numbers : ℕ → List ℕ
 unfolding list_of
-firstNumbers n = list_of n (λ (i : ℕ). i)
+first_numbers n = list_of n (λ (i : ℕ). i)
 
-map-numbers : {B : Type 0} (g : ℕ → B) (n : ℕ) → map g (firstNumbers n) ≡ list_of n g
-unfolding firstNumbers
+map-numbers : {B : Type 0} (g : ℕ → B) (n : ℕ) → map g (first_numbers n) ≡ list_of n g
+unfolding first_numbers
 map-numbers g n =
     is-list (g 0) n g (map g (list_of n (λ (i : ℕ). i))) (length-map (list_of n (λ (i : ℕ). i)) g ∙ length-list n (λ (i : ℕ). i))
     (λ k h. get_or-map g (list_of n (λ (i : ℕ). i)) k 0 ∙ ap g (list_at n (λ (i : ℕ). i) k 0 h))
 
-pub numbers-below : (n : ℕ) → All (λ (i : ℕ). i < n) (firstNumbers n)
-unfolding firstNumbers
+pub numbers-below : (n : ℕ) → All (λ (i : ℕ). i < n) (first_numbers n)
+unfolding first_numbers
 numbers-below n = at_all (λ (i : ℕ). i < n) 0 (list_of n (λ (i : ℕ). i)) (λ k h. let l : k < n = omega (arith, length-list n (λ (i : ℕ). i)) in rw (list_at n (λ (i : ℕ). i) k 0 l) l)
 
-pub any_same : {B : Type 0} (t : B → Bool) (f g : ℕ → B) (n : ℕ) → ((i : ℕ) → i < n → t (f i) ≡ t (g i)) → anyIn t (list_of n f) ≡ anyIn t (list_of n g)
+pub any_same : {B : Type 0} (t : B → Bool) (f g : ℕ → B) (n : ℕ) → ((i : ℕ) → i < n → t (f i) ≡ t (g i)) → any_in t (list_of n f) ≡ any_in t (list_of n g)
 any_same t f g n h = any-list f n t ∙ some-ext (λ (i : ℕ). t (f i)) (λ (i : ℕ). t (g i)) n h ∙ sym (any-list g n t)
 
-pub pair_same : {B : Type 0} (t : B → B → Bool) (f g : ℕ → B) (n : ℕ) → ((i j : ℕ) → i < n → j < n → t (f i) (f j) ≡ t (g i) (g j)) → pairIn t (list_of n f) ≡ pairIn t (list_of n g)
-unfolding firstNumbers
+pub pair_same : {B : Type 0} (t : B → B → Bool) (f g : ℕ → B) (n : ℕ) → ((i j : ℕ) → i < n → j < n → t (f i) (f j) ≡ t (g i) (g j)) → pair_in t (list_of n f) ≡ pair_in t (list_of n g)
+unfolding first_numbers
 pair_same t f g n h =
-    ap (pairIn t) (sym (map-numbers f n)) ∙ pair-map f t (firstNumbers n)
+    ap (pair_in t) (sym (map-numbers f n)) ∙ pair-map f t (first_numbers n)
     ∙ pair-ext (λ (i : ℕ). i) n (λ (i j : ℕ). t (f i) (f j)) (λ (i j : ℕ). t (g i) (g j)) (λ i j ij jn. h i j (omega arith) jn)
-    ∙ sym (pair-map g t (firstNumbers n)) ∙ ap (pairIn t) (map-numbers g n)
+    ∙ sym (pair-map g t (first_numbers n)) ∙ ap (pair_in t) (map-numbers g n)
 
--- things sorted by a test are those at the firstNumbers sorted by a test that agrees with it
-pub sorted-by-number : {B : Type 0} (g : ℕ → B) (n : ℕ) (first : ℕ → ℕ → Bool) (second : B → B → Bool) → ((i j : ℕ) → i < n → j < n → first j i ≡ second (g j) (g i)) → sort second (list_of n g) ≡ map g (sort first (firstNumbers n))
-sorted-by-number g n first second h = ap (sort second) (sym (map-numbers g n)) ∙ sort-map g first second (firstNumbers n) (agree-all g first second h (firstNumbers n) (numbers-below n))
+-- things sorted by a test are those at the first_numbers sorted by a test that agrees with it
+pub sorted-by-number : {B : Type 0} (g : ℕ → B) (n : ℕ) (first : ℕ → ℕ → Bool) (second : B → B → Bool) → ((i j : ℕ) → i < n → j < n → first j i ≡ second (g j) (g i)) → sort second (list_of n g) ≡ map g (sort first (first_numbers n))
+sorted-by-number g n first second h = ap (sort second) (sym (map-numbers g n)) ∙ sort-map g first second (first_numbers n) (agree-all g first second h (first_numbers n) (numbers-below n))

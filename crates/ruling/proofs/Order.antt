@@ -11,52 +11,52 @@ use Rattle.folds.specs.Lists.{All, list_of}
 use Rattle.folds.proofs.Lists.{length-list, list_at, is-list}
 use Rattle.cells.specs.Points.{Point}
 use Rattle.sheet_file.specs.Bytes.{Bytes, le32}
-use Rattle.sheet_file.specs.Frame.{framingOf}
-use Rattle.sheet_file.specs.Refusals.{misfit, settingsOf, headerRefusals}
+use Rattle.sheet_file.specs.Frame.{framing_of}
+use Rattle.sheet_file.specs.Refusals.{misfit, settings_of, header_refusals}
 use Rattle.refusals.specs.First.{ruled}
 use Rattle.refusals.proofs.Laws.{holds, none-applies-in, ruled-same-end}
-use Rattle.folds.specs.Among.{anyIn}
+use Rattle.folds.specs.Among.{any_in}
 use Rattle.sheet_file.specs.declared.Fraction.{Fraction}
 use Rattle.sheet_file.specs.declared.Framing.TheVariants.{Framed}
 use Rattle.sheet_file.proofs.Words.{SameBytes, le32-same}
 use Rattle.sheet_file.proofs.Fields.{framed-held}
 use Rattle.sheet_file.specs.declared.Layout.{Layout}
 use Rattle.sheet_file.specs.declared.Settings.{Settings}
-use Rattle.points.specs.Records.{pointIn, ithStrength, ithPoint, pointsIn}
-use Rattle.points.specs.Refusals.{pointRefusals, offRange, offLimit, offStrength, sameCell, twoPositions, twoStrengths, cellOrder}
+use Rattle.points.specs.Records.{point_in, ith_strength, ith_point, points_in}
+use Rattle.points.specs.Refusals.{point_refusals, off_range, off_limit, off_strength, same_cell, two_positions, two_strengths, cell_order}
 use Rattle.points.proofs.Neighbours.{eqb_swap}
 use Rattle.points.proofs.Located.{point-same}
-use Rattle.ruling.specs.Ruling.{refused, accepted, rulingFor, rulingOf}
-use Rattle.ruling.specs.Order.{bytes_at, recordOf, recordsIn, Relisted}
+use Rattle.ruling.specs.Ruling.{refused, accepted, ruling_for, ruling_of}
+use Rattle.ruling.specs.Order.{bytes_at, record_of, records_in, Relisted}
 use Rattle.ruling.proofs.Header.{same-headed, frame_same, carried}
 use Rattle.ruling.proofs.Standing.{Words, cell-either-way, none_apart, one-order, words-in}
 
 -- ---- of a list of points
 
-position-either-way : (p q : Point) → twoPositions p q ≡ twoPositions q p
+position-either-way : (p q : Point) → two_positions p q ≡ two_positions q p
 position-either-way p q = rw (eqb_swap p.index q.index, eqb_swap p.x q.x, eqb_swap p.y q.y)
 
-strength-either-way : (p q : Point) → twoStrengths p q ≡ twoStrengths q p
+strength-either-way : (p q : Point) → two_strengths p q ≡ two_strengths q p
 strength-either-way p q = rw (eqb_swap p.index q.index, eqb_swap p.strength q.strength)
 
-refusals-same : (x : Fraction) {ps qs : List Point} → Permᴰ ps qs → pointRefusals x ps ≡ pointRefusals x qs
-unfolding pointRefusals
+refusals-same : (x : Fraction) {ps qs : List Point} → Permᴰ ps qs → point_refusals x ps ≡ point_refusals x qs
+unfolding point_refusals
 refusals-same x p =
-    rw (any_order offRange p, any_order offLimit p, any_order offStrength p, pair-order sameCell cell-either-way p, pair-order twoPositions position-either-way p, pair-order twoStrengths strength-either-way p)
+    rw (any_order off_range p, any_order off_limit p, any_order off_strength p, pair-order same_cell cell-either-way p, pair-order two_positions position-either-way p, pair-order two_strengths strength-either-way p)
 
-pub relisted : (s : Settings) (ps qs : List Point) → All Words ps → Permᴰ ps qs → rulingFor s ps ≡ rulingFor s qs
-unfolding rulingFor
+pub relisted : (s : Settings) (ps qs : List Point) → All Words ps → Permᴰ ps qs → ruling_for s ps ≡ ruling_for s qs
+unfolding ruling_for
 relisted s ps qs h p =
-    ruled-same-end refused (accepted s (cellOrder ps)) (accepted s (cellOrder qs)) (pointRefusals s.score_frac ps) (λ e. ap (accepted s) (one-order ps (none_apart s.score_frac ps h e) qs p))
-    ∙ ap (ruled refused (accepted s (cellOrder qs))) (refusals-same s.score_frac p)
+    ruled-same-end refused (accepted s (cell_order ps)) (accepted s (cell_order qs)) (point_refusals s.score_frac ps) (λ e. ap (accepted s) (one-order ps (none_apart s.score_frac ps h e) qs p))
+    ∙ ap (ruled refused (accepted s (cell_order qs))) (refusals-same s.score_frac p)
 
 -- ---- of a file
 
 -- a record's point
 abbrev point_of : Bool → List ℕ → Point
-point_of weighed r = pointIn r 0 (cond weighed (le32 r 20) 0)
+point_of weighed r = point_in r 0 (cond weighed (le32 r 20) 0)
 
-module _ (file : List ℕ) (f : Layout) (framed : framingOf file ≡ Framed f) (fit : misfit f ≡ false) where
+module _ (file : List ℕ) (f : Layout) (framed : framing_of file ≡ Framed f) (fit : misfit f ≡ false) where
   abbrev at : ℕ → ℕ
   at i = f.points + 20 * i
 
@@ -64,13 +64,13 @@ module _ (file : List ℕ) (f : Layout) (framed : framingOf file ≡ Framed f) (
   first-size i h = length-take-le 20 (drop (at i) file) (simp length-drop (omega (arith, (framed-held file f framed).fit)))
 
   -- its first 20 bytes are the point's
-  first-bytes : (i : ℕ) → i < f.count → SameBytes 20 file (at i) (recordOf file f i) 0
+  first-bytes : (i : ℕ) → i < f.count → SameBytes 20 file (at i) (record_of file f i) 0
   first-bytes i h k l =
       let z : 0 + k ≡ k = omega arith in
       rw z (get_or-append (bytes_at file (at i) 20) _ 0 k (omega (arith, first-size i h)) ∙ get_or-take 20 (drop (at i) file) k 0 l ∙ get_or-drop (at i) file k 0)
 
   -- and the others its strength's
-  strength-is : (i : ℕ) → i < f.count → cond f.weighed (le32 (recordOf file f i) 20) 0 ≡ ithStrength file f i
+  strength-is : (i : ℕ) → i < f.count → cond f.weighed (le32 (record_of file f i) 20) 0 ≡ ith_strength file f i
   strength-is i h = go f.weighed refl
     where
       from : ℕ
@@ -85,16 +85,16 @@ module _ (file : List ℕ) (f : Layout) (framed : framingOf file ≡ Framed f) (
       go true w = rw fit (le32-same file from (bytes_at file (at i) 20 ++ bytes_at file from 4) 20 (last-bytes []))
       go false w = refl
 
-  point-is : (i : ℕ) → i < f.count → point_of f.weighed (recordOf file f i) ≡ ithPoint file f i
-  point-is i h = rw (strength-is i h) (point-same file (at i) (recordOf file f i) 0 (ithStrength file f i) (first-bytes i h))
+  point-is : (i : ℕ) → i < f.count → point_of f.weighed (record_of file f i) ≡ ith_point file f i
+  point-is i h = rw (strength-is i h) (point-same file (at i) (record_of file f i) 0 (ith_strength file f i) (first-bytes i h))
 
-  points-are : map (point_of f.weighed) (recordsIn file f) ≡ pointsIn file f
-  unfolding recordsIn pointsIn
+  points-are : map (point_of f.weighed) (records_in file f) ≡ points_in file f
+  unfolding records_in points_in
   points-are =
       let point = point_of f.weighed in
-      let each = recordOf file f in
+      let each = record_of file f in
       let n = f.count in
-      is-list (point []) n (ithPoint file f) (map point (list_of n each)) (length-map (list_of n each) point ∙ length-list n each)
+      is-list (point []) n (ith_point file f) (map point (list_of n each)) (length-map (list_of n each) point ∙ length-list n each)
       (λ k h. get_or-map point (list_of n each) k [] ∙ ap point (list_at n each k [] h) ∙ point-is k h)
 
 perm-map : {A B : Type 0} (g : A → B) {a b : List A} → Permᴰ a b → Permᴰ (map g a) (map g b)
@@ -104,19 +104,19 @@ perm-map g (mathlib.Core.List.Permᴰ.swap e f) = mathlib.Core.List.Permᴰ.swap
 perm-map g (mathlib.Core.List.Permᴰ.trans p q) = mathlib.Core.List.Permᴰ.trans (perm-map g p) (perm-map g q)
 
 -- where no number of the header applies, tag 4 fits
-header-fits : (file : List ℕ) (room : ℕ) (f : Layout) → anyIn holds (headerRefusals file room (Framed f)) ≡ false → misfit f ≡ false
-unfolding headerRefusals
-header-fits file room f h = none-applies-in (headerRefusals file room (Framed f)) h 12
+header-fits : (file : List ℕ) (room : ℕ) (f : Layout) → any_in holds (header_refusals file room (Framed f)) ≡ false → misfit f ≡ false
+unfolding header_refusals
+header-fits file room f h = none-applies-in (header_refusals file room (Framed f)) h 12
 
-pub same-ruling : (file other : List ℕ) (f : Layout) → Bytes file → framingOf file ≡ Framed f → Relisted file other f → (room : ℕ) → rulingOf file room ≡ rulingOf other room
+pub same-ruling : (file other : List ℕ) (f : Layout) → Bytes file → framing_of file ≡ Framed f → Relisted file other f → (room : ℕ) → ruling_of file room ≡ ruling_of other room
 same-ruling file other f b e r room =
     carried file file f e (same-headed file f) room
-    ∙ ruled-same-end refused (rulingFor (settingsOf file f) (pointsIn file f)) (rulingFor (settingsOf file f) (pointsIn other f)) (headerRefusals file room (Framed f)) same_points
+    ∙ ruled-same-end refused (ruling_for (settings_of file f) (points_in file f)) (ruling_for (settings_of file f) (points_in other f)) (header_refusals file room (Framed f)) same_points
     ∙ sym (carried file other f e r.rest room)
   where
-    same_points : anyIn holds (headerRefusals file room (Framed f)) ≡ false → rulingFor (settingsOf file f) (pointsIn file f) ≡ rulingFor (settingsOf file f) (pointsIn other f)
+    same_points : any_in holds (header_refusals file room (Framed f)) ≡ false → ruling_for (settings_of file f) (points_in file f) ≡ ruling_for (settings_of file f) (points_in other f)
     same_points h =
         let m = header-fits file room f h in
-        let p : Permᴰ (pointsIn file f) (pointsIn other f) =
+        let p : Permᴰ (points_in file f) (points_in other f) =
         rw (points-are file f e m, points-are other f (frame_same file other f e r.rest) m) at (perm-map (point_of f.weighed) r.records) in
-        relisted (settingsOf file f) (pointsIn file f) (pointsIn other f) (words-in file f b) p
+        relisted (settings_of file f) (points_in file f) (points_in other f) (words-in file f b) p

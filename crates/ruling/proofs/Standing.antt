@@ -9,12 +9,12 @@ use native.Mathlib.Decide.{dec_lt}
 use native.Mathlib.Omega.{arith}
 use lib.ListN.{length, get_or}
 use borrow.Author.Tests.{eq-eqb, ltb-false}
-use Rattle.folds.specs.Among.{anyIn, pairIn}
+use Rattle.folds.specs.Among.{any_in, pair_in}
 use Rattle.folds.proofs.Among.{none_in, any_order, pair-order}
 use Rattle.folds.proofs.Below.{or-none}
 use Rattle.folds.specs.Lists.{All, list_of}
 use Rattle.folds.proofs.Lists.{length-list, list_at, is-list}
-use Rattle.view.specs.View.{maxPoints}
+use Rattle.view.specs.View.{max_points}
 use Rattle.refusals.proofs.Laws.{holds, none-applies-in}
 use Rattle.cells.specs.Points.{Point, nowhere, key_of}
 use Rattle.cells.specs.Cell.{cell_of, before}
@@ -24,31 +24,31 @@ use Rattle.sort.proofs.Sorted.{At, all-at, at_all, sort-perm, sort-length, sort-
 use Rattle.grid.specs.InOrder.{CellOrder}
 use Rattle.grid.proofs.InOrder.{order-by-keys}
 use Rattle.sheet_file.specs.Bytes.{Bytes, le32}
-use Rattle.sheet_file.specs.Frame.{framingOf, layout_of}
-use Rattle.sheet_file.specs.Refusals.{settingsOf, misfit}
+use Rattle.sheet_file.specs.Frame.{framing_of, layout_of}
+use Rattle.sheet_file.specs.Refusals.{settings_of, misfit}
 use Rattle.sheet_file.specs.declared.Fraction.{Fraction}
 use Rattle.sheet_file.specs.declared.Framing.TheVariants.{Framed}
 use Rattle.sheet_file.specs.declared.Layout.{Layout}
 use Rattle.sheet_file.specs.declared.Settings.{Settings}
 use Rattle.sheet_file.proofs.Words.{le32-small}
 use Rattle.sheet_file.proofs.Fields.{is_framed}
-use Rattle.points.specs.Records.{ithStrength, ithPoint, pointsIn}
-use Rattle.points.specs.Refusals.{pointRefusals, offRange, offLimit, offStrength, offFraction, sameCell, cellOrder, comesBefore}
+use Rattle.points.specs.Records.{ith_strength, ith_point, points_in}
+use Rattle.points.specs.Refusals.{point_refusals, off_range, off_limit, off_strength, off_fraction, same_cell, cell_order, comes_before}
 use Rattle.points.proofs.Neighbours.{eqb_swap}
 use Rattle.points.proofs.Clashes.{Ranged, ranged, cells-by-key}
 use Rattle.points.proofs.Located.{length-points}
-use Rattle.ruling.specs.Ruling.{accepted, rulingFor, rulingOf, points_of, applies}
+use Rattle.ruling.specs.Ruling.{accepted, ruling_for, ruling_of, points_of, applies}
 use Rattle.ruling.proofs.Given.{for-accepted, none-applies, is-accepted, in-file}
 use Rattle.ruling.proofs.Numbered.{sorted-by-number}
 
 -- ---- lists by place
 
 -- no two at different places pass
-pair-none : {A : Type 0} (t : A → A → Bool) (d : A) (l : List A) → pairIn t l ≡ false → (i j : ℕ) → i < j → j < length l → t (get_or l i d) (get_or l j d) ≡ false
+pair-none : {A : Type 0} (t : A → A → Bool) (d : A) (l : List A) → pair_in t l ≡ false → (i j : ℕ) → i < j → j < length l → t (get_or l i d) (get_or l j d) ≡ false
 pair-none t d [] e i j ij jn = absurd (omega arith)
 pair-none t d (a ∷ l) e i zero ij jn = absurd (omega arith)
-pair-none t d (a ∷ l) e zero (suc j) ij jn = all-at (λ b. t a b ≡ false) d l (none_in (t a) l (or-none (anyIn (t a) l) (pairIn t l) e).0) j (omega arith)
-pair-none t d (a ∷ l) e (suc i) (suc j) ij jn = pair-none t d l (or-none (anyIn (t a) l) (pairIn t l) e).1 i j (omega arith) (omega arith)
+pair-none t d (a ∷ l) e zero (suc j) ij jn = all-at (λ b. t a b ≡ false) d l (none_in (t a) l (or-none (any_in (t a) l) (pair_in t l) e).0) j (omega arith)
+pair-none t d (a ∷ l) e (suc i) (suc j) ij jn = pair-none t d l (or-none (any_in (t a) l) (pair_in t l) e).1 i j (omega arith) (omega arith)
 
 rises-at : {A : Type 0} (before : A → A → Bool) (d : A) (l : List A) → Rises before l → (i j : ℕ) → i < j → j < length l → before (get_or l j d) (get_or l i d) ≡ false
 rises-at before d [] r i j ij jn = absurd (omega arith)
@@ -64,7 +64,7 @@ order-of i j = go (dec_lt i j) (dec_lt j i)
     go (no f) (yes l) = inr (inr l)
     go (no f) (no g) = inl (omega arith)
 
-pub cell-either-way : (p q : Point) → sameCell p q ≡ sameCell q p
+pub cell-either-way : (p q : Point) → same_cell p q ≡ same_cell q p
 cell-either-way p q = rw (eqb_swap p.u q.u, eqb_swap p.v q.v)
 
 -- ---- of a list of points
@@ -78,15 +78,15 @@ pub record Words (p : Point) : Type 0 where
   pub y : p.y < 2 ^ 32
   pub strength : p.strength < 2 ^ 32
 
-pub all-in-range : (ps : List Point) → All Words ps → anyIn offRange ps ≡ false → All Ranged ps
+pub all-in-range : (ps : List Point) → All Words ps → any_in off_range ps ≡ false → All Ranged ps
 all-in-range [] h e = tt
-all-in-range (p ∷ ps) h e = let w = or-none (offRange p) (anyIn offRange ps) e in (ranged p h.0.u h.0.v w.0, all-in-range ps h.1 w.1)
+all-in-range (p ∷ ps) h e = let w = or-none (off_range p) (any_in off_range ps) e in (ranged p h.0.u h.0.v w.0, all-in-range ps h.1 w.1)
 
 -- points that are all in range, and no two in one cell
 pub record Apart (ps : List Point) : Type 0 where
   pub words : All Words ps
-  pub in-range : anyIn offRange ps ≡ false
-  pub apart : pairIn sameCell ps ≡ false
+  pub in-range : any_in off_range ps ≡ false
+  pub apart : pair_in same_cell ps ≡ false
 
 module _ (ps : List Point) (h : Apart ps) where
   ranged-at : (i : ℕ) → i < length ps → Ranged (get_or ps i nowhere)
@@ -97,8 +97,8 @@ module _ (ps : List Point) (h : Apart ps) where
   different i j ij jn e =
       let p = get_or ps i nowhere in
       let q = get_or ps j nowhere in
-      let y : sameCell p q ≡ true = cells-by-key p q (ranged-at i (omega arith)) (ranged-at j jn) ∙ rw (eq-eqb (key_of p) (key_of q) e) in
-      true≢false (sym y ∙ pair-none sameCell nowhere ps h.apart i j ij jn)
+      let y : same_cell p q ≡ true = cells-by-key p q (ranged-at i (omega arith)) (ranged-at j jn) ∙ rw (eq-eqb (key_of p) (key_of q) e) in
+      true≢false (sym y ∙ pair-none same_cell nowhere ps h.apart i j ij jn)
 
   -- one key, one point
   one-point : (p q : Point) → At nowhere ps p → At nowhere ps q → key_of p ≡ key_of q → p ≡ q
@@ -115,124 +115,124 @@ module _ (ps : List Point) (h : Apart ps) where
   all_listed : All (At nowhere ps) ps
   all_listed = at_all (At nowhere ps) nowhere ps (λ i l. record { place = i; below = l; is = refl })
 
-  ordered : TotalOrder comesBefore (At nowhere ps)
+  ordered : TotalOrder comes_before (At nowhere ps)
   ordered = by_key key_of (At nowhere ps) one-point
 
   -- "Another order is any rearrangement of the points": they have one cell order
-  pub one-order : (qs : List Point) → Permᴰ ps qs → cellOrder ps ≡ cellOrder qs
-  one-order qs p = order-free comesBefore (At nowhere ps) ordered p all_listed
+  pub one-order : (qs : List Point) → Permᴰ ps qs → cell_order ps ≡ cell_order qs
+  one-order qs p = order-free comes_before (At nowhere ps) ordered p all_listed
 
-  sorted_apart : Apart (cellOrder ps)
+  sorted_apart : Apart (cell_order ps)
   sorted_apart = record {
-    words = sort-all comesBefore Words ps h.words;
-    in-range = sym (any_order offRange (sort-perm comesBefore ps)) ∙ h.in-range;
-    apart = sym (pair-order sameCell cell-either-way (sort-perm comesBefore ps)) ∙ h.apart;
+    words = sort-all comes_before Words ps h.words;
+    in-range = sym (any_order off_range (sort-perm comes_before ps)) ∙ h.in-range;
+    apart = sym (pair-order same_cell cell-either-way (sort-perm comes_before ps)) ∙ h.apart;
   }
 
-  sorted_rises : Rises comesBefore (cellOrder ps)
-  sorted_rises = sort-rises comesBefore (At nowhere ps) ordered ps all_listed
+  sorted_rises : Rises comes_before (cell_order ps)
+  sorted_rises = sort-rises comes_before (At nowhere ps) ordered ps all_listed
 
   -- "in cell order, by u, then v"
-  pub by-u-then-v : cellOrder ps ≡ sort (λ (p q : Point). before (cell_of p) (cell_of q)) ps
+  pub by-u-then-v : cell_order ps ≡ sort (λ (p q : Point). before (cell_of p) (cell_of q)) ps
   by-u-then-v =
       let g : ℕ → Point = λ i. get_or ps i nowhere in
       let n = length ps in
       let own : ps ≡ list_of n g = is-list nowhere n g ps refl (λ k l. refl) in
       let second : Point → Point → Bool = λ p q. before (cell_of p) (cell_of q) in
-      ap cellOrder own ∙ sorted-by-number g n (λ (i j : ℕ). comesBefore (g i) (g j)) comesBefore (λ i j a b. refl)
-      ∙ sym (sorted-by-number g n (λ (i j : ℕ). comesBefore (g i) (g j)) second (λ i j a b. key-order (g j) (g i) (ranged-at j b).cell (ranged-at i a).cell))
+      ap cell_order own ∙ sorted-by-number g n (λ (i j : ℕ). comes_before (g i) (g j)) comes_before (λ i j a b. refl)
+      ∙ sym (sorted-by-number g n (λ (i j : ℕ). comes_before (g i) (g j)) second (λ i j a b. key-order (g j) (g i) (ranged-at j b).cell (ranged-at i a).cell))
       ∙ ap (sort second) (sym own)
 
 -- the points, sorted, are ready for the tables of the grid
-in-cell-order : (ps : List Point) → Apart ps → length ps ≤ maxPoints → CellOrder (cellOrder ps)
+in-cell-order : (ps : List Point) → Apart ps → length ps ≤ max_points → CellOrder (cell_order ps)
 in-cell-order ps h few =
     let o = sorted_apart ps h in
-    order-by-keys (cellOrder ps) (omega (arith, sort-length comesBefore ps)) (λ k b. (ranged-at (cellOrder ps) o k b).cell)
+    order-by-keys (cell_order ps) (omega (arith, sort-length comes_before ps)) (λ k b. (ranged-at (cell_order ps) o k b).cell)
     (λ i j ij jn.
-    omega (arith, ltb-false (key_of (get_or (cellOrder ps) j nowhere)) (key_of (get_or (cellOrder ps) i nowhere)) (rises-at comesBefore nowhere (cellOrder ps) (sorted_rises ps h) i j ij jn), different (cellOrder ps) o i j ij jn))
+    omega (arith, ltb-false (key_of (get_or (cell_order ps) j nowhere)) (key_of (get_or (cell_order ps) i nowhere)) (rises-at comes_before nowhere (cell_order ps) (sorted_rises ps h) i j ij jn), different (cell_order ps) o i j ij jn))
 
 -- where no number applies, they are so
-pub none_apart : (x : Fraction) (ps : List Point) → All Words ps → anyIn holds (pointRefusals x ps) ≡ false → Apart ps
-unfolding pointRefusals
-none_apart x ps h e = let no = none-applies-in (pointRefusals x ps) e in record { words = h; in-range = no 6; apart = no 8 }
+pub none_apart : (x : Fraction) (ps : List Point) → All Words ps → any_in holds (point_refusals x ps) ≡ false → Apart ps
+unfolding point_refusals
+none_apart x ps h e = let no = none-applies-in (point_refusals x ps) e in record { words = h; in-range = no 6; apart = no 8 }
 
-in-limit : (x : Fraction) (ps : List Point) → anyIn holds (pointRefusals x ps) ≡ false → (anyIn offLimit ps ≡ false) × (anyIn offStrength ps ≡ false)
-unfolding pointRefusals
-in-limit x ps e = let no = none-applies-in (pointRefusals x ps) e in (no 7, (or-none (offFraction x) (anyIn offStrength ps) (no 13)).1)
+in-limit : (x : Fraction) (ps : List Point) → any_in holds (point_refusals x ps) ≡ false → (any_in off_limit ps ≡ false) × (any_in off_strength ps ≡ false)
+unfolding point_refusals
+in-limit x ps e = let no = none-applies-in (point_refusals x ps) e in (no 7, (or-none (off_fraction x) (any_in off_strength ps) (no 13)).1)
 
 -- what accepted points are: "in cell order", no position and no strength off the limit
 pub record Sound (ps : List Point) : Type 0 where
   pub order : CellOrder ps
-  pub limits : (k : ℕ) → k < length ps → offLimit (get_or ps k nowhere) ≡ false
-  pub strengths : (k : ℕ) → k < length ps → offStrength (get_or ps k nowhere) ≡ false
+  pub limits : (k : ℕ) → k < length ps → off_limit (get_or ps k nowhere) ≡ false
+  pub strengths : (k : ℕ) → k < length ps → off_strength (get_or ps k nowhere) ≡ false
   pub words : (k : ℕ) → k < length ps → Words (get_or ps k nowhere)
 
 -- a fault that no point has, none has in cell order
-none-sorted : (t : Point → Bool) (ps : List Point) → anyIn t ps ≡ false → (k : ℕ) → k < length (cellOrder ps) → t (get_or (cellOrder ps) k nowhere) ≡ false
-none-sorted t ps e = all-at (λ (p : Point). t p ≡ false) nowhere (cellOrder ps) (none_in t (cellOrder ps) (sym (any_order t (sort-perm comesBefore ps)) ∙ e))
+none-sorted : (t : Point → Bool) (ps : List Point) → any_in t ps ≡ false → (k : ℕ) → k < length (cell_order ps) → t (get_or (cell_order ps) k nowhere) ≡ false
+none-sorted t ps e = all-at (λ (p : Point). t p ≡ false) nowhere (cell_order ps) (none_in t (cell_order ps) (sym (any_order t (sort-perm comes_before ps)) ∙ e))
 
-pub sound-for : (s t : Settings) (ps qs : List Point) → All Words ps → length ps ≤ maxPoints → rulingFor s ps ≡ accepted t qs → Sound qs
+pub sound-for : (s t : Settings) (ps qs : List Point) → All Words ps → length ps ≤ max_points → ruling_for s ps ≡ accepted t qs → Sound qs
 sound-for s t ps qs h few e =
     let k = for-accepted s t ps qs e in
-    let q : qs ≡ cellOrder ps = cc k.1 in
+    let q : qs ≡ cell_order ps = cc k.1 in
     let x = s.score_frac in
     rw q
     (record {
       order = in-cell-order ps (none_apart x ps h k.0) few;
-      limits = none-sorted offLimit ps (in-limit x ps k.0).0;
-      strengths = none-sorted offStrength ps (in-limit x ps k.0).1;
-      words = all-at Words nowhere (cellOrder ps) (sort-all comesBefore Words ps h);
+      limits = none-sorted off_limit ps (in-limit x ps k.0).0;
+      strengths = none-sorted off_strength ps (in-limit x ps k.0).1;
+      words = all-at Words nowhere (cell_order ps) (sort-all comes_before Words ps h);
     })
 
 -- ---- of a file
 
-strength-small : (file : List ℕ) (f : Layout) (i : ℕ) → Bytes file → ithStrength file f i < 2 ^ 32
+strength-small : (file : List ℕ) (f : Layout) (i : ℕ) → Bytes file → ith_strength file f i < 2 ^ 32
 strength-small file f i b = go f.weighed
   where
     go : (t : Bool) → cond t (le32 file (f.strengths + 4 + 4 * i)) 0 < 2 ^ 32
     go true = le32-small file b _
     go false = omega arith
 
-pub words-in : (file : List ℕ) (f : Layout) → Bytes file → All Words (pointsIn file f)
-unfolding pointsIn
+pub words-in : (file : List ℕ) (f : Layout) → Bytes file → All Words (points_in file f)
+unfolding points_in
 words-in file f b =
-    at_all Words nowhere (list_of f.count (ithPoint file f))
+    at_all Words nowhere (list_of f.count (ith_point file f))
     (λ k l.
-    rw (list_at f.count (ithPoint file f) k nowhere (omega (arith, length-list f.count (ithPoint file f))))
+    rw (list_at f.count (ith_point file f) k nowhere (omega (arith, length-list f.count (ith_point file f))))
     (record { u = le32-small file b _; v = le32-small file b _; index = le32-small file b _; x = le32-small file b _; y = le32-small file b _; strength = strength-small file f k b }))
 
 -- what an accepted ruling says
 pub record AcceptedFile (file : List ℕ) (f : Layout) (s : Settings) (ps : List Point) : Type 0 where
-  pub framed : framingOf file ≡ Framed f
+  pub framed : framing_of file ≡ Framed f
   pub fits : misfit f ≡ false
-  pub few : f.count ≤ maxPoints
-  pub settings-are : s ≡ settingsOf file f
-  pub points-are : ps ≡ cellOrder (pointsIn file f)
-  pub ruled-so : rulingFor (settingsOf file f) (pointsIn file f) ≡ accepted s ps
+  pub few : f.count ≤ max_points
+  pub settings-are : s ≡ settings_of file f
+  pub points-are : ps ≡ cell_order (points_in file f)
+  pub ruled-so : ruling_for (settings_of file f) (points_in file f) ≡ accepted s ps
   pub size : length ps ≡ f.count
 
-pub accepted-file : (file : List ℕ) (room : ℕ) (s : Settings) (ps : List Point) → rulingOf file room ≡ accepted s ps → AcceptedFile file (layout_of file) s ps
+pub accepted-file : (file : List ℕ) (room : ℕ) (s : Settings) (ps : List Point) → ruling_of file room ≡ accepted s ps → AcceptedFile file (layout_of file) s ps
 unfolding applies
 accepted-file file room s ps e =
     let no = none-applies file room e in
     let q = (is-accepted file room e).1 in
-    let p : ps ≡ cellOrder (points_of file) = cc q in
+    let p : ps ≡ cell_order (points_of file) = cc q in
     record {
       framed = is_framed file (no 1);
       fits = no 12;
-      few = ltb-false maxPoints (layout_of file).count (no 2);
+      few = ltb-false max_points (layout_of file).count (no 2);
       settings-are = cc q;
       points-are = p;
       ruled-so = (in-file file room e).1;
-      size = ap length p ∙ sort-length comesBefore (points_of file) ∙ length-points file (layout_of file);
+      size = ap length p ∙ sort-length comes_before (points_of file) ∙ length-points file (layout_of file);
     }
 
-pub sound : (file : List ℕ) (room : ℕ) (s : Settings) (ps : List Point) → Bytes file → rulingOf file room ≡ accepted s ps → Sound ps
+pub sound : (file : List ℕ) (room : ℕ) (s : Settings) (ps : List Point) → Bytes file → ruling_of file room ≡ accepted s ps → Sound ps
 sound file room s ps b e =
     let f = layout_of file in
     let k = accepted-file file room s ps e in
-    sound-for (settingsOf file f) s (points_of file) ps (words-in file f b) (omega (arith, k.few, length-points file f)) k.ruled-so
+    sound-for (settings_of file f) s (points_of file) ps (words-in file f b) (omega (arith, k.few, length-points file f)) k.ruled-so
 
 -- "in cell order": the points of an accepted file are ready for the tables of the grid
-pub accepted-order : (file : List ℕ) (room : ℕ) (s : Settings) (ps : List Point) → Bytes file → rulingOf file room ≡ accepted s ps → CellOrder ps
+pub accepted-order : (file : List ℕ) (room : ℕ) (s : Settings) (ps : List Point) → Bytes file → ruling_of file room ≡ accepted s ps → CellOrder ps
 accepted-order file room s ps b e = (sound file room s ps b e).order

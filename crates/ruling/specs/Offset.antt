@@ -11,9 +11,9 @@ use Rattle.sheet_file.specs.Bytes.{byte_at}
 use Rattle.sheet_file.specs.Frame.{layout_of}
 use Rattle.sheet_file.specs.declared.Layout.{Layout}
 use Rattle.sheet_file.specs.declared.Settings.{Settings}
-use Rattle.points.specs.Records.{pointIn, ithPoint}
+use Rattle.points.specs.Records.{point_in, ith_point}
 use Rattle.ruling.specs.Ruling.{Ruling, accepted}
-use Rattle.ruling.specs.Header.{pointsEnd}
+use Rattle.ruling.specs.Header.{points_end}
 
 -- q is p with a added to u and b to v, and nothing else changed
 pub record Displaced (a b : ℤ) (p q : Point) : Type 0 where
@@ -32,8 +32,8 @@ pub record AllDisplaced (a b : ℤ) (ps qs : List Point) : Type 0 where
 pub record FileDisplaced (file other : List ℕ) (f : Layout) (a b : ℤ) : Type 0 where
   pub size : length other ≡ length file
   pub head : (k : ℕ) → k < f.points → get_or other k 0 ≡ get_or file k 0
-  pub after : (k : ℕ) → pointsEnd f ≤ k → get_or other k 0 ≡ get_or file k 0
-  pub cell : (i : ℕ) → i < f.count → cell_of (ithPoint other f i) ≡ moved a b (cell_of (ithPoint file f i))
+  pub after : (k : ℕ) → points_end f ≤ k → get_or other k 0 ≡ get_or file k 0
+  pub cell : (i : ℕ) → i < f.count → cell_of (ith_point other f i) ≡ moved a b (cell_of (ith_point file f i))
   pub rest : (i j : ℕ) → i < f.count → 8 ≤ j → j < 20 → get_or other (f.points + 20 * i + j) 0 ≡ get_or file (f.points + 20 * i + j) 0
 
 -- this ruling accepts, with settings s, points that in cell order are those of ps moved, and no others
@@ -51,22 +51,22 @@ byte_of z j = of_z w32 z / 256 ^ j % 256
 
 module _ (file : List ℕ) (a b : ℤ) where
   -- "each point is u i32, v i32, index u32, x f32, y f32": byte j of the point at a position, with a added to u and b to v
-  abbrev pub movedByte : ℕ → ℕ → ℕ
-  movedByte at j =
-      let c = moved a b (cell_of (pointIn file at 0)) in
+  abbrev pub moved_byte : ℕ → ℕ → ℕ
+  moved_byte at j =
+      let c = moved a b (cell_of (point_in file at 0)) in
       cond (ltb j 4) (byte_of c.u j) (cond (ltb j 8) (byte_of c.v (j - 4)) (byte_at file (at + j)))
 
   -- byte k of the moved file: before the points and after them it stays, and among them it is byte (k - start) % 20 of point (k - start) / 20
-  abbrev pub byteMoved : ℕ → ℕ
-  byteMoved k =
+  abbrev pub byte_moved : ℕ → ℕ
+  byte_moved k =
       let start = (layout_of file).points in
-      cond (ltb k start || leb (pointsEnd (layout_of file)) k) (byte_at file k) (movedByte (start + 20 * ((k - start) / 20)) ((k - start) % 20))
+      cond (ltb k start || leb (points_end (layout_of file)) k) (byte_at file k) (moved_byte (start + 20 * ((k - start) / 20)) ((k - start) % 20))
 
   -- "An offset is one whole number added to every u and one to every v, of either sign; index, position, listing order, settings and
   -- buffer length stay": the file moved by (a, b)
-  unfoldable pub movedFile : List ℕ
+  unfoldable pub moved_file : List ℕ
   unfolding list_of
-  movedFile = list_of (length file) byteMoved
+  moved_file = list_of (length file) byte_moved
 
 -- "In range means that the condition of number 6 fails": the moved cell of each point lies in −8,000 to 8,000
 abbrev pub StaysInRange : ℤ → ℤ → List Point → Type 0

@@ -8,8 +8,8 @@ use Rattle.sheet_file.specs.declared.Layout.{Layout}
 use Rattle.ruling.specs.Header.{Headed}
 
 -- there is a strength for each point
-abbrev pub hasStrengths : Layout → Bool
-hasStrengths f = f.weighed && not (misfit f)
+abbrev pub has_strengths : Layout → Bool
+has_strengths f = f.weighed && not (misfit f)
 
 -- n bytes from a position on
 abbrev pub bytes_at : List ℕ → ℕ → ℕ → List ℕ
@@ -17,15 +17,15 @@ bytes_at file at n = take n (drop at file)
 
 -- the record of point i: its 20 bytes, and the four of its strength, if there is one. Where tag 4 has another length there is nothing to take
 -- along, and both files are refused with 12.
-abbrev pub recordOf : List ℕ → Layout → ℕ → List ℕ
-recordOf file f i = bytes_at file (f.points + 20 * i) 20 ++ cond (hasStrengths f) (bytes_at file (f.strengths + 4 + 4 * i) 4) []
+abbrev pub record_of : List ℕ → Layout → ℕ → List ℕ
+record_of file f i = bytes_at file (f.points + 20 * i) 20 ++ cond (has_strengths f) (bytes_at file (f.strengths + 4 + 4 * i) 4) []
 
 -- all of them
-unfoldable pub recordsIn : List ℕ → Layout → List (List ℕ)
+unfoldable pub records_in : List ℕ → Layout → List (List ℕ)
 unfolding list_of
-recordsIn file f = list_of f.count (recordOf file f)
+records_in file f = list_of f.count (record_of file f)
 
 -- other is file with its records of points in another order
 pub record Relisted (file other : List ℕ) (f : Layout) : Type 0 where
   pub rest : Headed file other f
-  pub records : Permᴰ (recordsIn file f) (recordsIn other f)
+  pub records : Permᴰ (records_in file f) (records_in other f)

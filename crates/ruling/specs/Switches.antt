@@ -1,15 +1,15 @@
 -- "Changing only the two switches": the file with other switches, and the settings with them. Assumes nothing.
 use Rattle.std.specs.Prelude.{◌≡◌, false, List, ◌⊎◌, ℕ, ◌≤◌, ◌<◌, eqb, length, get_or}
 use Rattle.sheet_file.specs.Bytes.{byte_at}
-use Rattle.sheet_file.specs.Refusals.{noFlag}
+use Rattle.sheet_file.specs.Refusals.{no_flag}
 use Rattle.sheet_file.specs.declared.Settings.{Settings}
 
 -- other is file with other switches, bytes 22 and 23, each 0 or 1
 pub record Switched (file other : List ℕ) : Type 0 where
   pub size : length other ≡ length file
   pub rest : (k : ℕ) → (k < 22) ⊎ (24 ≤ k) → get_or other k 0 ≡ get_or file k 0
-  pub first : noFlag (byte_at other 22) ≡ false
-  pub second : noFlag (byte_at other 23) ≡ false
+  pub first : no_flag (byte_at other 22) ≡ false
+  pub second : no_flag (byte_at other 23) ≡ false
 
 -- settings with these bytes for their switches
 abbrev pub switched : Settings → ℕ → ℕ → Settings

@@ -1,9 +1,9 @@
 // The ruling on a sheet file: the number of a refusal, or the settings and the points in cell order.
 #![tactic(auto)]
 
-ghost use Rattle.points.specs.Records.{pointsIn, PointsFit};
+ghost use Rattle.points.specs.Records.{points_in, PointsFit};
 ghost use Rattle.points.specs.Table.{Tabled};
-ghost use Rattle.ruling.specs.Ruling.{refused, rulingFor, rulingOf, rowsSize};
+ghost use Rattle.ruling.specs.Ruling.{refused, ruling_for, ruling_of, rows_size};
 ghost use Rattle.ruling.specs.Sheet.{Ruled};
 ghost use Rattle.std.specs.Prelude.{◌≡◌, []};
 
@@ -16,7 +16,7 @@ pub const ROWS_SIZE: usize = 28 * MAX_POINTS;
 
 // The number that the specifications use is the code's.
 pub fn rows_size() -> usize
-    ensures { result ≡ rowsSize }
+    ensures { result ≡ rows_size }
 {
     ROWS_SIZE
 }
@@ -42,7 +42,7 @@ fn refused_with(table: Table) -> Sheet
 
 fn read_points(file: &[u8], h: Header) -> Sheet
     requires { PointsFit file.now h.layout }
-    ensures { Ruled (rulingFor h.settings (pointsIn file.now h.layout)) result }
+    ensures { Ruled (ruling_for h.settings (points_in file.now h.layout)) result }
 {
     let layout = h.layout;
     let n = layout.count;
@@ -61,7 +61,7 @@ fn read_points(file: &[u8], h: Header) -> Sheet
 
 // The ruling on any bytes; `room` is the length of the result buffer.
 pub fn read(file: &[u8], room: usize) -> Sheet
-    ensures { Ruled (rulingOf file.now room) result }
+    ensures { Ruled (ruling_of file.now room) result }
 {
     match sheet_file::read(file, room) {
         Reading::Refused(k) => refused_with(points::refused(k)),

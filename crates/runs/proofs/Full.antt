@@ -8,30 +8,30 @@ use lib.Dec.{leb}
 use lib.ListN.{length, get_or, drop, drop_of_length-le}
 use lib.Seq.{drop-cons}
 use borrow.Author.Tests.{leb-false, lt-leb}
-use Rattle.folds.specs.Among.{anyIn}
+use Rattle.folds.specs.Among.{any_in}
 use Rattle.folds.proofs.Below.{or-none, or-false}
-use Rattle.runs.specs.Run.{mostSheets, sumLimit, full}
+use Rattle.runs.specs.Run.{most_sheets, sum_limit, full}
 use Rattle.runs.specs.declared.Run.{Run}
 
 -- ---- of any list
 
 module _ {A : Type 0} (t : A → Bool) (l : List A) where
   -- whether some element from place i on passes
-  pub any_next : (i : ℕ) (d : A) → i < length l → anyIn t (drop i l) ≡ t (get_or l i d) || anyIn t (drop (i + 1) l)
+  pub any_next : (i : ℕ) (d : A) → i < length l → any_in t (drop i l) ≡ t (get_or l i d) || any_in t (drop (i + 1) l)
   any_next i d h = rw (add-one i, drop-cons l i d h)
 
-  pub any-end : (i : ℕ) → length l ≤ i → anyIn t (drop i l) ≡ false
+  pub any-end : (i : ℕ) → length l ≤ i → any_in t (drop i l) ≡ false
   any-end i h = rw (drop_of_length-le l h)
 
 module _ {A : Type 0} (t : A → Bool) (d : A) where
   -- none passes just where what is read at any place fails
-  pub none-at : (l : List A) → t d ≡ false → anyIn t l ≡ false → (i : ℕ) → t (get_or l i d) ≡ false
+  pub none-at : (l : List A) → t d ≡ false → any_in t l ≡ false → (i : ℕ) → t (get_or l i d) ≡ false
   none-at [] e h zero = e
   none-at [] e h (suc i) = e
-  none-at (a ∷ l) e h zero = (or-none (t a) (anyIn t l) h).0
-  none-at (a ∷ l) e h (suc i) = none-at l e (or-none (t a) (anyIn t l) h).1 i
+  none-at (a ∷ l) e h zero = (or-none (t a) (any_in t l) h).0
+  none-at (a ∷ l) e h (suc i) = none-at l e (or-none (t a) (any_in t l) h).1 i
 
-  pub none_of : (l : List A) → ((i : ℕ) → t (get_or l i d) ≡ false) → anyIn t l ≡ false
+  pub none_of : (l : List A) → ((i : ℕ) → t (get_or l i d) ≡ false) → any_in t l ≡ false
   none_of [] h = refl
   none_of (a ∷ l) h = rw (h 0) (none_of l (λ i. h (suc i)))
 
@@ -39,19 +39,19 @@ module _ {A : Type 0} (t : A → Bool) (d : A) where
 
 -- every number is below its limit
 pub record Below (r : Run) : Type 0 where
-  pub few : r.sheets < mostSheets
-  pub low : (i : ℕ) → get_or r.new_sums i 0 < sumLimit
+  pub few : r.sheets < most_sheets
+  pub low : (i : ℕ) → get_or r.new_sums i 0 < sum_limit
 
 pub not_full : (r : Run) → full r ≡ false → Below r
 unfolding full
 not_full r e =
-    let w = or-none (leb mostSheets r.sheets) (anyIn (leb sumLimit) r.new_sums) e in
+    let w = or-none (leb most_sheets r.sheets) (any_in (leb sum_limit) r.new_sums) e in
     record {
-      few = leb-false mostSheets r.sheets w.0;
-      low = λ i. leb-false sumLimit (get_or r.new_sums i 0) (none-at (leb sumLimit) 0 r.new_sums refl w.1 i);
+      few = leb-false most_sheets r.sheets w.0;
+      low = λ i. leb-false sum_limit (get_or r.new_sums i 0) (none-at (leb sum_limit) 0 r.new_sums refl w.1 i);
     }
 
 -- where every new sum is below its limit, the count of sheets decides
-pub full_by : (r : Run) → ((i : ℕ) → get_or r.new_sums i 0 < sumLimit) → full r ≡ leb mostSheets r.sheets
+pub full_by : (r : Run) → ((i : ℕ) → get_or r.new_sums i 0 < sum_limit) → full r ≡ leb most_sheets r.sheets
 unfolding full
-full_by r h = rw (none_of (leb sumLimit) 0 r.new_sums (λ i. lt-leb sumLimit (get_or r.new_sums i 0) (h i))) (or-false (leb mostSheets r.sheets))
+full_by r h = rw (none_of (leb sum_limit) 0 r.new_sums (λ i. lt-leb sum_limit (get_or r.new_sums i 0) (h i))) (or-false (leb most_sheets r.sheets))

@@ -11,7 +11,7 @@ use borrow.Author.Tests.{eqb-true, leb-true, eq-eqb, le-leb, lt-leb}
 use Rattle.folds.specs.Lists.{All, over}
 use Rattle.folds.proofs.Below.{or-none, both_ways}
 use Rattle.folds.proofs.Column.{replicate-at}
-use Rattle.runs.specs.Run.{summed, mostSheets, sumLimit, full, withSheet, Small, Yield, taken, added, runWith, runOver, talliesIn, sumIn, someFull}
+use Rattle.runs.specs.Run.{summed, most_sheets, sum_limit, full, with_sheet, Small, Yield, taken, added, run_with, run_over, tallies_in, sum_in, some_full}
 use Rattle.runs.specs.Promises.{SheetPromise, Totals, TotalsPromise, NoneFull, OrderPromise, SmallYield, FitsU32, FitsPromise, Bounded, StartPromise}
 use Rattle.runs.specs.declared.Run.{Run}
 use Rattle.runs.proofs.Full.{not_full, full_by}
@@ -32,8 +32,8 @@ after-sheet r = record {
 
 -- ---- the totals
 
-totals-none : (r : Run) → Totals r (talliesIn r []) (runOver r [])
-unfolding talliesIn runOver sumIn
+totals-none : (r : Run) → Totals r (tallies_in r []) (run_over r [])
+unfolding tallies_in run_over sum_in
 totals-none r = record { old = refl; count = omega arith; new = λ i h. omega arith }
 
 -- what one sheet adds, and then the others
@@ -61,12 +61,12 @@ over-order step s (Permᴰ.swap {a} {b} {a'} {b'} {l} e f) c = rw (s c a b, e, f
 over-order step s (Permᴰ.trans p q) c = over-order step s p c ∙ over-order step s q c
 
 -- where the record is never full, each accepted sheet is added
-all-added : (r : Run) (sheets : List Yield) → NoneFull r sheets → runOver r sheets ≡ over added r sheets
+all-added : (r : Run) (sheets : List Yield) → NoneFull r sheets → run_over r sheets ≡ over added r sheets
 unfolding over
 all-added r [] e = over_none r
 all-added r (sheet ∷ l) e =
-    let w = or-none (full r) (someFull (runWith r sheet) l) (sym (full-cons r sheet l) ∙ e) in
-    let t : runWith r sheet ≡ added r sheet = rw (with-is r sheet, taken_is r sheet, w.0) in
+    let w = or-none (full r) (some_full (run_with r sheet) l) (sym (full-cons r sheet l) ∙ e) in
+    let t : run_with r sheet ≡ added r sheet = rw (with-is r sheet, taken_is r sheet, w.0) in
     over-cons r sheet l ∙ rw t (all-added (added r sheet) l (rw t at w.1))
 
 pub order-free : OrderPromise
@@ -75,8 +75,8 @@ order-free r a b p e f = all-added r a e ∙ over-order added added-swap p r ∙
 -- ---- the size of the numbers
 
 -- what each sheet that is added keeps, the run keeps
-module _ (P : Run → Type 0) (keeps : (r : Run) (tally : List ℕ) → full r ≡ false → Small tally → P r → P (withSheet r tally)) where
-  one-keeps : (r : Run) (sheet : Yield) → SmallYield sheet → P r → P (runWith r sheet)
+module _ (P : Run → Type 0) (keeps : (r : Run) (tally : List ℕ) → full r ≡ false → Small tally → P r → P (with_sheet r tally)) where
+  one-keeps : (r : Run) (sheet : Yield) → SmallYield sheet → P r → P (run_with r sheet)
   one-keeps r sheet s p = rw (with-is r sheet, taken_is r sheet) (go (full r) refl sheet s)
     where
       go : (b : Bool) → full r ≡ b → (y : Yield) → SmallYield y → P (added r (cond b none y))
@@ -84,14 +84,14 @@ module _ (P : Run → Type 0) (keeps : (r : Run) (tally : List ℕ) → full r �
       go false e none s = p
       go false e (some tally) s = keeps r tally e s p
 
-  run-keeps : (r : Run) (sheets : List Yield) → All SmallYield sheets → P r → P (runOver r sheets)
+  run-keeps : (r : Run) (sheets : List Yield) → All SmallYield sheets → P r → P (run_over r sheets)
   run-keeps r [] s p = rw (over_none r) p
-  run-keeps r (sheet ∷ l) s p = rw (over-cons r sheet l) (run-keeps (runWith r sheet) l s.1 (one-keeps r sheet s.0 p))
+  run-keeps r (sheet ∷ l) s p = rw (over-cons r sheet l) (run-keeps (run_with r sheet) l s.1 (one-keeps r sheet s.0 p))
 
 pub nothing-wraps : FitsPromise
 nothing-wraps r sheets s f = run-keeps FitsU32 one r sheets s f
   where
-    one : (r : Run) (tally : List ℕ) → full r ≡ false → Small tally → FitsU32 r → FitsU32 (withSheet r tally)
+    one : (r : Run) (tally : List ℕ) → full r ≡ false → Small tally → FitsU32 r → FitsU32 (with_sheet r tally)
     one r tally e s f =
         let b = not_full r e in
         record {
@@ -102,34 +102,34 @@ nothing-wraps r sheets s f = run-keeps FitsU32 one r sheets s f
 
 -- ---- a run from its start on
 
-bounded-more : (r : Run) (tally : List ℕ) → full r ≡ false → Small tally → Bounded r → Bounded (withSheet r tally)
+bounded-more : (r : Run) (tally : List ℕ) → full r ≡ false → Small tally → Bounded r → Bounded (with_sheet r tally)
 bounded-more r tally e s b = record {
   few = omega (arith, count-up r tally, (not_full r e).few);
   each = λ i. omega (arith, count-up r tally, sum-le r tally i s, b.each i);
 }
 
-bounded-low : (r : Run) → Bounded r → (i : ℕ) → get_or r.new_sums i 0 < sumLimit
+bounded-low : (r : Run) → Bounded r → (i : ℕ) → get_or r.new_sums i 0 < sum_limit
 bounded-low r b i = omega (arith, b.few, b.each i)
 
 -- one sheet more counts at most one more
-count-le : (r : Run) (sheet : Yield) → (runWith r sheet).sheets ≤ r.sheets + 1
+count-le : (r : Run) (sheet : Yield) → (run_with r sheet).sheets ≤ r.sheets + 1
 count-le r sheet = rw (with-is r sheet) (go (taken r sheet))
   where
     go : (y : Yield) → (added r y).sheets ≤ r.sheets + 1
     go none = omega arith
     go (some tally) = omega (arith, count-up r tally)
 
-bounded-room : (r : Run) (sheets : List Yield) → All SmallYield sheets → Bounded r → r.sheets + length sheets ≤ mostSheets → NoneFull r sheets
+bounded-room : (r : Run) (sheets : List Yield) → All SmallYield sheets → Bounded r → r.sheets + length sheets ≤ most_sheets → NoneFull r sheets
 bounded-room r [] s b h = full-none r
 bounded-room r (sheet ∷ l) s b h =
-    rw (full-cons r sheet l, full_by r (bounded-low r b), lt-leb mostSheets r.sheets (omega arith))
-    (bounded-room (runWith r sheet) l s.1 (one-keeps Bounded bounded-more r sheet s.0 b) (omega (arith, count-le r sheet)))
+    rw (full-cons r sheet l, full_by r (bounded-low r b), lt-leb most_sheets r.sheets (omega arith))
+    (bounded-room (run_with r sheet) l s.1 (one-keeps Bounded bounded-more r sheet s.0 b) (omega (arith, count-le r sheet)))
 
-by_count : (n : ℕ) → n ≤ mostSheets → leb mostSheets n ≡ eqb n mostSheets
+by_count : (n : ℕ) → n ≤ most_sheets → leb most_sheets n ≡ eqb n most_sheets
 by_count n h =
-    both_ways (leb mostSheets n) (eqb n mostSheets)
-    (λ e. eq-eqb n mostSheets (omega (arith, leb-true mostSheets n e)))
-    (λ e. le-leb mostSheets n (omega (arith, eqb-true n mostSheets e)))
+    both_ways (leb most_sheets n) (eqb n most_sheets)
+    (λ e. eq-eqb n most_sheets (omega (arith, leb-true most_sheets n e)))
+    (λ e. le-leb most_sheets n (omega (arith, eqb-true n most_sheets e)))
 
 pub from_start : StartPromise
 from_start = record {

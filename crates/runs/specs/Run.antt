@@ -3,22 +3,22 @@
 use Rattle.std.specs.Prelude.{◌≡◌, Bool, false, ◌||◌, ℕ, ◌+◌, ◌^◌, ◌≤◌, leb, length, get_or, replicate}
 use mathlib.Core.List.{List, [], ◌∷◌, ◌++◌, Option-to_list}
 use Rattle.std.proofs.Math.Option.{Option, none, some}
-use Rattle.folds.specs.Among.{anyIn}
+use Rattle.folds.specs.Among.{any_in}
 use Rattle.folds.specs.Lists.{list_of, over}
 use Rattle.refusals.specs.First.{Refusal, ruled}
-use Rattle.view.specs.View.{maxPoints}
-use Rattle.marks.specs.Filters.{filterCount, validate, orientation, wrong, leaf, component}
+use Rattle.view.specs.View.{max_points}
+use Rattle.marks.specs.Filters.{filter_count, validate, orientation, wrong, leaf, component}
 use Rattle.runs.specs.declared.Run.{Run}
 
 -- "kept and the four filters"; "the tally and the run's new sums gain `leaf` before `component`": the places in a tally whose numbers a run
 -- adds up, in the order of its sums. A tally is a list of counts of indices: at the place of each filter in the table those under it, at
--- filterCount those kept.
+-- filter_count those kept.
 abbrev pub summed : List ℕ
-summed = filterCount ∷ validate ∷ orientation ∷ wrong ∷ leaf ∷ component ∷ []
+summed = filter_count ∷ validate ∷ orientation ∷ wrong ∷ leaf ∷ component ∷ []
 
 -- "its five old sums": how many there are, whatever is added up since
-abbrev pub oldSums : ℕ
-oldSums = 5
+abbrev pub old_sums : ℕ
+old_sums = 5
 
 -- ---- the start
 
@@ -28,32 +28,32 @@ abbrev pub run_from : List ℕ → Run
 run_from old = record { old_sums = old; sheets = 0; new_sums = replicate (length summed) 0 }
 
 -- a run that starts now: zeros throughout
-abbrev pub newRun : Run
-newRun = run_from (replicate oldSums 0)
+abbrev pub new_run : Run
+new_run = run_from (replicate old_sums 0)
 
 -- ---- a full record
 
-abbrev pub mostSheets : ℕ
-mostSheets = 65535
+abbrev pub most_sheets : ℕ
+most_sheets = 65535
 
-abbrev pub sumLimit : ℕ
-sumLimit = 2 ^ 31
+abbrev pub sum_limit : ℕ
+sum_limit = 2 ^ 31
 
 -- "its record counts 65,535 or more accepted ones or has a new sum of 2^31 or more"
 unfoldable pub full : Run → Bool
-full r = leb mostSheets r.sheets || anyIn (leb sumLimit) r.new_sums
+full r = leb most_sheets r.sheets || any_in (leb sum_limit) r.new_sums
 
 -- "The run's call alone refuses with 11, before reading the file, any sheet if .."
-unfoldable pub runRefusals : Run → List Refusal
+unfoldable pub run_refusals : Run → List Refusal
 unfolding full
-runRefusals r = (11, full r) ∷ []
+run_refusals r = (11, full r) ∷ []
 
 -- ---- one sheet more
 
 -- "totals of a run": one more sheet, and each new sum up by its number of the tally; the old sums "stand unchanged"
-unfoldable pub withSheet : Run → List ℕ → Run
+unfoldable pub with_sheet : Run → List ℕ → Run
 unfolding list_of
-withSheet r tally =
+with_sheet r tally =
     record {
       old_sums = r.old_sums;
       sheets = r.sheets + 1;
@@ -62,7 +62,7 @@ withSheet r tally =
 
 -- no number of a tally is above the most points of a sheet
 abbrev pub Small : List ℕ → Type 0
-Small tally = (f : ℕ) → get_or tally f 0 ≤ maxPoints
+Small tally = (f : ℕ) → get_or tally f 0 ≤ max_points
 
 -- the record takes a sheet with this tally
 pub record Takes (r : Run) (tally : List ℕ) : Type 0 where
@@ -77,38 +77,38 @@ Yield = Option (List ℕ)
 
 -- what the run takes of it: none where the run refuses it first
 unfoldable pub taken : Run → Yield → Yield
-unfolding runRefusals
-taken r sheet = ruled (λ (k : ℕ). none) sheet (runRefusals r)
+unfolding run_refusals
+taken r sheet = ruled (λ (k : ℕ). none) sheet (run_refusals r)
 
 -- "a refused sheet adds nothing"
 abbrev pub added : Run → Yield → Run
 added r none = r
-added r (some tally) = withSheet r tally
+added r (some tally) = with_sheet r tally
 
 -- the record after one sheet, and after one sheet after the other
-unfoldable pub runWith : Run → Yield → Run
-unfolding taken withSheet
-runWith r sheet = added r (taken r sheet)
+unfoldable pub run_with : Run → Yield → Run
+unfolding taken with_sheet
+run_with r sheet = added r (taken r sheet)
 
-unfoldable pub runOver : Run → List Yield → Run
-unfolding over runWith
-runOver r sheets = over runWith r sheets
+unfoldable pub run_over : Run → List Yield → Run
+unfolding over run_with
+run_over r sheets = over run_with r sheets
 
 -- ---- what the run accepts
 
 -- the tallies of the sheets that the run accepts, in their order
-unfoldable pub talliesIn : Run → List Yield → List (List ℕ)
-unfolding taken runWith Option-to_list
-talliesIn r [] = []
-talliesIn r (sheet ∷ l) = Option-to_list (taken r sheet) ++ talliesIn (runWith r sheet) l
+unfoldable pub tallies_in : Run → List Yield → List (List ℕ)
+unfolding taken run_with Option-to_list
+tallies_in r [] = []
+tallies_in r (sheet ∷ l) = Option-to_list (taken r sheet) ++ tallies_in (run_with r sheet) l
 
 -- the sum of their numbers at one place
-unfoldable pub sumIn : ℕ → List (List ℕ) → ℕ
-sumIn f [] = 0
-sumIn f (tally ∷ l) = get_or tally f 0 + sumIn f l
+unfoldable pub sum_in : ℕ → List (List ℕ) → ℕ
+sum_in f [] = 0
+sum_in f (tally ∷ l) = get_or tally f 0 + sum_in f l
 
 -- some sheet is refused with 11: the record is full before it
-unfoldable pub someFull : Run → List Yield → Bool
-unfolding full runWith
-someFull r [] = false
-someFull r (sheet ∷ l) = full r || someFull (runWith r sheet) l
+unfoldable pub some_full : Run → List Yield → Bool
+unfolding full run_with
+some_full r [] = false
+some_full r (sheet ∷ l) = full r || some_full (run_with r sheet) l

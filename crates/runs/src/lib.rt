@@ -2,7 +2,7 @@
 #![tactic(auto)]
 
 ghost use Rattle.std.specs.Prelude.{◌≡◌, ◌<◌, length, get_or};
-ghost use Rattle.runs.specs.Run.{summed, run_from, newRun, full, withSheet, Takes};
+ghost use Rattle.runs.specs.Run.{summed, run_from, new_run, full, with_sheet, Takes};
 
 use marks::COUNTS;
 use marks::filters::{COMPONENT, FILTERS, LEAF, ORIENTATION, VALIDATE, WRONG};
@@ -34,7 +34,7 @@ pub struct Run {
 impl Run {
     // A run that starts now.
     pub fn new() -> Self
-        ensures { result ≡ newRun }
+        ensures { result ≡ new_run }
     {
         Self {
             old_sums: [0u32; OLD_SUMS],
@@ -84,7 +84,7 @@ fn summed_place(i: usize) -> usize
 // The record with one sheet more, which has this tally.
 pub fn with_sheet(run: Run, tally: [usize; COUNTS]) -> Run
     requires { Takes run tally }
-    ensures { result ≡ withSheet run tally }
+    ensures { result ≡ with_sheet run tally }
 {
     let old = run.old_sums;
     let new = run.new_sums;

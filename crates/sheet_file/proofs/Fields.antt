@@ -9,16 +9,16 @@ use lib.Dec.{eqb, leb}
 use lib.ListN.{length}
 use Rattle.folds.proofs.Below.{and_left, and_right, not-false}
 use Rattle.sheet_file.specs.Bytes.{byte_at, le16}
-use Rattle.sheet_file.specs.Frame.{fieldAt, endFrom, weighedAt, unweighed, strengthsFrom, pointsFrom, gateFrom, framingOf, layoutIn, layout_of, gateStart, Held}
+use Rattle.sheet_file.specs.Frame.{field_at, end_from, weighed_at, unweighed, strengths_from, points_from, gate_from, framing_of, layout_in, layout_of, gate_start, Held}
 use Rattle.sheet_file.specs.Refusals.{misframing, misframed, misfit}
 use Rattle.sheet_file.specs.declared.Layout.{Layout}
 use Rattle.sheet_file.specs.declared.Framing.{Framing}
 use Rattle.sheet_file.specs.declared.Framing.TheVariants.{Framed, Misframed}
 
-pub is_framed : (file : List ℕ) → misframed file ≡ false → framingOf file ≡ Framed (layout_of file)
-is_framed file m = go (framingOf file) m
+pub is_framed : (file : List ℕ) → misframed file ≡ false → framing_of file ≡ Framed (layout_of file)
+is_framed file m = go (framing_of file) m
   where
-    go : (x : Framing) → misframing x ≡ false → x ≡ Framed (layoutIn x)
+    go : (x : Framing) → misframing x ≡ false → x ≡ Framed (layout_in x)
     go (Framed f) m = refl
     go Misframed m = absurd (true≢false m)
 
@@ -30,8 +30,8 @@ pub record FieldIn (file : List ℕ) (at tag n : ℕ) : Type 0 where
   pub tag_is : byte_at file at ≡ tag
   pub size_is : le16 file (at + 1) ≡ n
 
-pub field_in : (file : List ℕ) (at tag n : ℕ) → fieldAt file at tag n ≡ true → FieldIn file at tag n
-unfolding fieldAt
+pub field_in : (file : List ℕ) (at tag n : ℕ) → field_at file at tag n ≡ true → FieldIn file at tag n
+unfolding field_at
 field_in file at tag n e =
     let r = and_right (leb (at + 3 + n) (length file)) (eqb (byte_at file at) tag && eqb (le16 file (at + 1)) n) e in
     record {
@@ -47,8 +47,8 @@ fitting-len f w e = eqb-true f.strengths_len (4 + 4 * f.count) (not-false (eqb f
 -- ---- one definition opened at a time
 
 pub points-from-is : (file : List ℕ) (at : ℕ) (full gated : Bool)
-    → pointsFrom file at full gated ≡ let n = le16 file (at + 1) in cond (fieldAt file at 3 n && eqb (n % 20) 0) (strengthsFrom file (at + 3 + n) (unweighed full gated (at + 3) (n / 20))) Misframed
-unfolding pointsFrom
+    → points_from file at full gated ≡ let n = le16 file (at + 1) in cond (field_at file at 3 n && eqb (n % 20) 0) (strengths_from file (at + 3 + n) (unweighed full gated (at + 3) (n / 20))) Misframed
+unfolding points_from
 points-from-is file at full gated = refl
 
 -- ---- all of them
@@ -59,13 +59,13 @@ by-test true x f e = (refl, e)
 by-test false x f e = absurd (let z : ◌≡◌ {A = ℕ} 0 1 = cc in omega arith)
 
 module _ (file : List ℕ) (f : Layout) where
-  end-in : (at : ℕ) (g : Layout) → endFrom file at g ≡ Framed f → (at ≡ length file) × (g ≡ f)
-  unfolding endFrom
+  end-in : (at : ℕ) (g : Layout) → end_from file at g ≡ Framed f → (at ≡ length file) × (g ≡ f)
+  unfolding end_from
   end-in at g e = let w = by-test (eqb at (length file)) (Framed g) f e in (eqb-true at (length file) w.0, cc w.1)
 
   -- what stands after tag 3, at a position: tag 4, with which the file ends, or the end
   pub data StrengthsAt (at : ℕ) : Type 0 where
-    strengths-there : fieldAt file at 4 f.strengths_len ≡ true → f.weighed ≡ true → f.strengths ≡ at + 3 → at + 3 + f.strengths_len ≡ length file → StrengthsAt at
+    strengths-there : field_at file at 4 f.strengths_len ≡ true → f.weighed ≡ true → f.strengths ≡ at + 3 → at + 3 + f.strengths_len ≡ length file → StrengthsAt at
     strengths-absent : f.weighed ≡ false → at ≡ length file → StrengthsAt at
 
   -- and the rest of the layout is as it was
@@ -75,9 +75,9 @@ module _ (file : List ℕ) (f : Layout) where
     pub points-at : f.points ≡ g.points
     pub count-is : f.count ≡ g.count
 
-  strengths-in : (at : ℕ) (g : Layout) → g.weighed ≡ false → strengthsFrom file at g ≡ Framed f → StrengthsAt at × SameStart g
-  unfolding strengthsFrom
-  strengths-in at g z e = go (fieldAt file at 4 n) refl e
+  strengths-in : (at : ℕ) (g : Layout) → g.weighed ≡ false → strengths_from file at g ≡ Framed f → StrengthsAt at × SameStart g
+  unfolding strengths_from
+  strengths-in at g z e = go (field_at file at 4 n) refl e
     where
       n : ℕ
       n = le16 file (at + 1)
@@ -90,33 +90,33 @@ module _ (file : List ℕ) (f : Layout) where
         count-is = sym (ap (λ (x : Layout). x.count) q) ∙ d;
       }
 
-      go : (t : Bool) → fieldAt file at 4 n ≡ t → cond t (endFrom file (at + 3 + n) (weighedAt g (at + 3) n)) (endFrom file at g) ≡ Framed f → StrengthsAt at × SameStart g
+      go : (t : Bool) → field_at file at 4 n ≡ t → cond t (end_from file (at + 3 + n) (weighed_at g (at + 3) n)) (end_from file at g) ≡ Framed f → StrengthsAt at × SameStart g
       go true t e =
-          let w = end-in (at + 3 + n) (weighedAt g (at + 3) n) e in
+          let w = end-in (at + 3 + n) (weighed_at g (at + 3) n) e in
           let l : n ≡ f.strengths_len = ap (λ (x : Layout). x.strengths_len) w.1 in
-          (strengths-there (rw l at t) (sym (ap (λ (x : Layout). x.weighed) w.1)) (sym (ap (λ (x : Layout). x.strengths) w.1)) (rw l at w.0), same (weighedAt g (at + 3) n) w.1 refl refl refl refl)
+          (strengths-there (rw l at t) (sym (ap (λ (x : Layout). x.weighed) w.1)) (sym (ap (λ (x : Layout). x.strengths) w.1)) (rw l at w.0), same (weighed_at g (at + 3) n) w.1 refl refl refl refl)
       go false t e = let w = end-in at g e in (strengths-absent (rw w.1 at z) w.0, same g w.1 refl refl refl refl)
 
   -- tag 3 stands at a position, and after it tag 4 or the end
   pub record PointsAt (at : ℕ) (full gated : Bool) : Type 0 where
-    pub field-there : fieldAt file at 3 (20 * f.count) ≡ true
+    pub field-there : field_at file at 3 (20 * f.count) ≡ true
     pub after : StrengthsAt (at + 3 + 20 * f.count)
     pub full_is : f.full ≡ full
     pub gated-is : f.gated ≡ gated
     pub points-at : f.points ≡ at + 3
 
-  pub points-in : (at : ℕ) (full gated : Bool) → pointsFrom file at full gated ≡ Framed f → PointsAt at full gated
-  unfolding pointsFrom
+  pub points-in : (at : ℕ) (full gated : Bool) → points_from file at full gated ≡ Framed f → PointsAt at full gated
+  unfolding points_from
   points-in at full gated e =
       let n = le16 file (at + 1) in
       let g : Layout = unweighed full gated (at + 3) (n / 20) in
-      let w = by-test (fieldAt file at 3 n && eqb (n % 20) 0) (strengthsFrom file (at + 3 + n) g) f e in
+      let w = by-test (field_at file at 3 n && eqb (n % 20) 0) (strengths_from file (at + 3 + n) g) f e in
       let h = strengths-in (at + 3 + n) g refl w.1 in
       let q : f.count ≡ n / 20 = h.1.count-is in
-      let z = eqb-true (n % 20) 0 (and_right (fieldAt file at 3 n) (eqb (n % 20) 0) w.0) in
+      let z = eqb-true (n % 20) 0 (and_right (field_at file at 3 n) (eqb (n % 20) 0) w.0) in
       let m : n ≡ 20 * f.count = omega arith in
       record {
-        field-there = rw m at (and_left (fieldAt file at 3 n) (eqb (n % 20) 0) w.0);
+        field-there = rw m at (and_left (field_at file at 3 n) (eqb (n % 20) 0) w.0);
         after = rw m at h.0;
         full_is = h.1.full_is;
         gated-is = h.1.gated-is;
@@ -125,51 +125,51 @@ module _ (file : List ℕ) (f : Layout) where
 
   -- the fields after tag 1, with or without tag 2
   pub data GateAt (at : ℕ) (full : Bool) : Type 0 where
-    gate-there : fieldAt file at 2 17 ≡ true → pointsFrom file (at + 20) full true ≡ Framed f → GateAt at full
-    gate-absent : fieldAt file at 2 17 ≡ false → pointsFrom file at full false ≡ Framed f → GateAt at full
+    gate-there : field_at file at 2 17 ≡ true → points_from file (at + 20) full true ≡ Framed f → GateAt at full
+    gate-absent : field_at file at 2 17 ≡ false → points_from file at full false ≡ Framed f → GateAt at full
 
-  gate-at : (at : ℕ) (full : Bool) → gateFrom file at full ≡ Framed f → GateAt at full
-  unfolding gateFrom
-  gate-at at full e = go (fieldAt file at 2 17) refl e
+  gate-at : (at : ℕ) (full : Bool) → gate_from file at full ≡ Framed f → GateAt at full
+  unfolding gate_from
+  gate-at at full e = go (field_at file at 2 17) refl e
     where
-      go : (b : Bool) → fieldAt file at 2 17 ≡ b → cond b (pointsFrom file (at + 20) full true) (pointsFrom file at full false) ≡ Framed f → GateAt at full
+      go : (b : Bool) → field_at file at 2 17 ≡ b → cond b (points_from file (at + 20) full true) (points_from file at full false) ≡ Framed f → GateAt at full
       go true t e = gate-there t e
       go false t e = gate-absent t e
 
   -- the whole file
   pub data Fields : Type 0 where
-    full-settings : fieldAt file 0 1 21 ≡ true → GateAt 24 true → Fields
-    short-settings : fieldAt file 0 1 21 ≡ false → fieldAt file 0 1 4 ≡ true → GateAt 7 false → Fields
+    full-settings : field_at file 0 1 21 ≡ true → GateAt 24 true → Fields
+    short-settings : field_at file 0 1 21 ≡ false → field_at file 0 1 4 ≡ true → GateAt 7 false → Fields
 
-  pub fields-of : framingOf file ≡ Framed f → Fields
-  unfolding framingOf
-  fields-of e = go (fieldAt file 0 1 21) refl e
+  pub fields-of : framing_of file ≡ Framed f → Fields
+  unfolding framing_of
+  fields-of e = go (field_at file 0 1 21) refl e
     where
-      go : (a : Bool) → fieldAt file 0 1 21 ≡ a → cond a (gateFrom file 24 true) (cond (fieldAt file 0 1 4) (gateFrom file 7 false) Misframed) ≡ Framed f → Fields
+      go : (a : Bool) → field_at file 0 1 21 ≡ a → cond a (gate_from file 24 true) (cond (field_at file 0 1 4) (gate_from file 7 false) Misframed) ≡ Framed f → Fields
       go true t e = full-settings t (gate-at 24 true e)
-      go false t e = let w = by-test (fieldAt file 0 1 4) (gateFrom file 7 false) f e in short-settings t w.0 (gate-at 7 false w.1)
+      go false t e = let w = by-test (field_at file 0 1 4) (gate_from file 7 false) f e in short-settings t w.0 (gate-at 7 false w.1)
 
   -- ---- the data of tags 1 and 2 end before the points, and those of tag 4 with the file
 
   pub record BeforePoints : Type 0 where
     pub short : 10 ≤ f.points
     pub long : f.full ≡ true → 27 ≤ f.points
-    pub gate : f.gated ≡ true → gateStart f.full + 17 ≤ f.points
+    pub gate : f.gated ≡ true → gate_start f.full + 17 ≤ f.points
     pub after : StrengthsAt (f.points + 20 * f.count)
 
   placed : {at to : ℕ} → to ≡ at → StrengthsAt (at + 20 * f.count) → StrengthsAt (to + 20 * f.count)
   placed e h = rw e h
 
-  before-gate : (at : ℕ) (full : Bool) → 7 ≤ at → at + 3 ≡ gateStart full → (full ≡ true → 24 ≤ at) → GateAt at full → BeforePoints
+  before-gate : (at : ℕ) (full : Bool) → 7 ≤ at → at + 3 ≡ gate_start full → (full ≡ true → 24 ≤ at) → GateAt at full → BeforePoints
   before-gate at full l g h (gate-there u e) =
       let p = points-in (at + 20) full true e in
-      let r : gateStart f.full ≡ gateStart full = ap gateStart p.full_is in
+      let r : gate_start f.full ≡ gate_start full = ap gate_start p.full_is in
       record { short = omega arith; long = λ b. omega (arith, h (sym p.full_is ∙ b)); gate = λ b. omega arith; after = placed p.points-at p.after }
   before-gate at full l g h (gate-absent u e) =
       let p = points-in at full false e in
       record { short = omega arith; long = λ b. omega (arith, h (sym p.full_is ∙ b)); gate = λ b. absurd (false≢true (sym p.gated-is ∙ b)); after = placed p.points-at p.after }
 
-  pub before-points : framingOf file ≡ Framed f → BeforePoints
+  pub before-points : framing_of file ≡ Framed f → BeforePoints
   before-points e = go (fields-of e)
     where
       go : Fields → BeforePoints
@@ -188,7 +188,7 @@ module _ (file : List ℕ) (f : Layout) where
   after-points (strengths-there t w s e) = omega arith
   after-points (strengths-absent w e) = omega arith
 
-  pub framed-held : framingOf file ≡ Framed f → Held file f
+  pub framed-held : framing_of file ≡ Framed f → Held file f
   framed-held e =
       let b = before-points e in
       let l = after-points b.after in

@@ -12,7 +12,7 @@ use lib.Seq.{drop-cons, drop-drop, drop-length, get_or-append-add, length-take-l
 use borrow.Author.Tests.{le-leb, lt-leb, eq-eqb, ne_eqb}
 use Rattle.folds.proofs.Below.{and-false}
 use Rattle.sheet_file.specs.Bytes.{Bytes, byte_at, le16}
-use Rattle.sheet_file.specs.Frame.{fieldAt, unweighed, weighedAt, strengthsFrom, pointsFrom, gateFrom, framingOf, layout_of, weightsSize}
+use Rattle.sheet_file.specs.Frame.{field_at, unweighed, weighed_at, strengths_from, points_from, gate_from, framing_of, layout_of, weights_size}
 use Rattle.sheet_file.specs.Grammar.{field, Optional, absent, present, WellFramed}
 use Rattle.sheet_file.specs.Refusals.{misframing, misframed}
 use Rattle.sheet_file.specs.declared.Layout.{Layout}
@@ -25,7 +25,7 @@ use Rattle.sheet_file.proofs.Fields.{FieldIn, field_in, StrengthsAt, strengths-t
 data-size : (file : List ℕ) (at n : ℕ) → at + n ≤ length file → length (take n (drop at file)) ≡ n
 data-size file at n l = length-take-le n (drop at file) (simp length-drop (omega arith))
 
-field_found : (file : List ℕ) (at tag n : ℕ) → Bytes file → fieldAt file at tag n ≡ true → drop at file ≡ field tag (take n (drop (at + 3) file)) ++ drop (at + 3 + n) file
+field_found : (file : List ℕ) (at tag n : ℕ) → Bytes file → field_at file at tag n ≡ true → drop at file ≡ field tag (take n (drop (at + 3) file)) ++ drop (at + 3 + n) file
 unfolding le16
 field_found file at tag n b e =
     let h = field_in file at tag n e in
@@ -47,7 +47,7 @@ module _ (file : List ℕ) (b : Bytes file) (f : Layout) where
       (field 4 w, present w tt refl, field_found file at 4 n b t ∙ rw (e, drop-length file) (append-nil (field 4 w)))
 
   -- tag 3 from a position on, and what stands after it
-  points-found : (at : ℕ) (full gated : Bool) → pointsFrom file at full gated ≡ Framed f
+  points-found : (at : ℕ) (full gated : Bool) → points_from file at full gated ≡ Framed f
       → (p w : List ℕ) × (length p % 20 ≡ 0) × Optional 4 (λ (n : ℕ). Unit {0}) w × (drop at file ≡ field 3 p ++ w)
   points-found at full gated e =
       let n = 20 * f.count in
@@ -67,7 +67,7 @@ module _ (file : List ℕ) (b : Bytes file) (f : Layout) where
       let g = take 17 (drop (at + 3) file) in
       (field 2 g, p.0, p.1, present g (data-size file (at + 3) 17 h.fits) refl, p.2, p.3, field_found file at 2 17 b u ∙ rw (q, p.4))
 
-  fields-found : (n : ℕ) (full : Bool) → (n ≡ 21) ⊎ (n ≡ 4) → fieldAt file 0 1 n ≡ true → GateAt file f (3 + n) full → WellFramed file
+  fields-found : (n : ℕ) (full : Bool) → (n ≡ 21) ⊎ (n ≡ 4) → field_at file 0 1 n ≡ true → GateAt file f (3 + n) full → WellFramed file
   fields-found n full o t g =
       let w = gate-found (3 + n) full g in
       let m = data-size file 3 n (field_in file 0 1 n t).fits in
@@ -83,7 +83,7 @@ module _ (file : List ℕ) (b : Bytes file) (f : Layout) where
         in_order = field_found file 0 1 n b t ∙ rw w.6;
       }
 
-  framed-well : framingOf file ≡ Framed f → WellFramed file
+  framed-well : framing_of file ≡ Framed f → WellFramed file
   framed-well e = go (fields-of file f e)
     where
       go : Fields file f → WellFramed file
@@ -106,23 +106,23 @@ field-there l body r tag at n e m =
     })
 
 module _ (file : List ℕ) where
-  found : {at tag n : ℕ} → FieldIn file at tag n → fieldAt file at tag n ≡ true
-  unfolding fieldAt
+  found : {at tag n : ℕ} → FieldIn file at tag n → field_at file at tag n ≡ true
+  unfolding field_at
   found {at} {tag} {n} h = rw (le-leb (at + 3 + n) (length file) h.fits, eq-eqb (byte_at file at) tag h.tag_is, eq-eqb (le16 file (at + 1)) n h.size_is)
 
   -- the field has another tag or another length
-  other_tag : (at n tag m k : ℕ) → FieldIn file at tag m → (tag ≡ k → ⊥) → fieldAt file at k n ≡ false
-  unfolding fieldAt
+  other_tag : (at n tag m k : ℕ) → FieldIn file at tag m → (tag ≡ k → ⊥) → field_at file at k n ≡ false
+  unfolding field_at
   other_tag at n tag m k h f = rw (ne_eqb (byte_at file at) k (λ e. f (sym h.tag_is ∙ e))) (and-false (leb (at + 3 + n) (length file)))
 
-  other_length : (at n tag m : ℕ) → FieldIn file at tag m → (m ≡ n → ⊥) → fieldAt file at tag n ≡ false
-  unfolding fieldAt
+  other_length : (at n tag m : ℕ) → FieldIn file at tag m → (m ≡ n → ⊥) → field_at file at tag n ≡ false
+  unfolding field_at
   other_length at n tag m h f =
       rw (ne_eqb (le16 file (at + 1)) n (λ e. f (sym h.size_is ∙ e)), and-false (eqb (byte_at file at) tag)) (and-false (leb (at + 3 + n) (length file)))
 
   -- nor does one stand at the end of the file
-  none_after : (at tag n : ℕ) → at ≡ length file → fieldAt file at tag n ≡ false
-  unfolding fieldAt
+  none_after : (at tag n : ℕ) → at ≡ length file → field_at file at tag n ≡ false
+  unfolding field_at
   none_after at tag n e = rw (lt-leb (at + 3 + n) (length file) (omega arith))
 
   -- at a position stands tag 4, with which the file ends, or the end
@@ -145,32 +145,32 @@ module _ (file : List ℕ) where
     layout : Layout
     framed : x ≡ Framed layout
     counted : layout.count ≡ n
-    weighed : weightsSize layout ≡ m
+    weighed : weights_size layout ≡ m
 
-  strengths-framed : (at : ℕ) (g : Layout) → g.weighed ≡ false → FourthIn at → Counted (strengthsFrom file at g) g.count (left at)
-  unfolding strengthsFrom
+  strengths-framed : (at : ℕ) (g : Layout) → g.weighed ≡ false → FourthIn at → Counted (strengths_from file at g) g.count (left at)
+  unfolding strengths_from
   strengths-framed at g z (fourth n h e) = record {
-    layout = weighedAt g (at + 3) n;
+    layout = weighed_at g (at + 3) n;
     framed = rw (h.size_is, found h, eq-eqb (at + 3 + n) (length file) e);
     counted = refl;
     weighed = omega arith;
   }
   strengths-framed at g z (ending e) = record { layout = g; framed = rw (none_after at 4 (le16 file (at + 1)) e, eq-eqb at (length file) e); counted = refl; weighed = rw z (omega arith) }
 
-  points-framed : (at n : ℕ) (full gated : Bool) → ThirdIn at n → Counted (pointsFrom file at full gated) (n / 20) (left (at + 3 + n))
-  unfolding pointsFrom
+  points-framed : (at n : ℕ) (full gated : Bool) → ThirdIn at n → Counted (points_from file at full gated) (n / 20) (left (at + 3 + n))
+  unfolding points_from
   points-framed at n full gated h = rw (h.third.size_is, found h.third, eq-eqb (n % 20) 0 h.twenties) (strengths-framed (at + 3 + n) (unweighed full gated (at + 3) (n / 20)) refl h.after)
 
-  gate-framed : (at n : ℕ) (full : Bool) → FieldIn file at 2 17 → ThirdIn (at + 20) n → Counted (gateFrom file at full) (n / 20) (left (at + 20 + 3 + n))
-  unfolding gateFrom
+  gate-framed : (at n : ℕ) (full : Bool) → FieldIn file at 2 17 → ThirdIn (at + 20) n → Counted (gate_from file at full) (n / 20) (left (at + 20 + 3 + n))
+  unfolding gate_from
   gate-framed at n full g h = rw (found g) (points-framed (at + 20) n full true h)
 
-  no-gate-framed : (at n : ℕ) (full : Bool) → ThirdIn at n → Counted (gateFrom file at full) (n / 20) (left (at + 3 + n))
-  unfolding gateFrom
+  no-gate-framed : (at n : ℕ) (full : Bool) → ThirdIn at n → Counted (gate_from file at full) (n / 20) (left (at + 3 + n))
+  unfolding gate_from
   no-gate-framed at n full h = rw (other_tag at 17 3 n 2 h.third (λ e. omega arith)) (points-framed at n full false h)
 
-  settings-framed : (n m k : ℕ) → (n ≡ 21) ⊎ (n ≡ 4) → FieldIn file 0 1 n → ((full : Bool) → Counted (gateFrom file (3 + n) full) m k) → Counted (framingOf file) m k
-  unfolding framingOf
+  settings-framed : (n m k : ℕ) → (n ≡ 21) ⊎ (n ≡ 4) → FieldIn file 0 1 n → ((full : Bool) → Counted (gate_from file (3 + n) full) m k) → Counted (framing_of file) m k
+  unfolding framing_of
   settings-framed n m k (inl e) h g = rw (found (rw e at h)) (rw e at (g true))
   settings-framed n m k (inr e) h g = rw (other_length 0 21 1 n h (λ d. omega arith), found (rw e at h)) (rw e at (g false))
 
@@ -189,7 +189,7 @@ module _ (file : List ℕ) where
           let r : file ≡ l ++ field 3 p ++ (field 4 body ++ []) = e ∙ rw q (sym (append_assoc l (field 3 p) (field 4 body)) ∙ rw (append-nil (field 4 body))) in
           fourth (length body) (rw r (field-there (l ++ field 3 p) body [] 4 (at + 3 + length p) (length body) to refl)) (sym (ap length e ∙ simp length-append (rw q (omega arith))))
 
-  fields-framed : (w : WellFramed file) → Counted (framingOf file) (length w.points / 20) (length w.weights)
+  fields-framed : (w : WellFramed file) → Counted (framing_of file) (length w.points / 20) (length w.weights)
   fields-framed w = settings-framed (length w.settings) (length w.points / 20) (length w.weights) w.settings-size first (λ full. go full w.gate-optional)
     where
       at : ℕ
@@ -204,7 +204,7 @@ module _ (file : List ℕ) where
       size : length file ≡ at + (length w.gate + (3 + length w.points + length w.weights))
       size = ap length w.in_order ∙ simp length-append (omega arith)
 
-      go : (full : Bool) → Optional 2 (λ (n : ℕ). n ≡ 17) w.gate → Counted (gateFrom file at full) (length w.points / 20) (length w.weights)
+      go : (full : Bool) → Optional 2 (λ (n : ℕ). n ≡ 17) w.gate → Counted (gate_from file at full) (length w.points / 20) (length w.weights)
       go full (absent e) =
           let z : length w.gate ≡ 0 = ap length e in
           let m : left (at + 3 + length w.points) ≡ length w.weights = omega (arith, size) in
@@ -225,12 +225,12 @@ module _ (file : List ℕ) where
   points-counted w = rw (fields-framed w).framed (fields-framed w).counted
 
   -- and as many bytes of tag 4
-  pub weights-counted : (w : WellFramed file) → weightsSize (layout_of file) ≡ length w.weights
+  pub weights-counted : (w : WellFramed file) → weights_size (layout_of file) ≡ length w.weights
   weights-counted w = rw (fields-framed w).framed (fields-framed w).weighed
 
   pub accepted-well : Bytes file → misframed file ≡ false → WellFramed file
-  accepted-well b e = go (framingOf file) refl e
+  accepted-well b e = go (framing_of file) refl e
     where
-      go : (x : Framing) → framingOf file ≡ x → misframing x ≡ false → WellFramed file
+      go : (x : Framing) → framing_of file ≡ x → misframing x ≡ false → WellFramed file
       go (Framed f) h e = framed-well file b f h
       go Misframed h e = absurd (true≢false e)

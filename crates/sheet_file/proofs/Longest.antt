@@ -8,8 +8,8 @@ use native.Mathlib.Omega.{arith}
 use lib.ListN.{length, get_or, replicate, length-append, length-replicate}
 use lib.Seq.{get_or-append-add}
 use Rattle.sheet_file.specs.Bytes.{Bytes}
-use Rattle.sheet_file.specs.Frame.{framingOf, pointsFrom}
-use Rattle.sheet_file.specs.Grammar.{field, present, WellFramed, mostRecords, mostData, longest}
+use Rattle.sheet_file.specs.Frame.{framing_of, points_from}
+use Rattle.sheet_file.specs.Grammar.{field, present, WellFramed, most_records, most_data, longest}
 use Rattle.sheet_file.specs.declared.Layout.{Layout}
 use Rattle.sheet_file.specs.declared.Framing.{Framing}
 use Rattle.sheet_file.specs.declared.Framing.TheVariants.{Framed, Misframed}
@@ -19,16 +19,16 @@ use Rattle.sheet_file.proofs.Fields.{field_in, StrengthsAt, strengths-there, str
 module _ (file : List ℕ) (b : Bytes file) where
   module _ (f : Layout) where
     -- a field's length is a two-byte number
-    strengths-end : (at : ℕ) → StrengthsAt file f at → length file ≤ at + 3 + mostData
+    strengths-end : (at : ℕ) → StrengthsAt file f at → length file ≤ at + 3 + most_data
     strengths-end at (strengths-there t u s e) = omega (arith, (field_in file at 4 f.strengths_len t).size_is, le16-small file b (at + 1))
     strengths-end at (strengths-absent u e) = omega arith
 
-    points-end : (at : ℕ) (full gated : Bool) → pointsFrom file at full gated ≡ Framed f → length file ≤ at + 3 + 20 * mostRecords + 3 + mostData
+    points-end : (at : ℕ) (full gated : Bool) → points_from file at full gated ≡ Framed f → length file ≤ at + 3 + 20 * most_records + 3 + most_data
     points-end at full gated e =
         let p = points-in file f at full gated e in
         omega (arith, (field_in file at 3 (20 * f.count) p.field-there).size_is, le16-small file b (at + 1), strengths-end (at + 3 + 20 * f.count) p.after)
 
-    gate-end : (at : ℕ) (full : Bool) → GateAt file f at full → length file ≤ at + 20 + 3 + 20 * mostRecords + 3 + mostData
+    gate-end : (at : ℕ) (full : Bool) → GateAt file f at full → length file ≤ at + 20 + 3 + 20 * most_records + 3 + most_data
     gate-end at full (gate-there u e) = points-end (at + 20) full true e
     gate-end at full (gate-absent u e) = omega (arith, points-end at full false e)
 
@@ -36,15 +36,15 @@ module _ (file : List ℕ) (b : Bytes file) where
     framed-end (full-settings u g) = gate-end 24 true g
     framed-end (short-settings v u g) = omega (arith, gate-end 7 false g)
 
-  pub too_long : longest < length file → framingOf file ≡ Misframed
-  too_long l = go (framingOf file) refl
+  pub too_long : longest < length file → framing_of file ≡ Misframed
+  too_long l = go (framing_of file) refl
     where
-      go : (x : Framing) → framingOf file ≡ x → x ≡ Misframed
+      go : (x : Framing) → framing_of file ≡ x → x ≡ Misframed
       go (Framed f) e = absurd (omega (arith, framed-end f (fields-of file f e)))
       go Misframed e = refl
 
--- more records than `mostRecords` cannot be framed
-pub most-points : (file : List ℕ) → Bytes file → (w : WellFramed file) → length w.points / 20 ≤ mostRecords
+-- more records than `most_records` cannot be framed
+pub most-points : (file : List ℕ) → Bytes file → (w : WellFramed file) → length w.points / 20 ≤ most_records
 most-points file b w =
     let l = field 1 w.settings ++ w.gate in
     let last = field 3 w.points ++ w.weights in
@@ -63,10 +63,10 @@ fields-size a g p w = simp length-append (omega arith)
 
 pub attained : Attained
 attained =
-    go (replicate 21 0) (replicate 17 0) (replicate (20 * mostRecords) 0) (replicate mostData 0) (length-replicate {A = ℕ} 21 0) (length-replicate {A = ℕ} 17 0)
-    (length-replicate {A = ℕ} (20 * mostRecords) 0) (length-replicate {A = ℕ} mostData 0)
+    go (replicate 21 0) (replicate 17 0) (replicate (20 * most_records) 0) (replicate most_data 0) (length-replicate {A = ℕ} 21 0) (length-replicate {A = ℕ} 17 0)
+    (length-replicate {A = ℕ} (20 * most_records) 0) (length-replicate {A = ℕ} most_data 0)
   where
-    go : (a g p w : List ℕ) → length a ≡ 21 → length g ≡ 17 → length p ≡ 20 * mostRecords → length w ≡ mostData → Attained
+    go : (a g p w : List ℕ) → length a ≡ 21 → length g ≡ 17 → length p ≡ 20 * most_records → length w ≡ most_data → Attained
     go a g p w x y z v = record {
       bytes = field 1 a ++ (field 2 g ++ (field 3 p ++ field 4 w));
       framed = record { settings = a; gate = field 2 g; points = p; weights = field 4 w; settings-size = inl x; gate-optional = present g y refl; twenties = omega arith; weights-optional = present w tt refl; in_order = refl };

@@ -17,5 +17,5 @@ unfoldable pub le32 : List ℕ → ℕ → ℕ
 le32 file at = byte_at file at + 256 * byte_at file (at + 1) + 65536 * byte_at file (at + 2) + 16777216 * byte_at file (at + 3)
 
 -- the four bytes of the u32 b
-abbrev pub littleEndian : ℕ → List ℕ
-littleEndian b = b % 256 ∷ b / 256 % 256 ∷ b / 65536 % 256 ∷ b / 16777216 % 256 ∷ []
+abbrev pub little_endian : ℕ → List ℕ
+little_endian b = b % 256 ∷ b / 256 % 256 ∷ b / 65536 % 256 ∷ b / 16777216 % 256 ∷ []

@@ -25,13 +25,13 @@ pub record WellFramed (file : List ℕ) : Type 0 where
   pub in_order : file ≡ field 1 settings ++ (gate ++ (field 3 points ++ weights))
 
 -- the most bytes of data of a field: its length is a two-byte number
-abbrev pub mostData : ℕ
-mostData = 65535
+abbrev pub most_data : ℕ
+most_data = 65535
 
 -- the most points whose length, 20 times their number, is a two-byte number
-abbrev pub mostRecords : ℕ
-mostRecords = mostData / 20
+abbrev pub most_records : ℕ
+most_records = most_data / 20
 
 -- the length of the longest well-framed file: tag 1 of length 21, tag 2, tag 3 of so many points, and tag 4 of so many bytes
 abbrev pub longest : ℕ
-longest = 3 + 21 + (3 + 17) + (3 + 20 * mostRecords) + (3 + mostData)
+longest = 3 + 21 + (3 + 17) + (3 + 20 * most_records) + (3 + most_data)

@@ -2,12 +2,12 @@
 -- Assumes nothing.
 use Rattle.std.specs.Prelude.{◌≡◌, Bool, true, false, cond, not, ◌&&◌, ◌||◌, List, [], ◌∷◌, ℕ, ◌+◌, ◌*◌, ◌≤◌, eqb, ltb, length, Float}
 use Rattle.folds.specs.Arith.{f32}
-use Rattle.folds.specs.Among.{anyIn}
-use Rattle.view.specs.View.{maxPoints}
+use Rattle.folds.specs.Among.{any_in}
+use Rattle.view.specs.View.{max_points}
 use Rattle.refusals.specs.First.{Refusal, ruled}
 use Rattle.sheet_file.specs.Bytes.{byte_at, le16, le32}
 use Rattle.sheet_file.specs.Limit.{outside}
-use Rattle.sheet_file.specs.Frame.{framingOf, layoutIn, gateStart, Held}
+use Rattle.sheet_file.specs.Frame.{framing_of, layout_in, gate_start, Held}
 use Rattle.sheet_file.specs.declared.Layout.{Layout}
 use Rattle.sheet_file.specs.declared.Framing.{Framing}
 use Rattle.sheet_file.specs.declared.Framing.TheVariants.{Framed, Misframed}
@@ -28,9 +28,9 @@ float_at file at = f32 (le32 file at)
 -- ---- the settings
 
 -- "Length 4 gives the cell size only; the rest is `ValidationParams::default` with both switches 1": 0.15, 3, 0.20, off, 0.0
-unfoldable pub defaultsFor : Float → EdgeGate → Fraction → Settings
-defaultsFor cellSize gate fraction = record {
-  cell_size = cellSize;
+unfoldable pub defaults_for : Float → EdgeGate → Fraction → Settings
+defaults_for cell_size gate fraction = record {
+  cell_size = cell_size;
   line_tol_rel = f32 0x3E19999A;
   line_min_members = 3;
   local_h_tol_rel = f32 0x3E4CCCCD;
@@ -44,8 +44,8 @@ defaultsFor cellSize gate fraction = record {
 
 -- "cell size f32, line tolerance f32, line minimum u16, local tolerance f32, step flag u8, step threshold f32, wrong-label switch u8,
 -- largest-patch switch u8", from byte 3 of the file on
-unfoldable pub settingsIn : List ℕ → EdgeGate → Fraction → Settings
-settingsIn file gate fraction = record {
+unfoldable pub settings_in : List ℕ → EdgeGate → Fraction → Settings
+settings_in file gate fraction = record {
   cell_size = float_at file 3;
   line_tol_rel = float_at file 7;
   line_min_members = le16 file 11;
@@ -59,8 +59,8 @@ settingsIn file gate fraction = record {
 }
 
 -- "minimum degree u8, then f32s: least continuation cosine, largest continuation ratio, least cell cosine, largest cell ratio"
-unfoldable pub gateIn : List ℕ → ℕ → EdgeShapeParams
-gateIn file at = record {
+unfoldable pub gate_in : List ℕ → ℕ → EdgeShapeParams
+gate_in file at = record {
   min_cardinal_degree = byte_at file at;
   continuation_cos_min = float_at file (at + 1);
   continuation_length_ratio_max = float_at file (at + 5);
@@ -69,18 +69,18 @@ gateIn file at = record {
 }
 
 -- "Absent means no edge-shape gate"
-unfoldable pub edgeShapeOf : List ℕ → Layout → EdgeGate
-edgeShapeOf file f = cond f.gated (On (gateIn file (gateStart f.full))) Off
+unfoldable pub edge_shape_of : List ℕ → Layout → EdgeGate
+edge_shape_of file f = cond f.gated (On (gate_in file (gate_start f.full))) Off
 
 -- "Tag 4, optional, .. carries a fraction f32": that in its first four bytes; one that number 13 refuses is only said to be so
-abbrev pub fractionIn : Float → Fraction
-fractionIn x = cond (outside x) Outside (Given x)
+abbrev pub fraction_in : Float → Fraction
+fraction_in x = cond (outside x) Outside (Given x)
 
-unfoldable pub fractionOf : List ℕ → Layout → Fraction
-fractionOf file f = cond f.weighed (fractionIn (float_at file f.strengths)) Missing
+unfoldable pub fraction_of : List ℕ → Layout → Fraction
+fraction_of file f = cond f.weighed (fraction_in (float_at file f.strengths)) Missing
 
-unfoldable pub settingsOf : List ℕ → Layout → Settings
-settingsOf file f = cond f.full (settingsIn file (edgeShapeOf file f) (fractionOf file f)) (defaultsFor (float_at file 3) (edgeShapeOf file f) (fractionOf file f))
+unfoldable pub settings_of : List ℕ → Layout → Settings
+settings_of file f = cond f.full (settings_in file (edge_shape_of file f) (fraction_of file f)) (defaults_for (float_at file 3) (edge_shape_of file f) (fraction_of file f))
 
 -- ---- the conditions
 
@@ -90,38 +90,38 @@ misframing (Framed f) = false
 misframing Misframed = true
 
 abbrev pub misframed : List ℕ → Bool
-misframed file = misframing (framingOf file)
+misframed file = misframing (framing_of file)
 
 -- "It refuses with 12, right after 1, a tag 4 that is not 4 bytes plus 4 per point"
 abbrev pub misfit : Layout → Bool
 misfit f = f.weighed && not (eqb f.strengths_len (4 + 4 * f.count))
 
 -- "2. There are more than 2,048 points"; document 02, A.4, makes it 2,304
-abbrev pub tooMany : Layout → Bool
-tooMany f = ltb maxPoints f.count
+abbrev pub too_many : Layout → Bool
+too_many f = ltb max_points f.count
 
 -- "3. The result buffer is shorter than 28 bytes per point."
-abbrev pub tooShort : ℕ → Layout → Bool
-tooShort room f = ltb room (28 * f.count)
+abbrev pub too_short : ℕ → Layout → Bool
+too_short room f = ltb room (28 * f.count)
 
 -- "4. The step flag or a switch is neither 0 nor 1."
-abbrev pub noFlag : ℕ → Bool
-noFlag b = not (eqb b 0) && not (eqb b 1)
+abbrev pub no_flag : ℕ → Bool
+no_flag b = not (eqb b 0) && not (eqb b 1)
 
 -- only settings of length 21 have them
-unfoldable pub badFlag : List ℕ → Layout → Bool
-badFlag file f = f.full && (noFlag (byte_at file 17) || (noFlag (byte_at file 22) || noFlag (byte_at file 23)))
+unfoldable pub bad_flag : List ℕ → Layout → Bool
+bad_flag file f = f.full && (no_flag (byte_at file 17) || (no_flag (byte_at file 22) || no_flag (byte_at file 23)))
 
 -- the floats of tag 1, of length 21 or 4, and of tag 2, whose data begin at a position
-abbrev pub settingsFloats : List ℕ → Bool → List Float
-settingsFloats file full = float_at file 3 ∷ cond full (float_at file 7 ∷ float_at file 13 ∷ float_at file 18 ∷ []) []
+abbrev pub settings_floats : List ℕ → Bool → List Float
+settings_floats file full = float_at file 3 ∷ cond full (float_at file 7 ∷ float_at file 13 ∷ float_at file 18 ∷ []) []
 
-abbrev pub gateFloats : List ℕ → ℕ → List Float
-gateFloats file at = float_at file (at + 1) ∷ float_at file (at + 5) ∷ float_at file (at + 9) ∷ float_at file (at + 13) ∷ []
+abbrev pub gate_floats : List ℕ → ℕ → List Float
+gate_floats file at = float_at file (at + 1) ∷ float_at file (at + 5) ∷ float_at file (at + 9) ∷ float_at file (at + 13) ∷ []
 
 -- "5. A float of tag 1 or 2 is not finite or exceeds 16,384 in magnitude."
-unfoldable pub badFloat : List ℕ → Layout → Bool
-badFloat file f = anyIn outside (settingsFloats file f.full) || (f.gated && anyIn outside (gateFloats file (gateStart f.full)))
+unfoldable pub bad_float : List ℕ → Layout → Bool
+bad_float file f = any_in outside (settings_floats file f.full) || (f.gated && any_in outside (gate_floats file (gate_start f.full)))
 
 -- ---- what is asked before a float is read: that it stands in the file, and that the condition of number 5 fails for it
 
@@ -131,15 +131,15 @@ pub record FloatHeld (file : List ℕ) (at : ℕ) : Type 0 where
 
 pub record SettingsHeld (file : List ℕ) : Type 0 where
   pub fits : 24 ≤ length file
-  pub inside : anyIn outside (settingsFloats file true) ≡ false
+  pub inside : any_in outside (settings_floats file true) ≡ false
 
 pub record GateHeld (file : List ℕ) (at : ℕ) : Type 0 where
   pub fits : at + 17 ≤ length file
-  pub inside : anyIn outside (gateFloats file at) ≡ false
+  pub inside : any_in outside (gate_floats file at) ≡ false
 
 pub record FloatsHeld (file : List ℕ) (f : Layout) : Type 0 where
   pub held : Held file f
-  pub inside : badFloat file f ≡ false
+  pub inside : bad_float file f ≡ false
   pub fitting : misfit f ≡ false
 
 -- the data of a tag 4 that fits are within the file
@@ -150,25 +150,25 @@ pub record WeightsHeld (file : List ℕ) (f : Layout) : Type 0 where
 -- ---- what is read
 
 -- the refusals of a file that is framed so, before its points are looked at, in their order
-unfoldable pub headerRefusals : List ℕ → ℕ → Framing → List Refusal
-headerRefusals file room x =
-    let f = layoutIn x in
+unfoldable pub header_refusals : List ℕ → ℕ → Framing → List Refusal
+header_refusals file room x =
+    let f = layout_in x in
     (1, misframing x)
     ∷ (12, misfit f)
-    ∷ (2, tooMany f)
-    ∷ (3, tooShort room f)
-    ∷ (4, badFlag file f)
-    ∷ (5, badFloat file f)
+    ∷ (2, too_many f)
+    ∷ (3, too_short room f)
+    ∷ (4, bad_flag file f)
+    ∷ (5, bad_float file f)
     ∷ []
 
-abbrev pub headerOf : List ℕ → Layout → Header
-headerOf file f = record { settings = settingsOf file f; layout = f }
+abbrev pub header_of : List ℕ → Layout → Header
+header_of file f = record { settings = settings_of file f; layout = f }
 
 -- "A call returns the first number that applies"
-unfoldable pub readingIn : List ℕ → ℕ → Framing → Reading
-unfolding headerRefusals
-readingIn file room x = ruled Refused (Accepted (headerOf file (layoutIn x))) (headerRefusals file room x)
+unfoldable pub reading_in : List ℕ → ℕ → Framing → Reading
+unfolding header_refusals
+reading_in file room x = ruled Refused (Accepted (header_of file (layout_in x))) (header_refusals file room x)
 
 unfoldable pub reading_of : List ℕ → ℕ → Reading
-unfolding readingIn
-reading_of file room = readingIn file room (framingOf file)
+unfolding reading_in
+reading_of file room = reading_in file room (framing_of file)

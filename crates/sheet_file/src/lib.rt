@@ -2,13 +2,13 @@
 #![tactic(auto)]
 
 ghost use Rattle.std.specs.Prelude.{◌≡◌, true, false, ◌+◌, ◌*◌, ◌≤◌, ◌<◌, length};
-ghost use Rattle.folds.specs.Among.{anyIn};
+ghost use Rattle.folds.specs.Among.{any_in};
 ghost use Rattle.folds.specs.Arith.{f32};
 ghost use Rattle.sheet_file.specs.Bytes.{le16, le32};
 ghost use Rattle.sheet_file.specs.Grammar.{longest};
 ghost use Rattle.sheet_file.specs.Limit.{outside};
-ghost use Rattle.sheet_file.specs.Frame.{fieldAt, endFrom, weighedAt, unweighed, strengthsFrom, pointsFrom, gateFrom, framingOf, gateStart, Held};
-ghost use Rattle.sheet_file.specs.Refusals.{float_at, defaultsFor, settingsIn, gateIn, edgeShapeOf, fractionOf, settingsOf, misfit, noFlag, badFlag, settingsFloats, gateFloats, badFloat, FloatHeld, SettingsHeld, GateHeld, FloatsHeld, WeightsHeld, readingIn, reading_of};
+ghost use Rattle.sheet_file.specs.Frame.{field_at, end_from, weighed_at, unweighed, strengths_from, points_from, gate_from, framing_of, gate_start, Held};
+ghost use Rattle.sheet_file.specs.Refusals.{float_at, defaults_for, settings_in, gate_in, edge_shape_of, fraction_of, settings_of, misfit, no_flag, bad_flag, settings_floats, gate_floats, bad_float, FloatHeld, SettingsHeld, GateHeld, FloatsHeld, WeightsHeld, reading_in, reading_of};
 
 use view::MAX_POINTS;
 
@@ -150,7 +150,7 @@ impl Settings {
 
     // The defaults for a cell size, with or without an edge-shape gate and a fraction.
     pub fn new(cell_size: f32, edge_shape: EdgeGate, score_frac: Fraction) -> Self
-        ensures { result ≡ defaultsFor cell_size edge_shape score_frac }
+        ensures { result ≡ defaults_for cell_size edge_shape score_frac }
     {
         Self {
             cell_size,
@@ -191,7 +191,7 @@ pub enum Framing {
 // Whether the field with this tag and `len` bytes of data stands at `at`.
 fn field_at(file: &[u8], at: usize, tag: u8, len: usize) -> bool
     requires { at ≤ length file.now }
-    ensures { result ≡ fieldAt file.now at tag len }
+    ensures { result ≡ field_at file.now at tag len }
 {
     if file.len() - at < 3 {
         return false;
@@ -207,7 +207,7 @@ fn field_at(file: &[u8], at: usize, tag: u8, len: usize) -> bool
 
 // The end of the file, which the last field must reach: it ends at `at`.
 fn end_from(file: &[u8], at: usize, f: Layout) -> Framing
-    ensures { result ≡ endFrom file.now at f }
+    ensures { result ≡ end_from file.now at f }
 {
     if at == file.len() {
         return Framing::Framed(f);
@@ -217,7 +217,7 @@ fn end_from(file: &[u8], at: usize, f: Layout) -> Framing
 
 // The layout with `len` bytes of data of tag 4 from `at` on.
 fn weighed_at(f: Layout, at: usize, len: usize) -> Layout
-    ensures { result ≡ weighedAt f at len }
+    ensures { result ≡ weighed_at f at len }
 {
     Layout {
         full: f.full,
@@ -248,7 +248,7 @@ fn unweighed(full: bool, gated: bool, points: usize, count: usize) -> Layout
 // Tag 4, if it stands at `at`, of the length in its own two bytes, and then the end of the file.
 fn strengths_from(file: &[u8], at: usize, f: Layout) -> Framing
     requires { at ≤ length file.now }
-    ensures { result ≡ strengthsFrom file.now at f }
+    ensures { result ≡ strengths_from file.now at f }
 {
     if file.len() - at < 3 {
         return end_from(file, at, f);
@@ -263,7 +263,7 @@ fn strengths_from(file: &[u8], at: usize, f: Layout) -> Framing
 // Tag 3, whose length stands in its own two bytes, and then tag 4.
 fn points_from(file: &[u8], at: usize, full: bool, gated: bool) -> Framing
     requires { at ≤ length file.now }
-    ensures { result ≡ pointsFrom file.now at full gated }
+    ensures { result ≡ points_from file.now at full gated }
 {
     if file.len() - at < 3 {
         return Framing::Misframed;
@@ -281,7 +281,7 @@ fn points_from(file: &[u8], at: usize, full: bool, gated: bool) -> Framing
 // Tag 2, if it stands at `at`, and then tag 3.
 fn gate_from(file: &[u8], at: usize, full: bool) -> Framing
     requires { at ≤ length file.now }
-    ensures { result ≡ gateFrom file.now at full }
+    ensures { result ≡ gate_from file.now at full }
 {
     if field_at(file, at, 2, 17) {
         return points_from(file, at + 20, full, true);
@@ -291,7 +291,7 @@ fn gate_from(file: &[u8], at: usize, full: bool) -> Framing
 
 // The fields of the whole file.
 pub fn frame(file: &[u8]) -> Framing
-    ensures { result ≡ framingOf file.now }
+    ensures { result ≡ framing_of file.now }
 {
     if field_at(file, 0, 1, 21) {
         return gate_from(file, 24, true);
@@ -318,7 +318,7 @@ pub enum Reading {
 }
 
 fn is_no_flag(b: u8) -> bool
-    ensures { result ≡ noFlag b }
+    ensures { result ≡ no_flag b }
 {
     1 < b
 }
@@ -326,7 +326,7 @@ fn is_no_flag(b: u8) -> bool
 // Whether the step flag or a switch is neither 0 nor 1.
 fn has_bad_flag(file: &[u8], f: Layout) -> bool
     requires { Held file.now f }
-    ensures { result ≡ badFlag file.now f }
+    ensures { result ≡ bad_flag file.now f }
 {
     if f.full {
         return is_no_flag(file[17]) | is_no_flag(file[22]) | is_no_flag(file[23]);
@@ -337,7 +337,7 @@ fn has_bad_flag(file: &[u8], f: Layout) -> bool
 // Whether a float of tag 1 is outside the limit.
 fn settings_outside(file: &[u8], f: Layout) -> bool
     requires { Held file.now f }
-    ensures { result ≡ anyIn outside (settingsFloats file.now f.full) }
+    ensures { result ≡ any_in outside (settings_floats file.now f.full) }
 {
     let cell = is_outside(file, 3);
     if f.full {
@@ -349,7 +349,7 @@ fn settings_outside(file: &[u8], f: Layout) -> bool
 // Whether a float of tag 2, whose data begin at `at`, is outside the limit.
 fn gate_outside(file: &[u8], at: usize) -> bool
     requires { at + 17 ≤ length file.now }
-    ensures { result ≡ anyIn outside (gateFloats file.now at) }
+    ensures { result ≡ any_in outside (gate_floats file.now at) }
 {
     is_outside(file, at + 1)
         | is_outside(file, at + 5)
@@ -359,7 +359,7 @@ fn gate_outside(file: &[u8], at: usize) -> bool
 
 // Where the data of tag 2 begin.
 fn gate_start(full: bool) -> usize
-    ensures { result ≡ gateStart full }
+    ensures { result ≡ gate_start full }
 {
     if full {
         return 27;
@@ -369,7 +369,7 @@ fn gate_start(full: bool) -> usize
 
 fn has_bad_float(file: &[u8], f: Layout) -> bool
     requires { Held file.now f }
-    ensures { result ≡ badFloat file.now f }
+    ensures { result ≡ bad_float file.now f }
 {
     if settings_outside(file, f) {
         return true;
@@ -383,7 +383,7 @@ fn has_bad_float(file: &[u8], f: Layout) -> bool
 // The edge-shape gate in the data of tag 2 from `at` on.
 fn gate_in(file: &[u8], at: usize) -> EdgeShapeParams
     requires { GateHeld file.now at }
-    ensures { result ≡ gateIn file.now at }
+    ensures { result ≡ gate_in file.now at }
 {
     EdgeShapeParams {
         min_cardinal_degree: file[at],
@@ -396,7 +396,7 @@ fn gate_in(file: &[u8], at: usize) -> EdgeShapeParams
 
 fn edge_shape_of(file: &[u8], f: Layout) -> EdgeGate
     requires { FloatsHeld file.now f }
-    ensures { result ≡ edgeShapeOf file.now f }
+    ensures { result ≡ edge_shape_of file.now f }
 {
     if f.gated {
         return EdgeGate::On(gate_in(file, gate_start(f.full)));
@@ -407,7 +407,7 @@ fn edge_shape_of(file: &[u8], f: Layout) -> EdgeGate
 // The fraction in the first four bytes of tag 4's data.
 fn fraction_of(file: &[u8], f: Layout) -> Fraction
     requires { WeightsHeld file.now f }
-    ensures { result ≡ fractionOf file.now f }
+    ensures { result ≡ fraction_of file.now f }
 {
     if f.weighed {
         let at = f.strengths;
@@ -422,7 +422,7 @@ fn fraction_of(file: &[u8], f: Layout) -> Fraction
 // The settings in the 21 bytes of tag 1.
 fn settings_in(file: &[u8], gate: EdgeGate, fraction: Fraction) -> Settings
     requires { SettingsHeld file.now }
-    ensures { result ≡ settingsIn file.now gate fraction }
+    ensures { result ≡ settings_in file.now gate fraction }
 {
     Settings {
         cell_size: float_at(file, 3),
@@ -440,7 +440,7 @@ fn settings_in(file: &[u8], gate: EdgeGate, fraction: Fraction) -> Settings
 
 fn settings_of(file: &[u8], f: Layout) -> Settings
     requires { FloatsHeld file.now f }
-    ensures { result ≡ settingsOf file.now f }
+    ensures { result ≡ settings_of file.now f }
 {
     let gate = edge_shape_of(file, f);
     let fraction = fraction_of(file, f);
@@ -464,7 +464,7 @@ fn is_misfit(f: Layout) -> bool
 // Refusals 12 and 2 to 5 of a file with this layout.
 fn read_framed(file: &[u8], room: usize, f: Layout) -> Reading
     requires { Held file.now f }
-    ensures { result ≡ readingIn file.now room (Framing.Framed f) }
+    ensures { result ≡ reading_in file.now room (Framing.Framed f) }
 {
     if is_misfit(f) {
         return Reading::Refused(12);

@@ -1,38 +1,38 @@
 -- The two cases of the ruling, as the code meets them. Assumes nothing.
 use Rattle.std.proofs.Common.{◌≡◌, ℕ, ◌*◌, ◌/◌, ◌≤◌, Bool, true, false, cond, ltb, List, length, refl, ap, ◌∙◌, arith, ltb-false}
-use Rattle.view.specs.View.{maxPoints, viewAt}
-use Rattle.cells.specs.Cell.{Cell, cellsAt, cells_of}
+use Rattle.view.specs.View.{max_points, view_at}
+use Rattle.cells.specs.Cell.{Cell, cells_at, cells_of}
 use Rattle.cells.proofs.Keys.{cells_are}
-use Rattle.grid.specs.Tables.{ranksOf}
+use Rattle.grid.specs.Tables.{ranks_of}
 use Rattle.sheet_file.specs.Bytes.{Bytes}
 use Rattle.ruling.specs.Sheet.{Ruled}
 use Rattle.ruling.specs.declared.Sheet.{Sheet}
 use Rattle.ruling.proofs.Standing.{accepted-order}
 use Rattle.judged.specs.Judged.{Judged}
-use Rattle.predict.specs.Fills.{fillsOf}
+use Rattle.predict.specs.Fills.{fills_of}
 use Rattle.predict.specs.declared.Prediction.{Prediction}
-use Rattle.drop_set.specs.Filters.{sidesOf}
-use Rattle.judging.specs.Judging.{Arrays, judgedBy, judgedFor, fillsFor}
+use Rattle.drop_set.specs.Filters.{sides_of}
+use Rattle.judging.specs.Judging.{Arrays, judged_by, judged_for, fills_for}
 use Rattle.judging.proofs.Sheets.{AcceptedSheet, accepted-sheet, refused-sheet, sheet-arrays, sheet-judged, sheet-fills, sheet-few}
 use Rattle.kept.proofs.Cases.{rows_fit}
 use Rattle.text.specs.Stored.{Stored}
-use Rattle.sheet_fills.specs.Bytes.{fillSize, fillsBytes, droppedCount}
-use Rattle.sheet_fills.specs.Answer.{asRows, fillRuling, fillAnswerOf, fillsAfter}
+use Rattle.sheet_fills.specs.Bytes.{fill_size, fills_bytes, dropped_count}
+use Rattle.sheet_fills.specs.Answer.{as_rows, fill_ruling, fill_answer_of, fills_after}
 use Rattle.sheet_fills.specs.declared.FillAnswer.{FillAnswer}
 use Rattle.sheet_fills.specs.declared.FillAnswer.TheVariants.{Refused, Filled}
 use Rattle.sheet_fills.proofs.Laws.{bytes-long, bytes-few, fits_whole}
 
 -- room for the rows is room for the fills
-pub room-for-fills : (room n : ℕ) → 28 * n ≤ asRows room → n ≤ maxPoints → fillSize * n ≤ room
-room-for-fills room n h m = go (ltb (room / fillSize) maxPoints) refl h
+pub room-for-fills : (room n : ℕ) → 28 * n ≤ as_rows room → n ≤ max_points → fill_size * n ≤ room
+room-for-fills room n h m = go (ltb (room / fill_size) max_points) refl h
   where
-    go : (b : Bool) → ltb (room / fillSize) maxPoints ≡ b → 28 * n ≤ cond b (28 * (room / fillSize)) (28 * maxPoints) → fillSize * n ≤ room
+    go : (b : Bool) → ltb (room / fill_size) max_points ≡ b → 28 * n ≤ cond b (28 * (room / fill_size)) (28 * max_points) → fill_size * n ≤ room
     go true e h = omega arith
-    go false e h = omega (arith, ltb-false (room / fillSize) maxPoints e)
+    go false e h = omega (arith, ltb-false (room / fill_size) max_points e)
 
-module _ (file buffer : List ℕ) (bytes : Bytes file) (r : Sheet) (h : Ruled (fillRuling file (length buffer)) r) where
+module _ (file buffer : List ℕ) (bytes : Bytes file) (r : Sheet) (h : Ruled (fill_ruling file (length buffer)) r) where
   abbrev room : ℕ
-  room = asRows (length buffer)
+  room = as_rows (length buffer)
 
   abbrev of : r.table.number ≡ 0 → AcceptedSheet file room r
   of z = accepted-sheet file room r h z
@@ -40,35 +40,35 @@ module _ (file buffer : List ℕ) (bytes : Bytes file) (r : Sheet) (h : Ruled (f
   pub arrays : r.table.number ≡ 0 → Arrays r.count r.table.keys r.table.x r.table.y r.table.strength
   arrays z = sheet-arrays file room r bytes (of z)
 
-  pub few : r.table.number ≡ 0 → r.count ≤ maxPoints
+  pub few : r.table.number ≡ 0 → r.count ≤ max_points
   few z = sheet-few file room r bytes (of z)
 
   -- with the table of ranks
-  module _ (z : r.table.number ≡ 0) {ranks : List ℕ} (f : ranks ≡ ranksOf r.count r.table.keys r.table.idx) where
-    pub done : {j : Judged} {fills : List Prediction} {after : List ℕ} {end : ℕ} → j ≡ judgedBy r.settings r.count r.table.keys r.table.idx r.table.x r.table.y r.table.strength
-        → fills ≡ fillsOf (viewAt r.count ranks r.table.x r.table.y) (sidesOf r.settings) j.marks
-        → Stored buffer 0 (fillsBytes (cellsAt r.table.keys) j.marks fills r.count) after end
-        → (◌≡◌ {A = FillAnswer} (Filled (record { points = r.count; fills = end / fillSize })) (fillAnswerOf file (length buffer))) × (after ≡ fillsAfter file buffer)
-    unfolding fillAnswerOf fillsAfter
+  module _ (z : r.table.number ≡ 0) {ranks : List ℕ} (f : ranks ≡ ranks_of r.count r.table.keys r.table.idx) where
+    pub done : {j : Judged} {fills : List Prediction} {after : List ℕ} {end : ℕ} → j ≡ judged_by r.settings r.count r.table.keys r.table.idx r.table.x r.table.y r.table.strength
+        → fills ≡ fills_of (view_at r.count ranks r.table.x r.table.y) (sides_of r.settings) j.marks
+        → Stored buffer 0 (fills_bytes (cells_at r.table.keys) j.marks fills r.count) after end
+        → (◌≡◌ {A = FillAnswer} (Filled (record { points = r.count; fills = end / fill_size })) (fill_answer_of file (length buffer))) × (after ≡ fills_after file buffer)
+    unfolding fill_answer_of fills_after
     done {j} {fills} {after} {end} e g t =
         let o = of z in
         let ps = o.points in
         let s = o.settings in
-        let judged : j ≡ judgedFor s ps = e ∙ sheet-judged file room r bytes o in
-        let filled : fills ≡ fillsFor s ps = g ∙ sheet-fills file room r bytes o f (ap (λ (x : Judged). x.marks) judged) in
-        let cells : cellsAt r.table.keys ≡ cells_of ps = ap cellsAt o.sheet.table_is.keys-are ∙ cells_are ps (accepted-order file room s ps bytes o.ruled).inside in
-        let same : fillsBytes (cellsAt r.table.keys) j.marks fills r.count ≡ fillsBytes (cells_of ps) (judgedFor s ps).marks (fillsFor s ps) (length ps) =
-        ap (λ (c : ℕ → Cell). fillsBytes c j.marks fills r.count) cells
-        ∙ ap (λ (x : Judged). fillsBytes (cells_of ps) x.marks fills r.count) judged
-        ∙ ap (λ (l : List Prediction). fillsBytes (cells_of ps) (judgedFor s ps).marks l r.count) filled
-        ∙ ap (fillsBytes (cells_of ps) (judgedFor s ps).marks (fillsFor s ps)) o.sheet.count-is in
-        let long = bytes-long (cells_of ps) (judgedFor s ps).marks (fillsFor s ps) (length ps) in
-        let size = bytes-few (cells_of ps) (judgedFor s ps).marks (fillsFor s ps) (length ps) in
+        let judged : j ≡ judged_for s ps = e ∙ sheet-judged file room r bytes o in
+        let filled : fills ≡ fills_for s ps = g ∙ sheet-fills file room r bytes o f (ap (λ (x : Judged). x.marks) judged) in
+        let cells : cells_at r.table.keys ≡ cells_of ps = ap cells_at o.sheet.table_is.keys-are ∙ cells_are ps (accepted-order file room s ps bytes o.ruled).inside in
+        let same : fills_bytes (cells_at r.table.keys) j.marks fills r.count ≡ fills_bytes (cells_of ps) (judged_for s ps).marks (fills_for s ps) (length ps) =
+        ap (λ (c : ℕ → Cell). fills_bytes c j.marks fills r.count) cells
+        ∙ ap (λ (x : Judged). fills_bytes (cells_of ps) x.marks fills r.count) judged
+        ∙ ap (λ (l : List Prediction). fills_bytes (cells_of ps) (judged_for s ps).marks l r.count) filled
+        ∙ ap (fills_bytes (cells_of ps) (judged_for s ps).marks (fills_for s ps)) o.sheet.count-is in
+        let long = bytes-long (cells_of ps) (judged_for s ps).marks (fills_for s ps) (length ps) in
+        let size = bytes-few (cells_of ps) (judged_for s ps).marks (fills_for s ps) (length ps) in
         let fit = room-for-fills (length buffer) (length ps) (rows_fit file room s ps o.ruled) (accepted-order file room s ps bytes o.ruled).few in
         let w = fits_whole (rw same at t) (omega (arith, size, fit)) in
-        let count : end / fillSize ≡ droppedCount (judgedFor s ps).marks (length ps) = omega (arith, w.0, long) in
-        rw o.ruled (ap (λ (n : ℕ). Filled (record { points = n; fills = end / fillSize })) o.sheet.count-is ∙ ap (λ (c : ℕ). Filled (record { points = length ps; fills = c })) count, w.1)
+        let count : end / fill_size ≡ dropped_count (judged_for s ps).marks (length ps) = omega (arith, w.0, long) in
+        rw o.ruled (ap (λ (n : ℕ). Filled (record { points = n; fills = end / fill_size })) o.sheet.count-is ∙ ap (λ (c : ℕ). Filled (record { points = length ps; fills = c })) count, w.1)
 
-  pub turned : (r.table.number ≡ 0 → ⊥) → (◌≡◌ {A = FillAnswer} (Refused r.table.number) (fillAnswerOf file (length buffer))) × (buffer ≡ fillsAfter file buffer)
-  unfolding fillAnswerOf fillsAfter
+  pub turned : (r.table.number ≡ 0 → ⊥) → (◌≡◌ {A = FillAnswer} (Refused r.table.number) (fill_answer_of file (length buffer))) × (buffer ≡ fills_after file buffer)
+  unfolding fill_answer_of fills_after
   turned f = rw (refused-sheet file room r h f) (refl, refl)

@@ -12,7 +12,7 @@ use Rattle.text.specs.Stored.{Stored}
 use Rattle.text.specs.Text.{each}
 use Rattle.text.specs.declared.Written.TheVariants.{Whole, NoRoom}
 use Rattle.text.proofs.Stores.{each_none, each_more, shows}
-use Rattle.sheet_fills.specs.Bytes.{fillSize, predictionBytes, fillBytes, bytesFor, fillsBytes, droppedCount}
+use Rattle.sheet_fills.specs.Bytes.{fill_size, prediction_bytes, fill_bytes, bytes_for, fills_bytes, dropped_count}
 
 -- ---- a cell number as i32
 
@@ -33,40 +33,40 @@ unbiased b r h l e = go (dec_lt b bias)
 
 -- ---- how many bytes there are
 
-fill-long : (c : Cell) (x : Prediction) → length (fillBytes c x) ≡ fillSize
-unfolding fillBytes predictionBytes
+fill-long : (c : Cell) (x : Prediction) → length (fill_bytes c x) ≡ fill_size
+unfolding fill_bytes prediction_bytes
 fill-long c NoPair = refl
 fill-long c (Pairs p) = refl
 
 module _ (cell : ℕ → Cell) (marks : List ℕ) (fills : List Prediction) where
   abbrev piece : ℕ → List ℕ
-  piece k = bytesFor (cell k) (get_or marks k 0) (get_or fills k NoPair)
+  piece k = bytes_for (cell k) (get_or marks k 0) (get_or fills k NoPair)
 
-  piece-long : (k : ℕ) → length (piece k) ≡ cond (not (eqb (get_or marks k 0) 0)) fillSize 0
+  piece-long : (k : ℕ) → length (piece k) ≡ cond (not (eqb (get_or marks k 0) 0)) fill_size 0
   piece-long k = go (eqb (get_or marks k 0) 0)
     where
-      go : (b : Bool) → length (cond b [] (fillBytes (cell k) (get_or fills k NoPair))) ≡ cond (not b) fillSize 0
+      go : (b : Bool) → length (cond b [] (fill_bytes (cell k) (get_or fills k NoPair))) ≡ cond (not b) fill_size 0
       go true = refl
       go false = fill-long (cell k) (get_or fills k NoPair)
 
   abbrev dropped : ℕ → Bool
   dropped k = not (eqb (get_or marks k 0) 0)
 
-  one_more : (n : ℕ) (b : Bool) → dropped n ≡ b → length (each piece n) ≡ fillSize * tally dropped n → length (each piece n ++ piece n) ≡ fillSize * cond (dropped n) (tally dropped n + 1) (tally dropped n)
-  one_more n true e h = rw e (omega (arith, length-append (each piece n) (piece n), piece-long n ∙ ap (λ (b : Bool). cond b fillSize 0) e, h))
-  one_more n false e h = rw e (omega (arith, length-append (each piece n) (piece n), piece-long n ∙ ap (λ (b : Bool). cond b fillSize 0) e, h))
+  one-more : (n : ℕ) (b : Bool) → dropped n ≡ b → length (each piece n) ≡ fill_size * tally dropped n → length (each piece n ++ piece n) ≡ fill_size * cond (dropped n) (tally dropped n + 1) (tally dropped n)
+  one-more n true e h = rw e (omega (arith, length-append (each piece n) (piece n), piece-long n ∙ ap (λ (b : Bool). cond b fill_size 0) e, h))
+  one-more n false e h = rw e (omega (arith, length-append (each piece n) (piece n), piece-long n ∙ ap (λ (b : Bool). cond b fill_size 0) e, h))
 
   -- 20 for each dropped rank
-  pub bytes-long : (n : ℕ) → length (fillsBytes cell marks fills n) ≡ fillSize * droppedCount marks n
-  unfolding fillsBytes droppedCount
-  bytes-long zero = ap length (each_none piece) ∙ sym (ap (λ (c : ℕ). fillSize * c) (tally-none dropped))
+  pub bytes-long : (n : ℕ) → length (fills_bytes cell marks fills n) ≡ fill_size * dropped_count marks n
+  unfolding fills_bytes dropped_count
+  bytes-long zero = ap length (each_none piece) ∙ sym (ap (λ (c : ℕ). fill_size * c) (tally-none dropped))
   bytes-long (suc n) =
       let s : suc n ≡ n + 1 = omega arith in
-      ap (λ (m : ℕ). length (each piece m)) s ∙ ap length (each_more piece n) ∙ one_more n (dropped n) refl (bytes-long n)
-      ∙ sym (ap (λ (m : ℕ). fillSize * tally dropped m) s ∙ ap (λ (c : ℕ). fillSize * c) (tally-more dropped n))
+      ap (λ (m : ℕ). length (each piece m)) s ∙ ap length (each_more piece n) ∙ one-more n (dropped n) refl (bytes-long n)
+      ∙ sym (ap (λ (m : ℕ). fill_size * tally dropped m) s ∙ ap (λ (c : ℕ). fill_size * c) (tally-more dropped n))
 
-  pub bytes-few : (n : ℕ) → length (fillsBytes cell marks fills n) ≤ fillSize * n
-  unfolding droppedCount
+  pub bytes-few : (n : ℕ) → length (fills_bytes cell marks fills n) ≤ fill_size * n
+  unfolding dropped_count
   bytes-few n = omega (arith, bytes-long n, tally-le (λ (k : ℕ). not (eqb (get_or marks k 0) 0)) n)
 
 -- ---- where they stand

@@ -7,40 +7,40 @@ use Rattle.std.specs.Int.{w32}
 use Rattle.std.proofs.Common.{of_z}
 use Rattle.folds.specs.Below.{tally}
 use Rattle.cells.specs.Cell.{Cell}
-use Rattle.sheet_file.specs.Bytes.{littleEndian}
+use Rattle.sheet_file.specs.Bytes.{little_endian}
 use Rattle.predict.specs.declared.Prediction.{Prediction}
 use Rattle.predict.specs.declared.Prediction.TheVariants.{NoPair, Pairs}
 use Rattle.text.specs.Text.{each}
 
 -- the bytes of a fill: 20 for each dropped point
-abbrev pub fillSize : ℕ
-fillSize = 20
+abbrev pub fill_size : ℕ
+fill_size = 20
 
 -- a whole number as i32
-abbrev pub signedBytes : ℤ → List ℕ
-signedBytes z = littleEndian (of_z w32 z)
+abbrev pub signed_bytes : ℤ → List ℕ
+signed_bytes z = little_endian (of_z w32 z)
 
 -- the number of pairs as u32, and x and y as f32; zeros where there is no pair
-unfoldable pub predictionBytes : Prediction → List ℕ
+unfoldable pub prediction_bytes : Prediction → List ℕ
 unfolding to_bits
-predictionBytes NoPair = littleEndian 0 ++ littleEndian 0 ++ littleEndian 0
-predictionBytes (Pairs p) = littleEndian p.n_axis_pairs ++ littleEndian (to_bits binary32 p.x) ++ littleEndian (to_bits binary32 p.y)
+prediction_bytes NoPair = little_endian 0 ++ little_endian 0 ++ little_endian 0
+prediction_bytes (Pairs p) = little_endian p.n_axis_pairs ++ little_endian (to_bits binary32 p.x) ++ little_endian (to_bits binary32 p.y)
 
 -- "u, v, pairs, x and y"
-unfoldable pub fillBytes : Cell → Prediction → List ℕ
-unfolding predictionBytes
-fillBytes cell fill = signedBytes cell.u ++ signedBytes cell.v ++ predictionBytes fill
+unfoldable pub fill_bytes : Cell → Prediction → List ℕ
+unfolding prediction_bytes
+fill_bytes cell fill = signed_bytes cell.u ++ signed_bytes cell.v ++ prediction_bytes fill
 
 -- a point without a mark has no fill
-abbrev pub bytesFor : Cell → ℕ → Prediction → List ℕ
-bytesFor cell marks fill = cond (marks == 0) [] (fillBytes cell fill)
+abbrev pub bytes_for : Cell → ℕ → Prediction → List ℕ
+bytes_for cell marks fill = cond (marks == 0) [] (fill_bytes cell fill)
 
 -- "in cell order": of n ranks
-unfoldable pub fillsBytes : (ℕ → Cell) → List ℕ → List Prediction → ℕ → List ℕ
-unfolding each fillBytes
-fillsBytes cell marks fills n = each (λ k. bytesFor (cell k) (slice_index marks k) (slice_index_or fills k NoPair)) n
+unfoldable pub fills_bytes : (ℕ → Cell) → List ℕ → List Prediction → ℕ → List ℕ
+unfolding each fill_bytes
+fills_bytes cell marks fills n = each (λ k. bytes_for (cell k) (slice_index marks k) (slice_index_or fills k NoPair)) n
 
 -- how many of n ranks are dropped
-unfoldable pub droppedCount : List ℕ → ℕ → ℕ
+unfoldable pub dropped_count : List ℕ → ℕ → ℕ
 unfolding tally
-droppedCount marks n = tally (λ (k : ℕ). not (slice_index marks k == 0)) n
+dropped_count marks n = tally (λ (k : ℕ). not (slice_index marks k == 0)) n

@@ -3,15 +3,15 @@
 #![tactic(auto)]
 
 ghost use Rattle.std.specs.Prelude.{◌≡◌, ◌≤◌, ◌++◌, length, pos, ◌-ℤ◌};
-ghost use Rattle.view.specs.View.{maxPoints};
+ghost use Rattle.view.specs.View.{max_points};
 ghost use Rattle.cells.specs.Points.{bias};
-ghost use Rattle.cells.specs.Cell.{cellOfKey, cellsAt};
-ghost use Rattle.sheet_file.specs.Bytes.{littleEndian};
+ghost use Rattle.cells.specs.Cell.{cell_of_key, cells_at};
+ghost use Rattle.sheet_file.specs.Bytes.{little_endian};
 ghost use Rattle.ruling.specs.Sheet.{Ruled};
 ghost use Rattle.predict.specs.declared.Prediction.TheVariants.{Pairs};
 ghost use Rattle.text.specs.Stored.{Stored};
-ghost use Rattle.sheet_fills.specs.Bytes.{signedBytes, predictionBytes, bytesFor, fillsBytes};
-ghost use Rattle.sheet_fills.specs.Answer.{asRows, fillRuling, fillAnswerOf, fillsAfter};
+ghost use Rattle.sheet_fills.specs.Bytes.{signed_bytes, prediction_bytes, bytes_for, fills_bytes};
+ghost use Rattle.sheet_fills.specs.Answer.{as_rows, fill_ruling, fill_answer_of, fills_after};
 
 use judged::figures::{FIGURE_COUNTS_SIZE, FIGURE_MEASURES_SIZE};
 use judging::Terms;
@@ -38,13 +38,13 @@ pub enum FillAnswer {
 
 // The cell number b - BIAS.
 fn put_cell_number(b: u32, out: &mut [u8], at: usize) -> usize
-    ensures { Stored out.old at (signedBytes (pos b -ℤ pos bias)) out.new result }
+    ensures { Stored out.old at (signed_bytes (pos b -ℤ pos bias)) out.new result }
 {
     little_endian::put_u32(std::num::wrapping_sub_u32(b, cells::BIAS), out, at)
 }
 
 fn put_numbers(a: u32, b: u32, c: u32, out: &mut [u8], at: usize) -> usize
-    ensures { Stored out.old at (littleEndian a ++ littleEndian b ++ littleEndian c) out.new result }
+    ensures { Stored out.old at (little_endian a ++ little_endian b ++ little_endian c) out.new result }
 {
     let d = little_endian::put_u32(a, out, at);
     let e = little_endian::put_u32(b, out, d);
@@ -52,7 +52,7 @@ fn put_numbers(a: u32, b: u32, c: u32, out: &mut [u8], at: usize) -> usize
 }
 
 fn put_position(p: PredictedPosition, out: &mut [u8], at: usize) -> usize
-    ensures { Stored out.old at (predictionBytes (Pairs p)) out.new result }
+    ensures { Stored out.old at (prediction_bytes (Pairs p)) out.new result }
 {
     let x = float::to_bits(p.x);
     let y = float::to_bits(p.y);
@@ -60,7 +60,7 @@ fn put_position(p: PredictedPosition, out: &mut [u8], at: usize) -> usize
 }
 
 fn put_prediction(p: Prediction, out: &mut [u8], at: usize) -> usize
-    ensures { Stored out.old at (predictionBytes p) out.new result }
+    ensures { Stored out.old at (prediction_bytes p) out.new result }
 {
     match p {
         Prediction::NoPair => put_numbers(0, 0, 0, out, at),
@@ -70,7 +70,7 @@ fn put_prediction(p: Prediction, out: &mut [u8], at: usize) -> usize
 
 // The fill of the point whose cell has this key, if it has a mark.
 fn put_fill(key: u32, marks: u8, fill: Prediction, out: &mut [u8], at: usize) -> usize
-    ensures { Stored out.old at (bytesFor (cellOfKey key) marks fill) out.new result }
+    ensures { Stored out.old at (bytes_for (cell_of_key key) marks fill) out.new result }
 {
     if marks == 0 {
         return at;
@@ -82,8 +82,8 @@ fn put_fill(key: u32, marks: u8, fill: Prediction, out: &mut [u8], at: usize) ->
 
 // The fills of n points in cell order, from the start of the buffer; the place after them.
 fn put_fills(n: usize, keys: &Words, marks: &Marks, fills: Fills, out: &mut [u8]) -> usize
-    requires { n ≤ maxPoints }
-    ensures { Stored out.old 0 (fillsBytes (cellsAt keys.now) marks.now fills n) out.new result }
+    requires { n ≤ max_points }
+    ensures { Stored out.old 0 (fills_bytes (cells_at keys.now) marks.now fills n) out.new result }
 {
     let mut to: usize = 0;
     let mut k = 0;
@@ -99,7 +99,7 @@ fn put_fills(n: usize, keys: &Words, marks: &Marks, fills: Fills, out: &mut [u8]
 
 // The room for rows that goes with a buffer for fills.
 fn as_rows(room: usize) -> usize
-    ensures { result ≡ asRows room }
+    ensures { result ≡ as_rows room }
 {
     let most = room / FILL_SIZE;
     if most < MAX_POINTS {
@@ -110,9 +110,9 @@ fn as_rows(room: usize) -> usize
 
 // Writes the fills of a sheet that was read of a file; or gives the number of a refusal, and writes nothing.
 fn fill_read(file: &[u8], sheet: Sheet, out: &mut [u8]) -> FillAnswer
-    requires { Ruled (fillRuling file.now (length out.old)) sheet }
-    ensures answer { result ≡ fillAnswerOf file.now (length out.old) }
-    ensures fills { out.new ≡ fillsAfter file.now out.old }
+    requires { Ruled (fill_ruling file.now (length out.old)) sheet }
+    ensures answer { result ≡ fill_answer_of file.now (length out.old) }
+    ensures fills { out.new ≡ fills_after file.now out.old }
 {
     let settings = sheet.settings;
     let n = sheet.count;
@@ -136,8 +136,8 @@ fn fill_read(file: &[u8], sheet: Sheet, out: &mut [u8]) -> FillAnswer
 
 // The call: the positions for the dropped points of a sheet file, 20 bytes each, in cell order, and the counts; or the number of a refusal.
 pub fn fill_sheet(file: &[u8], out: &mut [u8]) -> FillAnswer
-    ensures answer { result ≡ fillAnswerOf file.now (length out.old) }
-    ensures fills { out.new ≡ fillsAfter file.now out.old }
+    ensures answer { result ≡ fill_answer_of file.now (length out.old) }
+    ensures fills { out.new ≡ fills_after file.now out.old }
 {
     let sheet = ruling::read(file, as_rows(out.len()));
     fill_read(file, sheet, out)

@@ -3,55 +3,55 @@ use mathlib.Core.Path.{◌≡◌, sym, ap, ◌∙◌}
 use mathlib.Core.List.{List}
 use Prim.Native.Nat.{ℕ, ◌≤◌}
 use lib.ListN.{length}
-use Rattle.view.specs.View.{maxPoints, viewAt}
-use Rattle.cells.specs.Points.{indicesOf}
-use Rattle.cells.specs.Cell.{Cell, cellsAt, cells_of}
+use Rattle.view.specs.View.{max_points, view_at}
+use Rattle.cells.specs.Points.{indices_of}
+use Rattle.cells.specs.Cell.{Cell, cells_at, cells_of}
 use Rattle.cells.proofs.Keys.{cells_are}
-use Rattle.grid.specs.Tables.{ranksOf}
+use Rattle.grid.specs.Tables.{ranks_of}
 use Rattle.sheet_file.specs.Bytes.{Bytes}
-use Rattle.ruling.specs.Ruling.{rulingOf, rowsSize}
+use Rattle.ruling.specs.Ruling.{ruling_of, rows_size}
 use Rattle.ruling.specs.Sheet.{Ruled}
 use Rattle.ruling.specs.declared.Sheet.{Sheet}
 use Rattle.ruling.proofs.Standing.{accepted-order}
 use Rattle.judged.specs.Judged.{Judged}
-use Rattle.predict.specs.Fills.{fillsOf}
+use Rattle.predict.specs.Fills.{fills_of}
 use Rattle.predict.specs.declared.Prediction.{Prediction}
-use Rattle.drop_set.specs.Filters.{sidesOf}
-use Rattle.judging.specs.Judging.{Arrays, judgedBy, judgedFor, fillsFor}
+use Rattle.drop_set.specs.Filters.{sides_of}
+use Rattle.judging.specs.Judging.{Arrays, judged_by, judged_for, fills_for}
 use Rattle.judging.proofs.Sheets.{AcceptedSheet, accepted-sheet, refused-sheet, sheet-arrays, sheet-judged, sheet-fills, sheet-few}
-use Rattle.text.specs.Text.{refusalOf}
-use Rattle.listing.specs.Listing.{listingOf}
-use Rattle.sheet_listing.specs.Text.{textBy, text_of}
+use Rattle.text.specs.Text.{refusal_of}
+use Rattle.listing.specs.Listing.{listing_of}
+use Rattle.sheet_listing.specs.Text.{text_by, text_of}
 use Rattle.sheet_listing.proofs.Laws.{text-is}
 
-module _ (file : List ℕ) (bytes : Bytes file) (r : Sheet) (h : Ruled (rulingOf file rowsSize) r) where
-  abbrev of : r.table.number ≡ 0 → AcceptedSheet file rowsSize r
-  of z = accepted-sheet file rowsSize r h z
+module _ (file : List ℕ) (bytes : Bytes file) (r : Sheet) (h : Ruled (ruling_of file rows_size) r) where
+  abbrev of : r.table.number ≡ 0 → AcceptedSheet file rows_size r
+  of z = accepted-sheet file rows_size r h z
 
   pub arrays : r.table.number ≡ 0 → Arrays r.count r.table.keys r.table.x r.table.y r.table.strength
-  arrays z = sheet-arrays file rowsSize r bytes (of z)
+  arrays z = sheet-arrays file rows_size r bytes (of z)
 
-  pub few : r.table.number ≡ 0 → r.count ≤ maxPoints
-  few z = sheet-few file rowsSize r bytes (of z)
+  pub few : r.table.number ≡ 0 → r.count ≤ max_points
+  few z = sheet-few file rows_size r bytes (of z)
 
   -- with the table of ranks
-  module _ (z : r.table.number ≡ 0) {ranks : List ℕ} (f : ranks ≡ ranksOf r.count r.table.keys r.table.idx) where
-    pub listed : {j : Judged} {fills : List Prediction} → j ≡ judgedBy r.settings r.count r.table.keys r.table.idx r.table.x r.table.y r.table.strength
-        → fills ≡ fillsOf (viewAt r.count ranks r.table.x r.table.y) (sidesOf r.settings) j.marks
-        → listingOf r.count (cellsAt r.table.keys) r.table.idx j fills ≡ text_of file
+  module _ (z : r.table.number ≡ 0) {ranks : List ℕ} (f : ranks ≡ ranks_of r.count r.table.keys r.table.idx) where
+    pub listed : {j : Judged} {fills : List Prediction} → j ≡ judged_by r.settings r.count r.table.keys r.table.idx r.table.x r.table.y r.table.strength
+        → fills ≡ fills_of (view_at r.count ranks r.table.x r.table.y) (sides_of r.settings) j.marks
+        → listing_of r.count (cells_at r.table.keys) r.table.idx j fills ≡ text_of file
     listed {j} {fills} e g =
         let o = of z in
         let ps = o.points in
         let s = o.settings in
         let t = o.sheet.table_is in
-        let judged : j ≡ judgedFor s ps = e ∙ sheet-judged file rowsSize r bytes o in
-        let filled : fills ≡ fillsFor s ps = g ∙ sheet-fills file rowsSize r bytes o f (ap (λ (x : Judged). x.marks) judged) in
-        ap (λ (x : Judged). listingOf r.count (cellsAt r.table.keys) r.table.idx x fills) judged
-        ∙ ap (λ (n : ℕ). listingOf n (cellsAt r.table.keys) r.table.idx (judgedFor s ps) fills) o.sheet.count-is
-        ∙ ap (λ (cell : ℕ → Cell). listingOf (length ps) cell r.table.idx (judgedFor s ps) fills) (ap cellsAt t.keys-are ∙ cells_are ps (accepted-order file rowsSize s ps bytes o.ruled).inside)
-        ∙ ap (λ (l : List ℕ). listingOf (length ps) (cells_of ps) l (judgedFor s ps) fills) t.indices-are
-        ∙ ap (listingOf (length ps) (cells_of ps) (indicesOf ps) (judgedFor s ps)) filled
-        ∙ sym (text-is file ∙ ap textBy o.ruled)
+        let judged : j ≡ judged_for s ps = e ∙ sheet-judged file rows_size r bytes o in
+        let filled : fills ≡ fills_for s ps = g ∙ sheet-fills file rows_size r bytes o f (ap (λ (x : Judged). x.marks) judged) in
+        ap (λ (x : Judged). listing_of r.count (cells_at r.table.keys) r.table.idx x fills) judged
+        ∙ ap (λ (n : ℕ). listing_of n (cells_at r.table.keys) r.table.idx (judged_for s ps) fills) o.sheet.count-is
+        ∙ ap (λ (cell : ℕ → Cell). listing_of (length ps) cell r.table.idx (judged_for s ps) fills) (ap cells_at t.keys-are ∙ cells_are ps (accepted-order file rows_size s ps bytes o.ruled).inside)
+        ∙ ap (λ (l : List ℕ). listing_of (length ps) (cells_of ps) l (judged_for s ps) fills) t.indices-are
+        ∙ ap (listing_of (length ps) (cells_of ps) (indices_of ps) (judged_for s ps)) filled
+        ∙ sym (text-is file ∙ ap text_by o.ruled)
 
-  pub turned : (r.table.number ≡ 0 → ⊥) → refusalOf r.table.number ≡ text_of file
-  turned f = sym (text-is file ∙ ap textBy (refused-sheet file rowsSize r h f))
+  pub turned : (r.table.number ≡ 0 → ⊥) → refusal_of r.table.number ≡ text_of file
+  turned f = sym (text-is file ∙ ap text_by (refused-sheet file rows_size r h f))

@@ -5,47 +5,47 @@ use mathlib.Core.List.{List}
 use Prim.Native.Nat.{ℕ}
 use lib.ListN.{length}
 use Rattle.cells.specs.Points.{Point}
-use Rattle.cells.specs.Cell.{Cell, cellsAt, cells_of}
+use Rattle.cells.specs.Cell.{Cell, cells_at, cells_of}
 use Rattle.cells.proofs.Keys.{cells_are}
 use Rattle.sheet_file.specs.Bytes.{Bytes}
 use Rattle.sheet_file.specs.declared.Settings.{Settings}
-use Rattle.ruling.specs.Ruling.{refused, accepted, rulingOf, rowsSize}
+use Rattle.ruling.specs.Ruling.{refused, accepted, ruling_of, rows_size}
 use Rattle.ruling.specs.Sheet.{Ruled}
 use Rattle.ruling.specs.declared.Sheet.{Sheet}
 use Rattle.ruling.proofs.Standing.{accepted-order}
-use Rattle.judging.specs.Judging.{Arrays, judgedFor}
+use Rattle.judging.specs.Judging.{Arrays, judged_for}
 use Rattle.judging.proofs.Sheets.{AcceptedSheet, accepted-sheet, refused-sheet, sheet-arrays, sheet-judged}
-use Rattle.text.specs.Text.{refusalOf}
-use Rattle.map_lines.specs.Map.{tooWide, mapOf}
-use Rattle.sheet_map.specs.Text.{mapBy, mapTextOf}
-use Rattle.sheet_map.specs.Table.{drawnBy}
+use Rattle.text.specs.Text.{refusal_of}
+use Rattle.map_lines.specs.Map.{too_wide, map_of}
+use Rattle.sheet_map.specs.Text.{map_by, map_text_of}
+use Rattle.sheet_map.specs.Table.{drawn_by}
 use Rattle.sheet_map.proofs.Laws.{text-is, older-first, drawn-or-ten}
 
-choice : (t : Bool) (k : ℕ) (s : Settings) (ps : List Point) → mapBy (cond t (refused k) (accepted s ps)) ≡ cond t (refusalOf k) (mapBy (accepted s ps))
+choice : (t : Bool) (k : ℕ) (s : Settings) (ps : List Point) → map_by (cond t (refused k) (accepted s ps)) ≡ cond t (refusal_of k) (map_by (accepted s ps))
 choice true k s ps = refl
 choice false k s ps = refl
 
 -- what is printed of n points with these cells and marks
 abbrev shown : ℕ → (ℕ → Cell) → List ℕ → List ℕ
-shown n cell marks = cond (tooWide n cell) (refusalOf 10) (mapOf n cell marks)
+shown n cell marks = cond (too_wide n cell) (refusal_of 10) (map_of n cell marks)
 
-module _ (file : List ℕ) (bytes : Bytes file) (r : Sheet) (h : Ruled (rulingOf file rowsSize) r) where
-  pub turned : (r.table.number ≡ 0 → ⊥) → refusalOf r.table.number ≡ mapTextOf file
-  turned f = sym (text-is file ∙ ap mapBy (older-first file r.table.number (refused-sheet file rowsSize r h f)))
+module _ (file : List ℕ) (bytes : Bytes file) (r : Sheet) (h : Ruled (ruling_of file rows_size) r) where
+  pub turned : (r.table.number ≡ 0 → ⊥) → refusal_of r.table.number ≡ map_text_of file
+  turned f = sym (text-is file ∙ ap map_by (older-first file r.table.number (refused-sheet file rows_size r h f)))
 
   module _ (z : r.table.number ≡ 0) where
-    abbrev o : AcceptedSheet file rowsSize r
-    o = accepted-sheet file rowsSize r h z
+    abbrev o : AcceptedSheet file rows_size r
+    o = accepted-sheet file rows_size r h z
 
     pub ready : Arrays r.count r.table.keys r.table.x r.table.y r.table.strength
-    ready = sheet-arrays file rowsSize r bytes o
+    ready = sheet-arrays file rows_size r bytes o
 
-    cells : cellsAt r.table.keys ≡ cells_of o.points
-    cells = ap cellsAt o.sheet.table_is.keys-are ∙ cells_are o.points (accepted-order file rowsSize o.settings o.points bytes o.ruled).inside
+    cells : cells_at r.table.keys ≡ cells_of o.points
+    cells = ap cells_at o.sheet.table_is.keys-are ∙ cells_are o.points (accepted-order file rows_size o.settings o.points bytes o.ruled).inside
 
-    pub drawn : drawnBy r.settings r.count r.table.keys r.table.idx r.table.x r.table.y r.table.strength ≡ mapTextOf file
+    pub drawn : drawn_by r.settings r.count r.table.keys r.table.idx r.table.x r.table.y r.table.strength ≡ map_text_of file
     drawn =
-        ap (λ x. shown r.count (cellsAt r.table.keys) x.marks) (sheet-judged file rowsSize r bytes o)
-        ∙ ap (λ (n : ℕ). shown n (cellsAt r.table.keys) (judgedFor o.settings o.points).marks) o.sheet.count-is
-        ∙ ap (λ (cell : ℕ → Cell). shown (length o.points) cell (judgedFor o.settings o.points).marks) cells
-        ∙ sym (text-is file ∙ ap mapBy (drawn-or-ten file o.settings o.points o.ruled) ∙ choice (tooWide (length o.points) (cells_of o.points)) 10 o.settings o.points)
+        ap (λ x. shown r.count (cells_at r.table.keys) x.marks) (sheet-judged file rows_size r bytes o)
+        ∙ ap (λ (n : ℕ). shown n (cells_at r.table.keys) (judged_for o.settings o.points).marks) o.sheet.count-is
+        ∙ ap (λ (cell : ℕ → Cell). shown (length o.points) cell (judged_for o.settings o.points).marks) cells
+        ∙ sym (text-is file ∙ ap map_by (drawn-or-ten file o.settings o.points o.ruled) ∙ choice (too_wide (length o.points) (cells_of o.points)) 10 o.settings o.points)

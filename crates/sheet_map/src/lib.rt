@@ -3,8 +3,8 @@
 
 ghost use Rattle.judging.specs.Judging.{Arrays};
 ghost use Rattle.text.specs.Answer.{Shows};
-ghost use Rattle.sheet_map.specs.Text.{mapTextOf};
-ghost use Rattle.sheet_map.specs.Table.{drawnBy};
+ghost use Rattle.sheet_map.specs.Text.{map_text_of};
+ghost use Rattle.sheet_map.specs.Table.{drawn_by};
 
 use judged::figures::{FIGURE_COUNTS_SIZE, FIGURE_MEASURES_SIZE};
 use judging::Terms;
@@ -25,7 +25,7 @@ fn draw<'a>(
     out: &mut [u8],
 ) -> Written
     requires { Arrays t.count keys.now x.now y.now strength.now }
-    ensures { Shows (drawnBy t.settings t.count keys.now idx.now x.now y.now strength.now) out.old out.new result }
+    ensures { Shows (drawn_by t.settings t.count keys.now idx.now x.now y.now strength.now) out.old out.new result }
 {
     let n = t.count;
     let u = spans::span_along(keys, n, Axis::AlongU);
@@ -42,7 +42,7 @@ fn draw<'a>(
 
 // Writes the map of a sheet file, or `refused` and the number.
 pub fn draw_sheet(file: &[u8], out: &mut [u8]) -> Written
-    ensures { Shows (mapTextOf file.now) out.old out.new result }
+    ensures { Shows (map_text_of file.now) out.old out.new result }
 {
     let sheet = ruling::read(file, ROWS_SIZE);
     let number = sheet.table.number;

@@ -6,24 +6,24 @@ use Rattle.folds.specs.Lists.{All, list_of}
 use Rattle.cells.specs.Points.{Point}
 use Rattle.cells.specs.Cell.{cells_of}
 use Rattle.sort.specs.Sorted.{sort}
-use Rattle.points.specs.Refusals.{numberFor, cellOrder}
+use Rattle.points.specs.Refusals.{number_for, cell_order}
 use Rattle.grid.specs.Views.{view_of}
 use Rattle.sheet_file.specs.declared.Settings.{Settings}
 use Rattle.sheet_file.specs.declared.EdgeGate.TheVariants.{Off}
 use Rattle.sheet_file.specs.declared.Fraction.TheVariants.{Missing}
-use Rattle.sheet_file.specs.Refusals.{defaultsFor}
+use Rattle.sheet_file.specs.Refusals.{defaults_for}
 use Rattle.local_h.specs.Residual.{residuals-compute}
-use Rattle.residuals.specs.ByIndex.{lastFit, indexResidual, indexColumns}
-use Rattle.lines.specs.Flags.{flagCount}
-use Rattle.step.specs.Step.{stepAt, scaleAt}
+use Rattle.residuals.specs.ByIndex.{last_fit, index_residual, index_columns}
+use Rattle.lines.specs.Flags.{flag_count}
+use Rattle.step.specs.Step.{step_at, scale_at}
 use Rattle.step.specs.Deviation.{deviates}
-use Rattle.blame.specs.Marks.{isMarked}
-use Rattle.validate.specs.Validate.{steps_of, scalesOf, flags_of, residualsOf, deviationsOf, figuresOf}
-use Rattle.orientation.specs.Orientation.{voteAt}
-use Rattle.patches.specs.Patches.{labelsOf}
-use Rattle.components.specs.Components.{patchCount, othersOf}
-use Rattle.marks.specs.Marks.{indexMarks}
-use Rattle.judging.specs.Judging.{judgedFor}
+use Rattle.blame.specs.Marks.{is_marked}
+use Rattle.validate.specs.Validate.{steps_of, scales_of, flags_of, residuals_of, deviations_of, figures_of}
+use Rattle.orientation.specs.Orientation.{vote_at}
+use Rattle.patches.specs.Patches.{labels_of}
+use Rattle.components.specs.Components.{patch_count, others_of}
+use Rattle.marks.specs.Marks.{index_marks}
+use Rattle.judging.specs.Judging.{judged_for}
 
 -- What is said of a sheet: the component count, the rounds that removed something and, by rank, the line flags of the index, the vote (0 is
 -- none), whether the index has a residual (1 or 0), and the marks ("bit 0 validate, 1 orientation, 2 wrong label, 3 component", and bit 4
@@ -40,24 +40,24 @@ pub record Said : Type 0 where
 
 -- This name on an `unfolding` line opens every definition that a judged sheet computes by.
 unfoldable pub rules-compute : Bool
-unfolding view_of cells_of defaultsFor residuals-compute lastFit indexResidual indexColumns flagCount stepAt scaleAt deviates isMarked steps_of scalesOf flags_of residualsOf deviationsOf figuresOf labelsOf patchCount othersOf indexMarks judgedFor sort numberFor
+unfolding view_of cells_of defaults_for residuals-compute last_fit index_residual index_columns flag_count step_at scale_at deviates is_marked steps_of scales_of flags_of residuals_of deviations_of figures_of labels_of patch_count others_of index_marks judged_for sort number_for
 rules-compute = true
 
 -- "Cell size 100, defaults"
 abbrev pub settings : Settings
-settings = defaultsFor (f32 0x42C8_0000) Off Missing
+settings = defaults_for (f32 0x42C8_0000) Off Missing
 
 -- what the definitions say of points in cell order with settings
 abbrev pub said_of : Settings → List Point → Said
 said_of settings ps =
     let w = view_of ps in
     let flags = flags_of settings w in
-    let j = judgedFor settings ps in
+    let j = judged_for settings ps in
     record {
       components = j.components;
       rounds = j.rounds;
-      flags = list_of (length ps) (λ (k : ℕ). get_or flags (w.byIdx k) 0);
-      votes = list_of (length ps) (voteAt w);
+      flags = list_of (length ps) (λ (k : ℕ). get_or flags (w.by_idx k) 0);
+      votes = list_of (length ps) (vote_at w);
       residuals = list_of (length ps) (λ (k : ℕ). get_or j.has k 0);
       marks = list_of (length ps) (λ (k : ℕ). get_or j.marks k 0);
       tally = j.tally;
@@ -81,7 +81,7 @@ star ps s = record { settings = settings; sheet = ps; said = s }
 
 -- none of the numbers 6, 7, 13, 8, 9 and 14 applies to the points, and the definitions say just that of them in cell order
 abbrev pub Right : Star → Type 0
-Right s = (numberFor s.settings.score_frac s.sheet ≡ 0) × (said_of s.settings (cellOrder s.sheet) ≡ s.said)
+Right s = (number_for s.settings.score_frac s.sheet ≡ 0) × (said_of s.settings (cell_order s.sheet) ≡ s.said)
 
 abbrev pub stars : List Star
 stars =

@@ -6,7 +6,7 @@ use Rattle.folds.specs.Lists.{All}
 use Rattle.cells.specs.Points.{Point}
 use Rattle.sheet_file.specs.declared.EdgeGate.TheVariants.{Off}
 use Rattle.sheet_file.specs.declared.Fraction.TheVariants.{Given}
-use Rattle.sheet_file.specs.Refusals.{defaultsFor}
+use Rattle.sheet_file.specs.Refusals.{defaults_for}
 use Rattle.stars.specs.Stars.{rules-compute, Said, says, Star, Right}
 
 -- the patterns of 1, 2 and 100
@@ -25,10 +25,10 @@ pt u v i x y s = record { u = u; v = v; index = i; x = x; y = y; strength = s }
 
 -- the patterns of the cell size and the fraction, the points in the order of the file, and what is said of the sheet
 abbrev sheet : ℕ → ℕ → List Point → Said → Star
-sheet cellSize fraction ps s = record { settings = defaultsFor (f32 cellSize) Off (Given (f32 fraction)); sheet = ps; said = s }
+sheet cell_size fraction ps s = record { settings = defaults_for (f32 cell_size) Off (Given (f32 fraction)); sheet = ps; said = s }
 
-abbrev pub weakEnds : List Star
-weakEnds =
+abbrev pub weak_ends : List Star
+weak_ends =
     -- No points: nothing goes.
     sheet hundred two [] (says 0 0 [] [] [] [] (0 ∷ 0 ∷ 0 ∷ 0 ∷ 0 ∷ 0 ∷ [])) ∷
     -- One point of strength 1, fraction 2. It is below the threshold, 2, and has no neighbour: it goes.
@@ -54,6 +54,6 @@ weakEnds =
     sheet 0 one (pt 0 0 10 0 0 two ∷ pt 1 0 11 hundred 0 one ∷ pt 2 0 12 0x4348_0000 0 two ∷ pt 9 9 11 hundred 0 one ∷ []) (says 2 1 (0 ∷ 0 ∷ 0 ∷ 0 ∷ []) (0 ∷ 0 ∷ 0 ∷ 0 ∷ []) (0 ∷ 0 ∷ 0 ∷ 0 ∷ []) (0 ∷ 16 ∷ 8 ∷ 16 ∷ []) (0 ∷ 0 ∷ 0 ∷ 1 ∷ 1 ∷ 1 ∷ [])) ∷
     []
 
-pub weak-ends-right : All Right weakEnds
+pub weak-ends-right : All Right weak_ends
 unfolding rules-compute
 weak-ends-right = ((refl, refl), ((refl, refl), ((refl, refl), ((refl, refl), ((refl, refl), ((refl, refl), ((refl, refl), ((refl, refl), ((refl, refl), tt)))))))))

@@ -10,17 +10,17 @@ use lib.Ieee.Scale.{finite}
 use Rattle.float.specs.Constants.{zero}
 use Rattle.folds.specs.Lists.{listed}
 use Rattle.folds.proofs.Lists.{all_listed}
-use Rattle.median.specs.Median.{medianOf}
+use Rattle.median.specs.Median.{median_of}
 use Rattle.sort.specs.Sorted.{sort}
 use Rattle.sort.proofs.Sorted.{sort-length, sort-all, all-at}
-use Rattle.offsets.specs.Offsets.{prevU, nextU, prevV, nextV}
+use Rattle.offsets.specs.Offsets.{prev_u, next_u, prev_v, next_v}
 use Rattle.view.specs.View.{View}
-use Rattle.step.specs.Step.{axisStep, meanStep, keptStep, localStep, stepAt}
-use Rattle.step.specs.Deviation.{stepsIn}
+use Rattle.step.specs.Step.{axis_step, mean_step, kept_step, local_step, step_at}
+use Rattle.step.specs.Deviation.{steps_in}
 use Rattle.step.specs.declared.Step.{Step}
 
-kept-finite : (a : Step) → finite (keptStep a) ≡ true
-unfolding keptStep of_bits
+kept-finite : (a : Step) → finite (kept_step a) ≡ true
+unfolding kept_step of_bits
 kept-finite a = go a.there (lt zero a.value) (finite a.value) refl
   where
     go : (t p f : Bool) → finite a.value ≡ f → finite (cond (t && (p && f)) a.value zero) ≡ true
@@ -30,9 +30,9 @@ kept-finite a = go a.there (lt zero a.value) (finite a.value) refl
     go false p f e = refl
 
 -- each step is finite
-pub step-finite : (w : View) (aware : Bool) (m : ℕ) → finite (stepAt w aware m) ≡ true
-unfolding stepAt localStep of_bits
-step-finite w aware m = go (aware && eqb (w.byIdx m) m) (localStep w m) (kept-finite (meanStep (axisStep w prevU nextU m) (axisStep w prevV nextV m)))
+pub step-finite : (w : View) (aware : Bool) (m : ℕ) → finite (step_at w aware m) ≡ true
+unfolding step_at local_step of_bits
+step-finite w aware m = go (aware && eqb (w.by_idx m) m) (local_step w m) (kept-finite (mean_step (axis_step w prev_u next_u m) (axis_step w prev_v next_v m)))
   where
     go : (b : Bool) (s : Float) → finite s ≡ true → finite (cond b s zero) ≡ true
     go true s e = e
@@ -42,9 +42,9 @@ abbrev Sound : Float → Type 0
 Sound s = (lt zero s ≡ true) × (finite s ≡ true)
 
 -- the median of such steps is one of them
-pub median-sound : (steps : ℕ → Float) (n : ℕ) → ((k : ℕ) → k < n → finite (steps k) ≡ true) → 0 < length (stepsIn steps n)
-    → (lt zero (medianOf (stepsIn steps n)) ≡ true) × (finite (medianOf (stepsIn steps n)) ≡ true)
-unfolding stepsIn medianOf
+pub median-sound : (steps : ℕ → Float) (n : ℕ) → ((k : ℕ) → k < n → finite (steps k) ≡ true) → 0 < length (steps_in steps n)
+    → (lt zero (median_of (steps_in steps n)) ≡ true) × (finite (median_of (steps_in steps n)) ≡ true)
+unfolding steps_in median_of
 median-sound steps n h some =
     let l = listed (λ (k : ℕ). lt zero (steps k)) steps n in
     all-at Sound nan (sort lt l) (sort-all lt Sound l (all_listed Sound (λ (k : ℕ). lt zero (steps k)) steps n (λ k g e. (e, h k g)))) (length l / 2) (omega (arith, sort-length lt l))

@@ -9,10 +9,10 @@ ghost use Rattle.float.specs.Constants.{zero};
 ghost use Rattle.folds.specs.Below.{tally};
 ghost use Rattle.folds.specs.Column.{column};
 ghost use Rattle.folds.specs.Marked.{bit};
-ghost use Rattle.offsets.specs.Offsets.{isNear};
-ghost use Rattle.view.specs.View.{maxPoints, viewAt, Ranked};
-ghost use Rattle.step.specs.Step.{step_of, spacing, axisStep, meanStep, keptStep, localStep, stepAt, scaleAt};
-ghost use Rattle.step.specs.Deviation.{isStepOutside, deviates};
+ghost use Rattle.offsets.specs.Offsets.{is_near};
+ghost use Rattle.view.specs.View.{max_points, view_at, Ranked};
+ghost use Rattle.step.specs.Step.{step_of, spacing, axis_step, mean_step, kept_step, local_step, step_at, scale_at};
+ghost use Rattle.step.specs.Deviation.{is_step_outside, deviates};
 
 use offsets::Offset;
 use view::{Floats, MAX_POINTS, Marks, Ranks, rank_at};
@@ -35,7 +35,7 @@ fn step_of(s: f32) -> Step
 
 // The distance from rank p to rank q.
 fn spacing(x: &Floats, y: &Floats, p: usize, q: usize) -> f32
-    requires { (p < maxPoints) × (q < maxPoints) }
+    requires { (p < max_points) × (q < max_points) }
     ensures { result ≡ spacing (λ (k : ℕ). get_or x.now k nan) (λ (k : ℕ). get_or y.now k nan) p q }
 {
     float::norm(x[q] - x[p], y[q] - y[p])
@@ -51,8 +51,8 @@ fn axis_step(
     before: Offset,
     after: Offset,
 ) -> Step
-    requires { (n ≤ maxPoints) × (m < maxPoints) × (isNear before ≡ true) × (isNear after ≡ true) }
-    ensures { result ≡ axisStep (viewAt n ranks.now x.now y.now) before after m }
+    requires { (n ≤ max_points) × (m < max_points) × (is_near before ≡ true) × (is_near after ≡ true) }
+    ensures { result ≡ axis_step (view_at n ranks.now x.now y.now) before after m }
 {
     let l = rank_at(ranks, m, before);
     let r = rank_at(ranks, m, after);
@@ -72,7 +72,7 @@ fn axis_step(
 }
 
 fn mean_step(a: Step, b: Step) -> Step
-    ensures { result ≡ meanStep a b }
+    ensures { result ≡ mean_step a b }
 {
     if a.there {
         if b.there {
@@ -94,7 +94,7 @@ fn is_positive(s: f32) -> bool
 }
 
 fn kept_step(a: Step) -> f32
-    ensures { result ≡ keptStep a }
+    ensures { result ≡ kept_step a }
 {
     if a.there {
         if is_positive(a.value) {
@@ -105,8 +105,8 @@ fn kept_step(a: Step) -> f32
 }
 
 fn local_step(ranks: &Ranks, x: &Floats, y: &Floats, n: usize, m: usize) -> f32
-    requires { (n ≤ maxPoints) × (m < maxPoints) }
-    ensures { result ≡ localStep (viewAt n ranks.now x.now y.now) m }
+    requires { (n ≤ max_points) × (m < max_points) }
+    ensures { result ≡ local_step (view_at n ranks.now x.now y.now) m }
 {
     let u = axis_step(ranks, x, y, n, m, offsets::PREV_U, offsets::NEXT_U);
     let v = axis_step(ranks, x, y, n, m, offsets::PREV_V, offsets::NEXT_V);
@@ -115,8 +115,8 @@ fn local_step(ranks: &Ranks, x: &Floats, y: &Floats, n: usize, m: usize) -> f32
 
 // The step at place m, or 0.
 fn step_at(ranks: &Ranks, x: &Floats, y: &Floats, n: usize, aware: bool, m: usize) -> f32
-    requires { (n ≤ maxPoints) × (m < maxPoints) }
-    ensures { result ≡ stepAt (viewAt n ranks.now x.now y.now) aware m }
+    requires { (n ≤ max_points) × (m < max_points) }
+    ensures { result ≡ step_at (view_at n ranks.now x.now y.now) aware m }
 {
     if aware {
         if view::index_of(ranks, m) == m {
@@ -128,8 +128,8 @@ fn step_at(ranks: &Ranks, x: &Floats, y: &Floats, n: usize, aware: bool, m: usiz
 
 // The step of each index, at the last of its ranks; 0 where there is none, and everywhere without the step flag.
 pub fn steps(ranks: &Ranks, x: &Floats, y: &Floats, n: usize, aware: bool) -> Floats
-    requires { n ≤ maxPoints }
-    ensures { result ≡ column maxPoints nan n (stepAt (viewAt n ranks.now x.now y.now) aware) }
+    requires { n ≤ max_points }
+    ensures { result ≡ column max_points nan n (step_at (view_at n ranks.now x.now y.now) aware) }
 {
     let none: f32 = 0.0 / 0.0;
     let mut out = [none; MAX_POINTS];
@@ -144,7 +144,7 @@ pub fn steps(ranks: &Ranks, x: &Floats, y: &Floats, n: usize, aware: bool) -> Fl
 // The scale of rank k's index, from the steps of the indices.
 fn scale_at(ranks: &Ranks, steps: &Floats, n: usize, size: f32, k: usize) -> f32
     requires { Ranked n ranks.now × (k < n) }
-    ensures { result ≡ scaleAt (viewAt n ranks.now [] []) (λ (m : ℕ). get_or steps.now m nan) size k }
+    ensures { result ≡ scale_at (view_at n ranks.now [] []) (λ (m : ℕ). get_or steps.now m nan) size k }
 {
     let s = steps[view::index_of(ranks, k)];
     if 0.0 < s { s } else { size }
@@ -153,7 +153,7 @@ fn scale_at(ranks: &Ranks, steps: &Floats, n: usize, size: f32, k: usize) -> f32
 // The scale of each rank's index; `size` is the cell size.
 pub fn scales(ranks: &Ranks, steps: &Floats, n: usize, size: f32) -> Floats
     requires { Ranked n ranks.now }
-    ensures { (xs ys : List Float) → result ≡ column maxPoints nan n (scaleAt (viewAt n ranks.now xs ys) (λ (m : ℕ). get_or steps.now m nan) size) }
+    ensures { (xs ys : List Float) → result ≡ column max_points nan n (scale_at (view_at n ranks.now xs ys) (λ (m : ℕ). get_or steps.now m nan) size) }
 {
     let none: f32 = 0.0 / 0.0;
     let mut out = [none; MAX_POINTS];
@@ -167,7 +167,7 @@ pub fn scales(ranks: &Ranks, steps: &Floats, n: usize, size: f32) -> Floats
 
 // How many steps there are.
 fn how_many(steps: &Floats, n: usize) -> usize
-    requires { n ≤ maxPoints }
+    requires { n ≤ max_points }
     ensures { result ≡ tally (λ (k : ℕ). lt zero (get_or steps.now k nan)) n }
 {
     let mut c: usize = 0;
@@ -183,7 +183,7 @@ fn how_many(steps: &Floats, n: usize) -> usize
 }
 
 fn is_outside(median: f32, t: f32, s: f32) -> bool
-    ensures { result ≡ isStepOutside median t s }
+    ensures { result ≡ is_step_outside median t s }
 {
     let lo = median / (1.0 + t);
     let hi = median * (1.0 + t);
@@ -195,7 +195,7 @@ fn is_outside(median: f32, t: f32, s: f32) -> bool
 
 // 1 for a step outside the limits, else 0.
 fn outside(median: f32, t: f32, s: f32) -> u8
-    ensures { result ≡ bit (lt zero s && isStepOutside median t s) }
+    ensures { result ≡ bit (lt zero s && is_step_outside median t s) }
 {
     if 0.0 < s {
         if is_outside(median, t, s) {
@@ -207,8 +207,8 @@ fn outside(median: f32, t: f32, s: f32) -> u8
 
 // 1 for each step outside the limits, else 0.
 fn mark_outside(steps: &Floats, n: usize, median: f32, t: f32) -> Marks
-    requires { n ≤ maxPoints }
-    ensures { result ≡ column maxPoints 0 n (λ (m : ℕ). bit (lt zero (get_or steps.now m nan) && isStepOutside median t (get_or steps.now m nan))) }
+    requires { n ≤ max_points }
+    ensures { result ≡ column max_points 0 n (λ (m : ℕ). bit (lt zero (get_or steps.now m nan) && is_step_outside median t (get_or steps.now m nan))) }
 {
     let mut out = [0u8; MAX_POINTS];
     let mut m: usize = 0;
@@ -221,8 +221,8 @@ fn mark_outside(steps: &Floats, n: usize, median: f32, t: f32) -> Marks
 
 // 1 for each index whose step lies too far from the median of all steps, at its place, else 0. A threshold of 0 or less marks none.
 pub fn deviations(steps: &Floats, n: usize, t: f32) -> Marks
-    requires { n ≤ maxPoints }
-    ensures { result ≡ column maxPoints 0 n (λ (m : ℕ). bit (deviates (λ (k : ℕ). get_or steps.now k nan) n t m)) }
+    requires { n ≤ max_points }
+    ensures { result ≡ column max_points 0 n (λ (m : ℕ). bit (deviates (λ (k : ℕ). get_or steps.now k nan) n t m)) }
 {
     if 0.0 < t {
         if how_many(steps, n) >= 3 {

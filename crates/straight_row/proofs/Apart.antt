@@ -8,30 +8,30 @@ use native.Mathlib.Decide.{dec_lt}
 use lib.Dec.{T, eqb}
 use borrow.Author.Tests.{eqb-false, ltb-false, le-ltb}
 use lib.Ieee.{Float, lt, le, mul, round, of_bits}
-use Rattle.folds.specs.Arith.{◌⊕◌, ◌⊖◌, ◌⊗◌, zeroF}
+use Rattle.folds.specs.Arith.{◌⊕◌, ◌⊖◌, ◌⊗◌, zero_f}
 use Rattle.folds.specs.Below.{some}
 use Rattle.folds.proofs.Below.{some-no, and-false, not-true}
 use Rattle.float.proofs.Order.{lt-after}
 use Rattle.whole_floats.specs.Whole.{as_float}
 use Rattle.whole_floats.proofs.Whole.{whole-mono}
 use Rattle.view.specs.View.{View}
-use Rattle.close_pairs.specs.Close.{limitOf, close, closeMark}
+use Rattle.close_pairs.specs.Close.{limit_of, close, close_mark}
 use Rattle.close_pairs.proofs.Places.{place, place-order}
 use Rattle.close_pairs.proofs.Squares.{far}
 use Rattle.straight_row.specs.Row.{Row, seven}
-use Rattle.straight_row.proofs.Row.{x-plain, x-number, y-finite, next-x, squareTo, square-back}
+use Rattle.straight_row.proofs.Row.{x-plain, x-number, y-finite, next-x, square_to, square-back}
 
 -- 49 is not under the square of 0.2 cell sizes
-limit-under : lt (as_float 7 ⊗ as_float 7) (limitOf seven) ≡ false
-unfolding limitOf lt mul round of_bits
+limit-under : lt (as_float 7 ⊗ as_float 7) (limit_of seven) ≡ false
+unfolding limit_of lt mul round of_bits
 limit-under = refl
 
 close-is : (x y : ℕ → Float) (limit : Float) (j k : ℕ) → close x y limit j k ≡ lt ((x j ⊖ x k) ⊗ (x j ⊖ x k) ⊕ (y j ⊖ y k) ⊗ (y j ⊖ y k)) limit
 unfolding close
 close-is x y limit j k = refl
 
-mark-is : (w : View) (cell : Float) (k : ℕ) → closeMark w cell k ≡ lt zeroF cell && some (λ j. not (eqb j k) && close w.x w.y (limitOf cell) j k) w.count
-unfolding closeMark
+mark-is : (w : View) (cell : Float) (k : ℕ) → close_mark w cell k ≡ lt zero_f cell && some (λ j. not (eqb j k) && close w.x w.y (limit_of cell) j k) w.count
+unfolding close_mark
 mark-is w cell k = refl
 
 module _ (w : View) (r : Row w) where
@@ -47,25 +47,25 @@ module _ (w : View) (r : Row w) where
       (sym (place-order (w.x k) (w.x j) b a)
       ∙ not-true (lt (w.x k) (w.x j)) (λ e. true≢false (sym (lt-after (w.x j) (w.x k) (w.x j) (x-plain w r j i) (x-plain w r k h) at_most e) ∙ itself)))
 
-  later-far : (j k : ℕ) → j < k → k < w.count → lt (squareTo w j k) (limitOf seven) ≡ false
+  later-far : (j k : ℕ) → j < k → k < w.count → lt (square_to w j k) (limit_of seven) ≡ false
   later-far j k l h =
       let i : j < w.count = omega arith in
       let n : j + 1 < w.count = omega arith in
-      far (w.x j) (w.x (j + 1)) (w.x k) (w.y k) (w.y j) (limitOf seven) (x-number w r j i) (x-number w r (j + 1) n) (x-number w r k h) (y-finite w r k h) (y-finite w r j i)
+      far (w.x j) (w.x (j + 1)) (w.x k) (w.y k) (w.y j) (limit_of seven) (x-number w r j i) (x-number w r (j + 1) n) (x-number w r k h) (y-finite w r k h) (y-finite w r j i)
       (in_order j (j + 1) (omega arith) n) (in_order (j + 1) k (omega arith) h) (rw (next-x w r j n) limit-under)
 
-  not-close : (j k : ℕ) → j < w.count → k < w.count → (j ≡ k → ⊥) → close w.x w.y (limitOf seven) j k ≡ false
-  not-close j k a b n = close-is w.x w.y (limitOf seven) j k ∙ go (dec_lt j k)
+  not-close : (j k : ℕ) → j < w.count → k < w.count → (j ≡ k → ⊥) → close w.x w.y (limit_of seven) j k ≡ false
+  not-close j k a b n = close-is w.x w.y (limit_of seven) j k ∙ go (dec_lt j k)
     where
-      go : Dec (j < k) → lt (squareTo w k j) (limitOf seven) ≡ false
+      go : Dec (j < k) → lt (square_to w k j) (limit_of seven) ≡ false
       go (yes l) = rw (square-back w r j k a b) (later-far j k l b)
       go (no f) = later-far k j (omega (arith, f, n)) a
 
-  pub no-close : (k : ℕ) → k < w.count → closeMark w seven k ≡ false
+  pub no-close : (k : ℕ) → k < w.count → close_mark w seven k ≡ false
   no-close k h =
       mark-is w seven k
-      ∙ rw (some-no (λ j. not (eqb j k) && close w.x w.y (limitOf seven) j k) w.count (λ j l. go j l (eqb j k) refl)) (and-false (lt zeroF seven))
+      ∙ rw (some-no (λ j. not (eqb j k) && close w.x w.y (limit_of seven) j k) w.count (λ j l. go j l (eqb j k) refl)) (and-false (lt zero_f seven))
     where
-      go : (j : ℕ) → j < w.count → (b : Bool) → eqb j k ≡ b → not b && close w.x w.y (limitOf seven) j k ≡ false
+      go : (j : ℕ) → j < w.count → (b : Bool) → eqb j k ≡ b → not b && close w.x w.y (limit_of seven) j k ≡ false
       go j l true e = refl
       go j l false e = not-close j k l h (eqb-false j k e)

@@ -5,9 +5,9 @@ use native.Mathlib.Omega.{arith}
 use lib.Dec.{T}
 use lib.Ieee.{Float, of_bits, sub, round}
 use lib.Ieee.Scale.{finite}
-use Rattle.folds.specs.Arith.{◌⊕◌, ◌⊖◌, ◌⊗◌, zeroF}
-use Rattle.float.specs.Root.{rootOf}
-use Rattle.float.specs.Scalar.{normOf}
+use Rattle.folds.specs.Arith.{◌⊕◌, ◌⊖◌, ◌⊗◌, zero_f}
+use Rattle.float.specs.Root.{root_of}
+use Rattle.float.specs.Scalar.{norm_of}
 use Rattle.float.proofs.Order.{plain}
 use Rattle.whole_floats.specs.Whole.{as_float}
 use Rattle.whole_floats.proofs.Whole.{whole_plain, whole-fits, whole-finite, minus-whole}
@@ -16,25 +16,25 @@ use Rattle.view.specs.View.{View}
 use Rattle.close_pairs.proofs.Squares.{square-turned}
 use Rattle.straight_row.specs.Row.{Row, seven}
 
-zero-less : zeroF ⊖ zeroF ≡ zeroF
+zero-less : zero_f ⊖ zero_f ≡ zero_f
 unfolding sub of_bits
 zero-less = refl
 
-zero-finite : T (finite zeroF)
+zero-finite : T (finite zero_f)
 unfolding of_bits
 zero-finite = tt
 
-norm-seven : normOf (as_float 7) zeroF ≡ seven
-unfolding normOf of_bits round
+norm-seven : norm_of (as_float 7) zero_f ≡ seven
+unfolding norm_of of_bits round
 norm-seven = refl
 
-norm-is : (x y : Float) → normOf x y ≡ rootOf (x ⊗ x ⊕ y ⊗ y)
-unfolding normOf
+norm-is : (x y : Float) → norm_of x y ≡ root_of (x ⊗ x ⊕ y ⊗ y)
+unfolding norm_of
 norm-is x y = refl
 
 -- the square of the distance from rank j to rank k, as f32 squares
-abbrev pub squareTo : View → ℕ → ℕ → Float
-squareTo w j k = (w.x k ⊖ w.x j) ⊗ (w.x k ⊖ w.x j) ⊕ (w.y k ⊖ w.y j) ⊗ (w.y k ⊖ w.y j)
+abbrev pub square_to : View → ℕ → ℕ → Float
+square_to w j k = (w.x k ⊖ w.x j) ⊗ (w.x k ⊖ w.x j) ⊕ (w.y k ⊖ w.y j) ⊗ (w.y k ⊖ w.y j)
 
 module _ (w : View) (r : Row w) where
   module _ (k : ℕ) (h : k < w.count) where
@@ -50,13 +50,13 @@ module _ (w : View) (r : Row w) where
   pub next-x : (k : ℕ) → k + 1 < w.count → w.x (k + 1) ⊖ w.x k ≡ as_float 7
   next-x k h = rw (r.x (k + 1) h, r.x k (omega arith)) (minus-whole _ _ (omega arith) (omega (arith, r.few)) ∙ ap as_float (omega arith))
 
-  pub next-apart : (k : ℕ) → k + 1 < w.count → normOf (w.x (k + 1) ⊖ w.x k) (w.y (k + 1) ⊖ w.y k) ≡ seven
+  pub next-apart : (k : ℕ) → k + 1 < w.count → norm_of (w.x (k + 1) ⊖ w.x k) (w.y (k + 1) ⊖ w.y k) ≡ seven
   next-apart k h = rw (next-x k h, r.y (k + 1) h, r.y k (omega arith), zero-less) norm-seven
 
   -- it is the same in both directions, and so is the distance
-  pub square-back : (j k : ℕ) → j < w.count → k < w.count → squareTo w k j ≡ squareTo w j k
+  pub square-back : (j k : ℕ) → j < w.count → k < w.count → square_to w k j ≡ square_to w j k
   square-back j k a b =
       rw (square-turned (w.x j) (w.x k) (x-number j a).is_finite (x-number k b).is_finite, square-turned (w.y j) (w.y k) (y-finite j a) (y-finite k b))
 
-  pub norm-back : (j k : ℕ) → j < w.count → k < w.count → normOf (w.x j ⊖ w.x k) (w.y j ⊖ w.y k) ≡ normOf (w.x k ⊖ w.x j) (w.y k ⊖ w.y j)
-  norm-back j k a b = norm-is (w.x j ⊖ w.x k) (w.y j ⊖ w.y k) ∙ ap rootOf (square-back j k a b) ∙ sym (norm-is (w.x k ⊖ w.x j) (w.y k ⊖ w.y j))
+  pub norm-back : (j k : ℕ) → j < w.count → k < w.count → norm_of (w.x j ⊖ w.x k) (w.y j ⊖ w.y k) ≡ norm_of (w.x k ⊖ w.x j) (w.y k ⊖ w.y j)
+  norm-back j k a b = norm-is (w.x j ⊖ w.x k) (w.y j ⊖ w.y k) ∙ ap root_of (square-back j k a b) ∙ sym (norm-is (w.x k ⊖ w.x j) (w.y k ⊖ w.y j))

@@ -1,10 +1,10 @@
 -- A row of points 7 apart, as the filters see it, and the settings by which they mark none of it. Assumes nothing.
 use Rattle.std.specs.Prelude.{◌≡◌, true, false, ℕ, ◌+◌, ◌*◌, ◌≤◌, ◌<◌, Float}
 use Rattle.std.specs.Float.Ieee.{lt}
-use Rattle.folds.specs.Arith.{f32, zeroF}
+use Rattle.folds.specs.Arith.{f32, zero_f}
 use Rattle.whole_floats.specs.Whole.{as_float}
 use Rattle.offsets.specs.declared.Offset.{Offset}
-use Rattle.offsets.specs.Offsets.{isNear, nextU, prevU, ±0}
+use Rattle.offsets.specs.Offsets.{is_near, next_u, prev_u, ±0}
 use Rattle.view.specs.View.{View, rank_at, present}
 use Rattle.sheet_file.specs.declared.Settings.{Settings}
 use Rattle.sheet_file.specs.declared.EdgeGate.TheVariants.{Off}
@@ -13,10 +13,10 @@ use Rattle.sheet_file.specs.declared.EdgeGate.TheVariants.{Off}
 pub record Row (w : View) : Type 0 where
   pub few : 7 * w.count ≤ 16777216
   pub x : (k : ℕ) → k < w.count → w.x k ≡ as_float (7 * k)
-  pub y : (k : ℕ) → k < w.count → w.y k ≡ zeroF
-  pub beside : (k : ℕ) (o : Offset) → k < w.count → isNear o ≡ true → present w k o ≡ true → o.dv ≡ ±0
-  pub ahead : (k : ℕ) → k < w.count → present w k nextU ≡ true → rank_at w k nextU ≡ k + 1
-  pub behind : (k : ℕ) → k < w.count → present w k prevU ≡ true → rank_at w k prevU + 1 ≡ k
+  pub y : (k : ℕ) → k < w.count → w.y k ≡ zero_f
+  pub beside : (k : ℕ) (o : Offset) → k < w.count → is_near o ≡ true → present w k o ≡ true → o.dv ≡ ±0
+  pub ahead : (k : ℕ) → k < w.count → present w k next_u ≡ true → rank_at w k next_u ≡ k + 1
+  pub behind : (k : ℕ) → k < w.count → present w k prev_u ≡ true → rank_at w k prev_u + 1 ≡ k
 
 -- 7 as f32: the cell size, and the distance of neighbours
 abbrev pub seven : Float
@@ -26,4 +26,4 @@ seven = f32 0x40E0_0000
 pub record Plain (s : Settings) : Type 0 where
   pub cell : s.cell_size ≡ seven
   pub ungated : s.edge_shape ≡ Off
-  pub tolerant : lt s.line_tol_rel zeroF ≡ false
+  pub tolerant : lt s.line_tol_rel zero_f ≡ false

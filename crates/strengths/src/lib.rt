@@ -4,8 +4,8 @@
 ghost use Rattle.std.specs.Prelude.{◌≡◌, ◌≤◌};
 ghost use Rattle.std.specs.Float.Ieee.{lt};
 ghost use Rattle.folds.specs.Marked.{bit};
-ghost use Rattle.view.specs.View.{maxPoints, Finite};
-ghost use Rattle.strengths.specs.Weak.{weakOf};
+ghost use Rattle.view.specs.View.{max_points, Finite};
+ghost use Rattle.strengths.specs.Weak.{weak_of};
 
 use view::{Floats, MAX_POINTS, Marks};
 
@@ -18,8 +18,8 @@ fn below(x: f32, threshold: f32) -> u8
 
 // 1 at each rank whose strength is below the fraction of the median strength.
 pub fn weak_marks(strength: &Floats, n: usize, fraction: f32) -> Marks
-    requires { (n ≤ maxPoints) × Finite n strength.now }
-    ensures { result ≡ weakOf n strength.now fraction }
+    requires { (n ≤ max_points) × Finite n strength.now }
+    ensures { result ≡ weak_of n strength.now fraction }
 {
     let threshold = fraction * median::middle_of_all(strength, n);
     let mut out = [0u8; MAX_POINTS];

@@ -2,21 +2,21 @@
 use mathlib.Core.Path.{◌≡◌, refl}
 use lib.IntN.{pos, negsuc}
 use Rattle.folds.specs.Below.{fold}
-use Rattle.text.specs.Text.{bytes, each, digits, decimal, whole, spaces, rightAligned, refusalOf}
+use Rattle.text.specs.Text.{bytes, each, digits, decimal, whole, spaces, right_aligned, refusal_of}
 
-least : rightAligned 6 (whole (negsuc 7999)) ≡ bytes " -8000"
-unfolding rightAligned spaces each fold whole decimal digits
+least : right_aligned 6 (whole (negsuc 7999)) ≡ bytes " -8000"
+unfolding right_aligned spaces each fold whole decimal digits
 least = refl
 
-zero : rightAligned 6 (whole (pos 0)) ≡ bytes "     0"
-unfolding rightAligned spaces each fold whole decimal digits
+zero : right_aligned 6 (whole (pos 0)) ≡ bytes "     0"
+unfolding right_aligned spaces each fold whole decimal digits
 zero = refl
 
 -- a text that is too wide stays whole
-wide : rightAligned 6 (whole (pos 1234567)) ≡ bytes "1234567"
-unfolding rightAligned spaces each fold whole decimal digits
+wide : right_aligned 6 (whole (pos 1234567)) ≡ bytes "1234567"
+unfolding right_aligned spaces each fold whole decimal digits
 wide = refl
 
-refused : refusalOf 10 ≡ bytes "refused 10\n"
-unfolding refusalOf decimal digits
+refused : refusal_of 10 ≡ bytes "refused 10\n"
+unfolding refusal_of decimal digits
 refused = refl

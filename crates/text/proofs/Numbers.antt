@@ -13,7 +13,7 @@ use Rattle.folds.specs.Below.{every}
 use Rattle.folds.proofs.Below.{every-at}
 use Rattle.folds.specs.Lists.{All, over}
 use Rattle.folds.proofs.Lists.{over-snoc}
-use Rattle.text.specs.Text.{bytes, digit, digits, decimal, whole, hexDigit, hex}
+use Rattle.text.specs.Text.{bytes, digit, digits, decimal, whole, hex_digit, hex}
 
 -- the two cases of a definition that asks whether n is below m
 pub below_or_not : {A : Type 0} (P : A → Type 0) (n m : ℕ) {a b : A} → (n < m → P a) → (m ≤ n → P b) → P (cond (ltb n m) a b)
@@ -63,14 +63,14 @@ module _ (P : ℕ → List ℕ → Type 0) (one : (n : ℕ) → n < 10 → P n (
 abbrev pub read : ℕ → (ℕ → ℕ) → List ℕ → ℕ
 read base value t = over (λ (a c : ℕ). base * a + value c) 0 t
 
-abbrev pub decimalValue : ℕ → ℕ
-decimalValue c = c - 48
+abbrev pub decimal_value : ℕ → ℕ
+decimal_value c = c - 48
 
 -- "in decimal, first digit first": a decimal text reads back to its number
-pub decimal-reads : (n : ℕ) → read 10 decimalValue (decimal n) ≡ n
+pub decimal-reads : (n : ℕ) → read 10 decimal_value (decimal n) ≡ n
 unfolding over
 decimal-reads =
-    decimal-ind (λ n t. read 10 decimalValue t ≡ n) (λ n h. omega arith)
+    decimal-ind (λ n t. read 10 decimal_value t ≡ n) (λ n h. omega arith)
     (λ n t h e. over-snoc (λ (a c : ℕ). 10 * a + (c - 48)) 0 t (48 + n % 10) ∙ rw e (omega arith))
 
 all_then : (P : ℕ → Type 0) (s t : List ℕ) → All P s → All P t → All P (s ++ t)
@@ -100,36 +100,36 @@ decimal-length k n l =
 
 -- ---- hexadecimal
 
-pub hex-digit : (d : ℕ) → d < 16 → hexDigit d ≡ cond (ltb d 10) (48 + d) (55 + d)
+pub hex-digit : (d : ℕ) → d < 16 → hex_digit d ≡ cond (ltb d 10) (48 + d) (55 + d)
 unfolding every
-hex-digit d l = eqb-true (hexDigit d) (cond (ltb d 10) (48 + d) (55 + d)) (every-at (λ (d : ℕ). eqb (hexDigit d) (cond (ltb d 10) (48 + d) (55 + d))) 16 refl d l)
+hex-digit d l = eqb-true (hex_digit d) (cond (ltb d 10) (48 + d) (55 + d)) (every-at (λ (d : ℕ). eqb (hex_digit d) (cond (ltb d 10) (48 + d) (55 + d))) 16 refl d l)
 
 pub hex-none : (k b : ℕ) → k ≡ 0 → hex k b ≡ []
 unfolding hex
 hex-none k b e = rw e
 
-pub hex-more : (k b : ℕ) → (k ≡ 0 → ⊥) → hex k b ≡ hex (k - 1) (b / 16) ++ (hexDigit (b % 16) ∷ [])
+pub hex-more : (k b : ℕ) → (k ≡ 0 → ⊥) → hex k b ≡ hex (k - 1) (b / 16) ++ (hex_digit (b % 16) ∷ [])
 unfolding hex
 hex-more k b h = let e : k ≡ suc (k - 1) = omega (arith, h) in ap (λ (m : ℕ). hex m b) e
 
 pub hex-length : (k b : ℕ) → length (hex k b) ≡ k
 unfolding hex
 hex-length zero b = refl
-hex-length (suc k) b = length-append (hex k (b / 16)) (hexDigit (b % 16) ∷ []) ∙ rw (hex-length k (b / 16)) (omega arith)
+hex-length (suc k) b = length-append (hex k (b / 16)) (hex_digit (b % 16) ∷ []) ∙ rw (hex-length k (b / 16)) (omega arith)
 
-abbrev pub hexValue : ℕ → ℕ
-hexValue c = cond (ltb c 65) (c - 48) (c - 55)
+abbrev pub hex_value : ℕ → ℕ
+hex_value c = cond (ltb c 65) (c - 48) (c - 55)
 
-value-digit : (d : ℕ) → d < 16 → hexValue (hexDigit d) ≡ d
+value-digit : (d : ℕ) → d < 16 → hex_value (hex_digit d) ≡ d
 unfolding every
-value-digit d l = eqb-true (hexValue (hexDigit d)) d (every-at (λ (d : ℕ). eqb (hexValue (hexDigit d)) d) 16 refl d l)
+value-digit d l = eqb-true (hex_value (hex_digit d)) d (every-at (λ (d : ℕ). eqb (hex_value (hex_digit d)) d) 16 refl d l)
 
 -- k hexadecimal digits read back to a number below 16 ^ k
-pub hex-reads : (k b : ℕ) → b < 16 ^ k → read 16 hexValue (hex k b) ≡ b
+pub hex-reads : (k b : ℕ) → b < 16 ^ k → read 16 hex_value (hex k b) ≡ b
 unfolding hex over
 hex-reads zero b l = omega arith
 hex-reads (suc k) b l =
-    over-snoc (λ (a c : ℕ). 16 * a + hexValue c) 0 (hex k (b / 16)) (hexDigit (b % 16))
+    over-snoc (λ (a c : ℕ). 16 * a + hex_value c) 0 (hex k (b / 16)) (hex_digit (b % 16))
     ∙ rw (hex-reads k (b / 16) (omega (arith, pow-suc 16 k)), value-digit (b % 16) (omega arith)) (omega arith)
 
 -- ---- differences

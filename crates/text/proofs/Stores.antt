@@ -12,8 +12,8 @@ use lib.Dec.{leb}
 use lib.ListN.{length, take, drop, set, length-append, length-set}
 use lib.Seq.{set_out}
 use Rattle.folds.proofs.Below.{fold-none, fold_more, fold-ext}
-use Rattle.text.specs.Text.{bytes, each, spaces, rightAligned, refusalOf}
-use Rattle.text.specs.Stored.{nextPlace, placeAfter, laid, Stored}
+use Rattle.text.specs.Text.{bytes, each, spaces, right_aligned, refusal_of}
+use Rattle.text.specs.Stored.{next_place, place_after, laid, Stored}
 use Rattle.text.proofs.Numbers.{below_or_not, decimal-length}
 use Rattle.text.specs.declared.Written.{Written}
 use Rattle.text.specs.declared.Written.TheVariants.{Whole, NoRoom}
@@ -21,17 +21,17 @@ use Rattle.text.specs.Answer.{written_of, Shows}
 
 length-laid : (l : List ℕ) (at : ℕ) (t : List ℕ) → length (laid l at t) ≡ length l
 length-laid l at [] = refl
-length-laid l at (c ∷ t) = length-laid (set l at c) (nextPlace (length l) at) t ∙ length-set l at c
+length-laid l at (c ∷ t) = length-laid (set l at c) (next_place (length l) at) t ∙ length-set l at c
 
-laid_then : (l : List ℕ) (at : ℕ) (s t : List ℕ) → laid (laid l at s) (placeAfter (length l) at s) t ≡ laid l at (s ++ t)
+laid_then : (l : List ℕ) (at : ℕ) (s t : List ℕ) → laid (laid l at s) (place_after (length l) at s) t ≡ laid l at (s ++ t)
 laid_then l at [] t = refl
 laid_then l at (c ∷ s) t =
-    ap (λ (n : ℕ). laid (laid (set l at c) (nextPlace (length l) at) s) (placeAfter n (nextPlace (length l) at) s) t) (sym (length-set l at c))
-    ∙ laid_then (set l at c) (nextPlace (length l) at) s t
+    ap (λ (n : ℕ). laid (laid (set l at c) (next_place (length l) at) s) (place_after n (next_place (length l) at) s) t) (sym (length-set l at c))
+    ∙ laid_then (set l at c) (next_place (length l) at) s t
 
-place-then : (size at : ℕ) (s t : List ℕ) → placeAfter size (placeAfter size at s) t ≡ placeAfter size at (s ++ t)
+place-then : (size at : ℕ) (s t : List ℕ) → place_after size (place_after size at s) t ≡ place_after size at (s ++ t)
 place-then size at [] t = refl
-place-then size at (c ∷ s) t = place-then size (nextPlace size at) s t
+place-then size at (c ∷ s) t = place-then size (next_place size at) s t
 
 pub stored-length : {l : List ℕ} {at : ℕ} {t m : List ℕ} {e : ℕ} → Stored l at t m e → length m ≡ length l
 stored-length {l} {at} {t} p = ap length p.buffer ∙ length-laid l at t
@@ -79,7 +79,7 @@ laid-past l at (c ∷ t) h = rw (set_out l at c h, le-ltb at (length l) h) (laid
 laid_cons : (x : ℕ) (l : List ℕ) (at : ℕ) (t : List ℕ) → laid (x ∷ l) (suc at) t ≡ x ∷ laid l at t
 laid_cons x l at [] = refl
 laid_cons x l at (c ∷ t) =
-    below_or_not (λ (p : ℕ). laid (x ∷ set l at c) p t ≡ x ∷ laid (set l at c) (nextPlace (length l) at) t) (suc at) (suc (length l))
+    below_or_not (λ (p : ℕ). laid (x ∷ set l at c) p t ≡ x ∷ laid (set l at c) (next_place (length l) at) t) (suc at) (suc (length l))
     (λ h. let s : suc at + 1 ≡ suc (at + 1) = omega arith in rw (lt-ltb at (length l) (omega arith), s) (laid_cons x (set l at c) (at + 1) t))
     (λ h. let s : suc (length l) + 1 ≡ suc (length l + 1) = omega arith in rw (le-ltb at (length l) (omega arith), s) (laid_cons x (set l at c) (length l + 1) t))
 
@@ -90,19 +90,19 @@ laid-whole (x ∷ l) [] = refl
 laid-whole [] (c ∷ t) = laid-past [] 0 (c ∷ t) (omega arith)
 laid-whole (x ∷ l) (c ∷ t) = rw (lt-ltb 0 (suc (length l)) (omega arith)) (laid_cons c l 0 t) ∙ ap (λ (m : List ℕ). c ∷ m) (laid-whole l t)
 
-place-past : (size : ℕ) (t : List ℕ) → placeAfter size (size + 1) t ≡ size + 1
+place-past : (size : ℕ) (t : List ℕ) → place_after size (size + 1) t ≡ size + 1
 place-past size [] = refl
 place-past size (c ∷ t) = rw (le-ltb (size + 1) size (omega arith)) (place-past size t)
 
-place-within : (size at : ℕ) (t : List ℕ) → at + length t ≤ size → placeAfter size at t ≡ at + length t
+place-within : (size at : ℕ) (t : List ℕ) → at + length t ≤ size → place_after size at t ≡ at + length t
 place-within size at [] h = omega arith
 place-within size at (c ∷ t) h = rw (lt-ltb at size (omega arith)) (place-within size (at + 1) t (omega arith) ∙ omega arith)
 
-place-beyond : (size at : ℕ) (t : List ℕ) → at ≤ size → size < at + length t → placeAfter size at t ≡ size + 1
+place-beyond : (size at : ℕ) (t : List ℕ) → at ≤ size → size < at + length t → place_after size at t ≡ size + 1
 place-beyond size at [] h l = absurd (omega arith)
-place-beyond size at (c ∷ t) h l = below_or_not (λ (p : ℕ). placeAfter size p t ≡ size + 1) at size (λ b. place-beyond size (at + 1) t (omega arith) (omega arith)) (λ b. place-past size t)
+place-beyond size at (c ∷ t) h l = below_or_not (λ (p : ℕ). place_after size p t ≡ size + 1) at size (λ b. place-beyond size (at + 1) t (omega arith) (omega arith)) (λ b. place-past size t)
 
-same_answer : (size : ℕ) (t : List ℕ) → written_of (placeAfter size 0 t) size ≡ written_of (length t) size
+same_answer : (size : ℕ) (t : List ℕ) → written_of (place_after size 0 t) size ≡ written_of (length t) size
 same_answer size t = elim (dec_le (length t) size) [
   | yes h ↦ rw (place-within size 0 t (omega arith)) (let z : 0 + length t ≡ length t = omega arith in rw z)
   | no h ↦ rw (place-beyond size 0 t (omega arith) (omega arith), lt-leb (size + 1) size (omega arith), lt-leb (length t) size (omega arith))
@@ -143,10 +143,10 @@ unfolding spaces
 spaces-long n = each_long (λ k. bytes " ") 1 n (λ k l. refl)
 
 -- a text that is not wider than asked for is made as wide
-pub right-length : (width : ℕ) (t : List ℕ) → length t ≤ width → length (rightAligned width t) ≡ width
-unfolding rightAligned
+pub right-length : (width : ℕ) (t : List ℕ) → length t ≤ width → length (right_aligned width t) ≡ width
+unfolding right_aligned
 right-length width t h = length-append (spaces (width - length t)) t ∙ omega (arith, spaces-long (width - length t))
 
-pub refusal-length : (k : ℕ) → k < 1000 → length (refusalOf k) ≤ 12
-unfolding refusalOf
+pub refusal-length : (k : ℕ) → k < 1000 → length (refusal_of k) ≤ 12
+unfolding refusal_of
 refusal-length k h = simp length-append (omega (arith, decimal-length 2 k (omega arith)))

@@ -2,19 +2,19 @@
 use Rattle.std.specs.Prelude.{◌≡◌, cond, List, [], ◌∷◌, ℕ, ◌+◌, ltb, length, set}
 
 -- the place after one byte at `at`, in a buffer of this size; size + 1 says that a byte was left out
-abbrev pub nextPlace : ℕ → ℕ → ℕ
-nextPlace size at = cond (ltb at size) (at + 1) (size + 1)
+abbrev pub next_place : ℕ → ℕ → ℕ
+next_place size at = cond (ltb at size) (at + 1) (size + 1)
 
 -- the place after the text t from `at` on
-abbrev pub placeAfter : ℕ → ℕ → List ℕ → ℕ
-placeAfter size at [] = at
-placeAfter size at (c ∷ t) = placeAfter size (nextPlace size at) t
+abbrev pub place_after : ℕ → ℕ → List ℕ → ℕ
+place_after size at [] = at
+place_after size at (c ∷ t) = place_after size (next_place size at) t
 
 -- the buffer l with the bytes of t from `at` on; a byte past its end is left out
 abbrev pub laid : List ℕ → ℕ → List ℕ → List ℕ
 laid l at [] = l
-laid l at (c ∷ t) = laid (set l at c) (nextPlace (length l) at) t
+laid l at (c ∷ t) = laid (set l at c) (next_place (length l) at) t
 
 pub record Stored (before : List ℕ) (at : ℕ) (t after : List ℕ) (next : ℕ) : Type 0 where
   pub buffer : after ≡ laid before at t
-  pub place : next ≡ placeAfter (length before) at t
+  pub place : next ≡ place_after (length before) at t

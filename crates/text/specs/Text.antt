@@ -35,13 +35,13 @@ whole (pos n) = decimal n
 whole (negsuc n) = bytes "-" ++ decimal (suc n)
 
 -- "hexadecimal digits with capitals"
-abbrev pub hexDigit : ℕ → ℕ
-hexDigit d = get_or (bytes "0123456789ABCDEF") d 0
+abbrev pub hex_digit : ℕ → ℕ
+hex_digit d = get_or (bytes "0123456789ABCDEF") d 0
 
 -- the last k hexadecimal digits of b, first digit first
 unfoldable pub hex : ℕ → ℕ → List ℕ
 hex zero b = []
-hex (suc k) b = hex k (b / 16) ++ (hexDigit (b % 16) ∷ [])
+hex (suc k) b = hex k (b / 16) ++ (hex_digit (b % 16) ∷ [])
 
 -- so many spaces
 unfoldable pub spaces : ℕ → List ℕ
@@ -49,11 +49,11 @@ unfolding each
 spaces count = each (λ k. bytes " ") count
 
 -- "right-aligned": spaces before the text, up to `width` characters; none where it has as many
-unfoldable pub rightAligned : ℕ → List ℕ → List ℕ
+unfoldable pub right_aligned : ℕ → List ℕ → List ℕ
 unfolding spaces
-rightAligned width t = spaces (width - length t) ++ t
+right_aligned width t = spaces (width - length t) ++ t
 
 -- "A refusal prints `refused` and the number."
-unfoldable pub refusalOf : ℕ → List ℕ
+unfoldable pub refusal_of : ℕ → List ℕ
 unfolding decimal
-refusalOf number = bytes "refused " ++ decimal number ++ bytes "\n"
+refusal_of number = bytes "refused " ++ decimal number ++ bytes "\n"

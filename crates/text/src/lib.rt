@@ -4,7 +4,7 @@
 
 ghost use Rattle.std.specs.Prelude.{◌≡◌, [], ◌∷◌, ◌<◌, pos, ◌-ℤ◌, length};
 ghost use Rattle.text.specs.Answer.{written_of, Shows};
-ghost use Rattle.text.specs.Text.{decimal, whole, hexDigit, hex, spaces, rightAligned, refusalOf};
+ghost use Rattle.text.specs.Text.{decimal, whole, hex_digit, hex, spaces, right_aligned, refusal_of};
 ghost use Rattle.text.specs.Stored.{Stored};
 
 // What became of a text.
@@ -107,7 +107,7 @@ fn put_spaces(count: usize, out: &mut [u8], at: usize) -> usize
 
 // The whole number a - b at the right end of `width` characters, or of as many as it needs.
 pub fn put_right(width: usize, a: usize, b: usize, out: &mut [u8], at: usize) -> usize
-    ensures { Stored out.old at (rightAligned width (whole (pos a -ℤ pos b))) out.new result }
+    ensures { Stored out.old at (right_aligned width (whole (pos a -ℤ pos b))) out.new result }
 {
     let size = difference_length(a, b);
     if size < width {
@@ -119,7 +119,7 @@ pub fn put_right(width: usize, a: usize, b: usize, out: &mut [u8], at: usize) ->
 
 fn hex_digit(d: u8) -> u8
     requires { d < 16 }
-    ensures { result ≡ hexDigit d }
+    ensures { result ≡ hex_digit d }
 {
     if d < 10 {
         return 48 + d;
@@ -140,7 +140,7 @@ pub fn put_hex(count: usize, b: u32, out: &mut [u8], at: usize) -> usize
 
 // `refused` and the number.
 pub fn write_refusal(number: u8, out: &mut [u8]) -> Written
-    ensures { Shows (refusalOf number) out.old out.new result }
+    ensures { Shows (refusal_of number) out.old out.new result }
 {
     let a = put_text(b"refused ", out, 0);
     let b = put_decimal(number as usize, out, a);

@@ -4,86 +4,86 @@ use Rattle.std.specs.Prelude.{Bool, true, false, not, ◌||◌, List, ℕ, eqb, 
 use Rattle.std.specs.Float.{nan}
 use Rattle.folds.specs.Column.{column}
 use Rattle.folds.specs.Marked.{bit}
-use Rattle.offsets.specs.Offsets.{squareSides, places}
-use Rattle.view.specs.View.{View, maxPoints}
+use Rattle.offsets.specs.Offsets.{square_sides, places}
+use Rattle.view.specs.View.{View, max_points}
 use Rattle.cells.specs.Cell.{Cell}
 use Rattle.sheet_file.specs.declared.Settings.{Settings}
 use Rattle.sheet_file.specs.declared.EdgeGate.{EdgeGate}
 use Rattle.sheet_file.specs.declared.EdgeGate.TheVariants.{Off, On}
-use Rattle.step.specs.Step.{stepAt, scaleAt}
+use Rattle.step.specs.Step.{step_at, scale_at}
 use Rattle.step.specs.Deviation.{deviates}
-use Rattle.lines.specs.Flags.{flagsAt}
-use Rattle.residuals.specs.ByIndex.{indexColumns}
+use Rattle.lines.specs.Flags.{flags_at}
+use Rattle.residuals.specs.ByIndex.{index_columns}
 use Rattle.residuals.specs.declared.Residuals.{Residuals}
-use Rattle.blame.specs.Marks.{Evidence, evidenceBy, isMarked}
-use Rattle.edge_shape.specs.Figures.{noFigures, indexFigures, reasonNumber}
+use Rattle.blame.specs.Marks.{Evidence, evidence_by, is_marked}
+use Rattle.edge_shape.specs.Figures.{no_figures, index_figures, reason_number}
 use Rattle.edge_shape.specs.declared.Figures.{Figures}
 use Rattle.edge_shape.specs.declared.Reason.{Reason}
-use Rattle.patches.specs.Boxes.{boundaryOf}
+use Rattle.patches.specs.Boxes.{boundary_of}
 
 -- the edge figures of each rank's index. "Absent means no edge-shape gate."
-abbrev pub gateFigures : EdgeGate → View → List Figures
-gateFigures Off w = column maxPoints noFigures w.count (λ (k : ℕ). noFigures)
-gateFigures (On g) w = indexFigures g w
+abbrev pub gate_figures : EdgeGate → View → List Figures
+gate_figures Off w = column max_points no_figures w.count (λ (k : ℕ). no_figures)
+gate_figures (On g) w = index_figures g w
 
 -- whether each rank's index lies on the boundary of the box of its patch of all cells
-abbrev pub gateBoundary : EdgeGate → View → (ℕ → Cell) → List ℕ
-gateBoundary Off w cell = column maxPoints 0 w.count (λ (k : ℕ). 0)
-gateBoundary (On g) w cell = boundaryOf w (places squareSides) cell
+abbrev pub gate_boundary : EdgeGate → View → (ℕ → Cell) → List ℕ
+gate_boundary Off w cell = column max_points 0 w.count (λ (k : ℕ). 0)
+gate_boundary (On g) w cell = boundary_of w (places square_sides) cell
 
-abbrev pub isGated : EdgeGate → Bool
-isGated Off = false
-isGated (On g) = true
+abbrev pub is_gated : EdgeGate → Bool
+is_gated Off = false
+is_gated (On g) = true
 
 -- "(5) an edge reason"
-abbrev pub isReason : Reason → Bool
-isReason reason = not (eqb (reasonNumber reason) 0)
+abbrev pub is_reason : Reason → Bool
+is_reason reason = not (eqb (reason_number reason) 0)
 
 -- by index: that of rank k's index
-abbrev pub hasReason : List Figures → ℕ → Bool
-hasReason figures k = isReason (get_or figures k noFigures).reason
+abbrev pub has_reason : List Figures → ℕ → Bool
+has_reason figures k = is_reason (get_or figures k no_figures).reason
 
 module _ (s : Settings) (w : View) where
   -- the local step of each index, at its place
   unfoldable pub steps_of : List Float
-  steps_of = column maxPoints nan w.count (stepAt w s.use_step_aware)
+  steps_of = column max_points nan w.count (step_at w s.use_step_aware)
 
-  abbrev pub indexStep : ℕ → Float
-  indexStep m = get_or steps_of m nan
+  abbrev pub index_step : ℕ → Float
+  index_step m = get_or steps_of m nan
 
   -- the scale of each rank's index
-  unfoldable pub scalesOf : List Float
-  scalesOf = column maxPoints nan w.count (scaleAt w indexStep s.cell_size)
+  unfoldable pub scales_of : List Float
+  scales_of = column max_points nan w.count (scale_at w index_step s.cell_size)
 
-  abbrev pub indexScale : ℕ → Float
-  indexScale k = get_or scalesOf k nan
+  abbrev pub index_scale : ℕ → Float
+  index_scale k = get_or scales_of k nan
 
   -- the line flags of each index, at its place
   unfoldable pub flags_of : List ℕ
-  flags_of = column maxPoints 0 w.count (flagsAt w indexScale s.line_tol_rel s.line_min_members)
+  flags_of = column max_points 0 w.count (flags_at w index_scale s.line_tol_rel s.line_min_members)
 
   -- whether the step of each index lies outside the limits
-  unfoldable pub deviationsOf : List ℕ
-  deviationsOf = column maxPoints 0 w.count (λ (m : ℕ). bit (deviates indexStep w.count s.step_deviation_thresh_rel m))
+  unfoldable pub deviations_of : List ℕ
+  deviations_of = column max_points 0 w.count (λ (m : ℕ). bit (deviates index_step w.count s.step_deviation_thresh_rel m))
 
-  unfoldable pub figuresOf : List Figures
-  figuresOf = gateFigures s.edge_shape w
+  unfoldable pub figures_of : List Figures
+  figures_of = gate_figures s.edge_shape w
 
   module _ (cell : ℕ → Cell) where
     -- the residual of each rank's index, and whether it is over the tolerance or over twice the tolerance
-    unfoldable pub residualsOf : Residuals
-    residualsOf = indexColumns w cell indexScale s.local_h_tol_rel
+    unfoldable pub residuals_of : Residuals
+    residuals_of = index_columns w cell index_scale s.local_h_tol_rel
 
     -- what rules 1 to 4 go by
-    abbrev pub evidenceOf : Evidence
-    evidenceOf = evidenceBy flags_of residualsOf.over residualsOf.high deviationsOf
+    abbrev pub evidence_of : Evidence
+    evidence_of = evidence_by flags_of residuals_of.over residuals_of.high deviations_of
 
-    unfoldable pub boundaryIn : List ℕ
-    boundaryIn = gateBoundary s.edge_shape w cell
+    unfoldable pub boundary_in : List ℕ
+    boundary_in = gate_boundary s.edge_shape w cell
 
     -- the validate mark of rank k's index
-    unfoldable pub validateMark : ℕ → Bool
-    validateMark k = isMarked w evidenceOf (w.byIdx k) || hasReason figuresOf k
+    unfoldable pub validate_mark : ℕ → Bool
+    validate_mark k = is_marked w evidence_of (w.by_idx k) || has_reason figures_of k
 
-    unfoldable pub validateMarks : List ℕ
-    validateMarks = column maxPoints 0 w.count (λ (k : ℕ). bit (validateMark k))
+    unfoldable pub validate_marks : List ℕ
+    validate_marks = column max_points 0 w.count (λ (k : ℕ). bit (validate_mark k))

@@ -5,13 +5,13 @@ ghost use Rattle.std.specs.Prelude.{◌≡◌, ◌||◌, List, ℕ, ◌≤◌, e
 ghost use Rattle.folds.specs.Column.{column};
 ghost use Rattle.folds.specs.Marked.{bit};
 ghost use Rattle.marks.specs.Marks.{is_set};
-ghost use Rattle.view.specs.View.{viewAt, maxPoints, Ranked};
-ghost use Rattle.cells.specs.Cell.{cellsAt};
+ghost use Rattle.view.specs.View.{view_at, max_points, Ranked};
+ghost use Rattle.cells.specs.Cell.{cells_at};
 ghost use Rattle.edge_shape.specs.Given.{WithEdges};
 ghost use Rattle.patches.specs.Boxes.{CellKeys};
-ghost use Rattle.judged.specs.Columns.{Blank, reasonFrom, figuresIn};
-ghost use Rattle.validate.specs.Validate.{isReason, gateFigures, gateBoundary};
-ghost use Rattle.validate.specs.Parts.{Prepared, byRulesOf, validatedOf};
+ghost use Rattle.judged.specs.Columns.{Blank, reason_from, figures_in};
+ghost use Rattle.validate.specs.Validate.{is_reason, gate_figures, gate_boundary};
+ghost use Rattle.validate.specs.Parts.{Prepared, by_rules_of, validated_of};
 
 use edge_shape::Reason;
 use edges::Edges;
@@ -31,7 +31,7 @@ struct ByRules {
 // Rules 1 to 4.
 fn by_rules(s: Settings, ranks: &Ranks, keys: &Words, x: &Floats, y: &Floats, n: usize) -> ByRules
     requires { Ranked n ranks.now }
-    ensures { result ≡ byRulesOf s (viewAt n ranks.now x.now y.now) (cellsAt keys.now) }
+    ensures { result ≡ by_rules_of s (view_at n ranks.now x.now y.now) (cells_at keys.now) }
 {
     let steps = step::steps(ranks, x, y, n, s.use_step_aware);
     let scales = step::scales(ranks, &steps, n, s.cell_size);
@@ -58,7 +58,7 @@ pub fn edge_figures(
     measures: &mut FigureMeasures,
 )
     requires { WithEdges n ranks.now x.now y.now edges.now × Blank counts.old measures.old }
-    ensures { figuresIn counts.new measures.new ≡ gateFigures gate (viewAt n ranks.now x.now y.now) }
+    ensures { figures_in counts.new measures.new ≡ gate_figures gate (view_at n ranks.now x.now y.now) }
 {
     match gate {
         EdgeGate::Off => {}
@@ -71,7 +71,7 @@ pub fn edge_figures(
 // 1 where each rank's index lies on the boundary of its patch's box; nowhere without a gate.
 fn boundary_by(gate: EdgeGate, ranks: &Ranks, keys: &Words, n: usize) -> Marks
     requires { Ranked n ranks.now × CellKeys n keys.now }
-    ensures { (xs ys : List Float) → result ≡ gateBoundary gate (viewAt n ranks.now xs ys) (cellsAt keys.now) }
+    ensures { (xs ys : List Float) → result ≡ gate_boundary gate (view_at n ranks.now xs ys) (cells_at keys.now) }
 {
     match gate {
         EdgeGate::Off => [0; MAX_POINTS],
@@ -84,7 +84,7 @@ fn boundary_by(gate: EdgeGate, ranks: &Ranks, keys: &Words, n: usize) -> Marks
 
 // The mark of an index by rules 1 to 4, or by its reason.
 fn mark_with(marked: u8, reason: Reason) -> u8
-    ensures { result ≡ bit (eqb marked 1 || isReason reason) }
+    ensures { result ≡ bit (eqb marked 1 || is_reason reason) }
 {
     if marked == 1 {
         return 1;
@@ -98,8 +98,8 @@ fn mark_with(marked: u8, reason: Reason) -> u8
 
 // Rule 5, beside the others.
 fn with_reasons(mark: &Marks, counts: &FigureCounts, n: usize) -> Marks
-    requires { n ≤ maxPoints }
-    ensures { result ≡ column maxPoints 0 n (λ (k : ℕ). bit (is_set mark.now k || isReason (reasonFrom counts.now k))) }
+    requires { n ≤ max_points }
+    ensures { result ≡ column max_points 0 n (λ (k : ℕ). bit (is_set mark.now k || is_reason (reason_from counts.now k))) }
 {
     let mut out = [0u8; MAX_POINTS];
     let mut k: usize = 0;
@@ -122,7 +122,7 @@ pub fn validate(
     counts: &FigureCounts,
 ) -> Measured
     requires { Prepared s n ranks.now keys.now x.now y.now counts.now }
-    ensures { result ≡ validatedOf s (viewAt n ranks.now x.now y.now) (cellsAt keys.now) }
+    ensures { result ≡ validated_of s (view_at n ranks.now x.now y.now) (cells_at keys.now) }
 {
     let gate = s.edge_shape;
     let r = by_rules(s, ranks, keys, x, y, n);

@@ -5,25 +5,25 @@ use Rattle.std.specs.Float.{nan}
 use Rattle.std.specs.Float.Ieee.Scale.{finite}
 use Rattle.folds.specs.Below.{some, tally}
 use Rattle.offsets.specs.declared.Offset.{Offset}
-use Rattle.offsets.specs.Offsets.{own, squareSides, place_of}
+use Rattle.offsets.specs.Offsets.{own, square_sides, place_of}
 
 -- the most points of a sheet ("There are more than 2,048 points"; document 02, A.4: "2,304 points pass and 2,305 give refusal 2")
-abbrev pub maxPoints : ℕ
-maxPoints = 2304
+abbrev pub max_points : ℕ
+max_points = 2304
 
 -- ---- the table of ranks: 25 neighbours for each point, then its row, its column and the place of its index, each in a block of its own
 
-abbrev pub ranksSize : ℕ
-ranksSize = 28 * maxPoints
+abbrev pub ranks_size : ℕ
+ranks_size = 28 * max_points
 
 abbrev pub rows_at : ℕ
-rows_at = 25 * maxPoints
+rows_at = 25 * max_points
 
-abbrev pub columnsAt : ℕ
-columnsAt = 26 * maxPoints
+abbrev pub columns_at : ℕ
+columns_at = 26 * max_points
 
-abbrev pub indicesAt : ℕ
-indicesAt = 27 * maxPoints
+abbrev pub indices_at : ℕ
+indices_at = 27 * max_points
 
 pub record View : Type 0 where
   -- how many points there are
@@ -34,19 +34,19 @@ pub record View : Type 0 where
   pub row : ℕ → ℕ
   pub column : ℕ → ℕ
   -- the last rank with the same index, which stands for the index
-  pub byIdx : ℕ → ℕ
+  pub by_idx : ℕ → ℕ
   pub x : ℕ → Float
   pub y : ℕ → Float
 
 -- the view that a table of ranks and the positions of n points give
-abbrev pub viewAt : ℕ → List ℕ → List Float → List Float → View
-viewAt n ranks xs ys =
+abbrev pub view_at : ℕ → List ℕ → List Float → List Float → View
+view_at n ranks xs ys =
     record {
       count = n;
       near = λ (i : ℕ). get_or ranks i 0;
       row = λ (k : ℕ). get_or ranks (rows_at + k) 0;
-      column = λ (k : ℕ). get_or ranks (columnsAt + k) 0;
-      byIdx = λ (k : ℕ). get_or ranks (indicesAt + k) 0;
+      column = λ (k : ℕ). get_or ranks (columns_at + k) 0;
+      by_idx = λ (k : ℕ). get_or ranks (indices_at + k) 0;
       x = λ (k : ℕ). get_or xs k nan;
       y = λ (k : ℕ). get_or ys k nan;
     }
@@ -55,10 +55,10 @@ viewAt n ranks xs ys =
 
 -- rows, columns and places of indices are ranks
 pub record Ranked (n : ℕ) (ranks : List ℕ) : Type 0 where
-  pub few : n ≤ maxPoints
+  pub few : n ≤ max_points
   pub rows : (k : ℕ) → k < n → get_or ranks (rows_at + k) 0 < n
-  pub columns : (k : ℕ) → k < n → get_or ranks (columnsAt + k) 0 < n
-  pub indices : (k : ℕ) → k < n → get_or ranks (indicesAt + k) 0 < n
+  pub columns : (k : ℕ) → k < n → get_or ranks (columns_at + k) 0 < n
+  pub indices : (k : ℕ) → k < n → get_or ranks (indices_at + k) 0 < n
 
 -- each coordinate of the first n is a finite number ("A position is not finite ..": refused)
 abbrev pub Finite : ℕ → List Float → Type 0
@@ -82,13 +82,13 @@ module _ (w : View) where
 
   -- ranks k and j have one index
   abbrev pub alike : ℕ → ℕ → Bool
-  alike k j = eqb (w.byIdx k) (w.byIdx j)
+  alike k j = eqb (w.by_idx k) (w.by_idx j)
 
   -- some point with rank k's index has the mark t
-  abbrev pub indexHas : (ℕ → Bool) → ℕ → Bool
-  indexHas t k = some (λ (j : ℕ). t j && alike j k) w.count
+  abbrev pub index_has : (ℕ → Bool) → ℕ → Bool
+  index_has t k = some (λ (j : ℕ). t j && alike j k) w.count
 
   -- degree: how many of the four cells that share an edge with rank k's hold a point
-  unfoldable pub degreeAt : ℕ → ℕ
+  unfoldable pub degree_at : ℕ → ℕ
   unfolding tally
-  degreeAt k = tally (λ (i : ℕ). present k (get_or squareSides i own)) 4
+  degree_at k = tally (λ (i : ℕ). present k (get_or square_sides i own)) 4

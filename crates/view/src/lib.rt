@@ -2,9 +2,9 @@
 #![tactic(auto)]
 
 ghost use Rattle.std.specs.Prelude.{◌≡◌, true, [], ◌+◌, ◌*◌, ◌≤◌, ◌<◌, get_or, ltb};
-ghost use Rattle.view.specs.View.{maxPoints, ranksSize, rows_at, columnsAt, indicesAt, viewAt, degreeAt};
+ghost use Rattle.view.specs.View.{max_points, ranks_size, rows_at, columns_at, indices_at, view_at, degree_at};
 ghost use Rattle.folds.specs.Marked.{bit};
-ghost use Rattle.offsets.specs.Offsets.{isNear, place_of};
+ghost use Rattle.offsets.specs.Offsets.{is_near, place_of};
 
 use offsets::Offset;
 
@@ -33,13 +33,13 @@ pub const INDICES_AT: usize = 27 * MAX_POINTS;
 
 // The number that the specifications use is the code's.
 pub fn max_points() -> usize
-    ensures { result ≡ maxPoints }
+    ensures { result ≡ max_points }
 {
     MAX_POINTS
 }
 
 pub fn ranks_size() -> usize
-    ensures { result ≡ ranksSize }
+    ensures { result ≡ ranks_size }
 {
     RANKS_SIZE
 }
@@ -53,7 +53,7 @@ pub fn wide(x: u16) -> usize
 
 // The rank at place d of the 25 round rank k, or none.
 pub fn rank_at_place(ranks: &Ranks, k: usize, d: usize) -> usize
-    requires { (k < maxPoints) × (d < 25) }
+    requires { (k < max_points) × (d < 25) }
     ensures { result ≡ get_or ranks.now (25 * k + d) 0 }
 {
     wide(ranks[25 * k + d])
@@ -61,7 +61,7 @@ pub fn rank_at_place(ranks: &Ranks, k: usize, d: usize) -> usize
 
 // The rank at offset o from rank k, or none.
 pub fn rank_at(ranks: &Ranks, k: usize, o: Offset) -> usize
-    requires { (k < maxPoints) × (isNear o ≡ true) }
+    requires { (k < max_points) × (is_near o ≡ true) }
     ensures { result ≡ get_or ranks.now (25 * k + place_of o) 0 }
 {
     rank_at_place(ranks, k, offsets::place(o))
@@ -69,7 +69,7 @@ pub fn rank_at(ranks: &Ranks, k: usize, o: Offset) -> usize
 
 // The first rank of rank k's row.
 pub fn row_of(ranks: &Ranks, k: usize) -> usize
-    requires { k < maxPoints }
+    requires { k < max_points }
     ensures { result ≡ get_or ranks.now (rows_at + k) 0 }
 {
     wide(ranks[ROWS_AT + k])
@@ -77,23 +77,23 @@ pub fn row_of(ranks: &Ranks, k: usize) -> usize
 
 // The first rank of rank k's column.
 pub fn column_of(ranks: &Ranks, k: usize) -> usize
-    requires { k < maxPoints }
-    ensures { result ≡ get_or ranks.now (columnsAt + k) 0 }
+    requires { k < max_points }
+    ensures { result ≡ get_or ranks.now (columns_at + k) 0 }
 {
     wide(ranks[COLUMNS_AT + k])
 }
 
 // The last rank with rank k's index, which is the place of the index.
 pub fn index_of(ranks: &Ranks, k: usize) -> usize
-    requires { k < maxPoints }
-    ensures { result ≡ get_or ranks.now (indicesAt + k) 0 }
+    requires { k < max_points }
+    ensures { result ≡ get_or ranks.now (indices_at + k) 0 }
 {
     wide(ranks[INDICES_AT + k])
 }
 
 // 1 if there is a point at offset o from rank k, else 0.
 fn there(ranks: &Ranks, n: usize, k: usize, o: Offset) -> u8
-    requires { (k < maxPoints) × (isNear o ≡ true) }
+    requires { (k < max_points) × (is_near o ≡ true) }
     ensures { (result ≡ bit (ltb (get_or ranks.now (25 * k + place_of o) 0) n)) × (result ≤ 1) }
 {
     if rank_at(ranks, k, o) < n { 1 } else { 0 }
@@ -101,8 +101,8 @@ fn there(ranks: &Ranks, n: usize, k: usize, o: Offset) -> u8
 
 // How many of the four cells that share an edge with rank k's hold a point.
 pub fn degree_at(ranks: &Ranks, n: usize, k: usize) -> u8
-    requires { k < maxPoints }
-    ensures { result ≡ degreeAt (viewAt n ranks.now [] []) k }
+    requires { k < max_points }
+    ensures { result ≡ degree_at (view_at n ranks.now [] []) k }
 {
     there(ranks, n, k, offsets::NEXT_U)
         + there(ranks, n, k, offsets::NEXT_V)

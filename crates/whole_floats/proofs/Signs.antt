@@ -11,8 +11,8 @@ use lib.Ieee.{Float, nan, inf, fin, binary32, up, down, unlike, round, sum, neg,
 use lib.Ieee.Fits.{up_pos, down_pos}
 use lib.Ieee.Positive.{positive}
 use lib.Ieee.Scale.{round_same, finite}
-use Rattle.folds.specs.Arith.{◌⊕◌, ◌⊖◌, ◌⊗◌, ◌⊘◌, zeroF}
-use Rattle.float.specs.Scalar.{absOf}
+use Rattle.folds.specs.Arith.{◌⊕◌, ◌⊖◌, ◌⊗◌, ◌⊘◌, zero_f}
+use Rattle.float.specs.Scalar.{abs_of}
 use Rattle.float.proofs.Order.{plain, plain-cases, positive-cases, plain-round}
 use Rattle.float.proofs.Within.{round_number}
 
@@ -25,9 +25,9 @@ div-plain x y p q =
     (λ n d h. plain-cases (λ (a : Float). T (plain (a ⊘ fin false n d))) tt
     (λ m e. rw (ne_eqb n 0 (λ z. omega (arith, z))) (plain-round binary32 (m * up e * down d) (n * up d * down e))) x p) y q
 
-pub zero-le : (x : Float) → T (plain x) → le zeroF x ≡ true
+pub zero-le : (x : Float) → T (plain x) → le zero_f x ≡ true
 unfolding le of_bits
-zero-le x p = plain-cases (λ (a : Float). le zeroF a ≡ true) refl (λ m e. rw (zero-mul (down e)) (go (m * up e * 1))) x p
+zero-le x p = plain-cases (λ (a : Float). le zero_f a ≡ true) refl (λ m e. rw (zero-mul (down e)) (go (m * up e * 1))) x p
   where
     go : (n : ℕ) → ltb 0 n || (eqb 0 n && true) ≡ true
     go zero = refl
@@ -85,8 +85,8 @@ mul-nil (fin s m e) y (nought t) =
     subst Nil (sym (round-zero (unlike s t) (m * up e * 0) (down e * 1) (mul-zero (m * up e)) (rw (mul-one (down e)) (down_pos e)))) (nought (unlike s t))
 
 -- its magnitude is not above what is not below zero
-pub nil-near : (c z : Float) → Nil z → lt c zeroF ≡ false → lt c (absOf z) ≡ false
-unfolding lt absOf of_bits
+pub nil-near : (c z : Float) → Nil z → lt c zero_f ≡ false → lt c (abs_of z) ≡ false
+unfolding lt abs_of of_bits
 nil-near nan z q h = refl
 nil-near (inf s) z none h = refl
 nil-near (inf s) z (nought t) h = h
@@ -94,31 +94,31 @@ nil-near (fin s m e) z none h = refl
 nil-near (fin s m e) z (nought t) h = h
 
 -- zero over a number above zero
-pub zero-div : (y : Float) → T (positive y) → zeroF ⊘ y ≡ zeroF
+pub zero-div : (y : Float) → T (positive y) → zero_f ⊘ y ≡ zero_f
 unfolding div of_bits
 zero-div y q =
-    positive-cases (λ (b : Float). zeroF ⊘ b ≡ zeroF)
+    positive-cases (λ (b : Float). zero_f ⊘ b ≡ zero_f)
     (λ n d h. rw (ne_eqb n 0 (λ z. omega (arith, z))) (round-zero false (0 * down d) (n * up d * 1) (zero-mul (down d)) (rw (mul-one (n * up d)) (mul-pos h (up_pos d))))) y q
 
 -- ---- what is not below zero, a NaN included
 
-plain-over-zero : (x : Float) → T (plain x) → lt x zeroF ≡ false
+plain-over-zero : (x : Float) → T (plain x) → lt x zero_f ≡ false
 unfolding lt of_bits
-plain-over-zero x p = plain-cases (λ (a : Float). lt a zeroF ≡ false) refl (λ m e. rw (zero-mul (down e)) (le-ltb (m * up e * 1) 0 (omega arith))) x p
+plain-over-zero x p = plain-cases (λ (a : Float). lt a zero_f ≡ false) refl (λ m e. rw (zero-mul (down e)) (le-ltb (m * up e * 1) 0 (omega arith))) x p
 
 -- times what is not negative it is not below zero
-pub times-plain : (t x : Float) → lt t zeroF ≡ false → T (plain x) → lt (t ⊗ x) zeroF ≡ false
+pub times-plain : (t x : Float) → lt t zero_f ≡ false → T (plain x) → lt (t ⊗ x) zero_f ≡ false
 unfolding mul lt of_bits
-times-plain t x h p = plain-cases (λ (a : Float). lt (t ⊗ a) zeroF ≡ false) (to-infinity t h) (finite-times t h) x p
+times-plain t x h p = plain-cases (λ (a : Float). lt (t ⊗ a) zero_f ≡ false) (to-infinity t h) (finite-times t h) x p
   where
-    either : (b : Bool) → lt (cond b nan (inf false)) zeroF ≡ false
+    either : (b : Bool) → lt (cond b nan (inf false)) zero_f ≡ false
     either true = refl
     either false = refl
 
-    below : (m : ℕ) (e : ℤ) → lt (fin true (suc m) e) zeroF ≡ false → ⊥
+    below : (m : ℕ) (e : ℤ) → lt (fin true (suc m) e) zero_f ≡ false → ⊥
     below m e h = let positive : 0 < suc m * up e = mul-pos (omega arith) (up_pos e) in omega (arith, ltb-false 0 (suc m * up e * 1 + 0 * down e) h, positive)
 
-    to-infinity : (t : Float) → lt t zeroF ≡ false → lt (t ⊗ inf false) zeroF ≡ false
+    to-infinity : (t : Float) → lt t zero_f ≡ false → lt (t ⊗ inf false) zero_f ≡ false
     to-infinity nan h = refl
     to-infinity (inf true) h = absurd (true≢false h)
     to-infinity (inf false) h = refl
@@ -126,7 +126,7 @@ times-plain t x h p = plain-cases (λ (a : Float). lt (t ⊗ a) zeroF ≡ false)
     to-infinity (fin true zero e) h = refl
     to-infinity (fin true (suc m) e) h = absurd (below m e h)
 
-    finite-times : (t : Float) → lt t zeroF ≡ false → (n : ℕ) (d : ℤ) → lt (t ⊗ fin false n d) zeroF ≡ false
+    finite-times : (t : Float) → lt t zero_f ≡ false → (n : ℕ) (d : ℤ) → lt (t ⊗ fin false n d) zero_f ≡ false
     finite-times nan h n d = refl
     finite-times (inf true) h n d = absurd (true≢false h)
     finite-times (inf false) h n d = either (eqb n 0)

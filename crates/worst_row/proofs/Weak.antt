@@ -13,35 +13,35 @@ use Rattle.folds.specs.Lists.{list_of}
 use Rattle.folds.proofs.Column.{column-at}
 use Rattle.folds.proofs.Lists.{length-list, list_at, list_ext}
 use Rattle.float.specs.Constants.{one, two}
-use Rattle.view.specs.View.{maxPoints}
-use Rattle.cells.specs.Points.{Point, nowhere, strengthsOf}
-use Rattle.median.specs.Median.{medianOf, first_of}
+use Rattle.view.specs.View.{max_points}
+use Rattle.cells.specs.Points.{Point, nowhere, strengths_of}
+use Rattle.median.specs.Median.{median_of, first_of}
 use Rattle.marks.specs.Marks.{is_set}
 use Rattle.marks.proofs.Guards.{set_is}
-use Rattle.sheet_file.specs.Refusals.{defaultsFor}
+use Rattle.sheet_file.specs.Refusals.{defaults_for}
 use Rattle.sheet_file.specs.declared.Fraction.{Fraction}
 use Rattle.sheet_file.specs.declared.Fraction.TheVariants.{Given}
 use Rattle.strengths.proofs.Laws.{weak-by}
-use Rattle.drop_set.specs.Filters.{weakBy}
-use Rattle.worst_sheet.specs.Worst.{floatBits, worstPoints}
-use Rattle.worst_row.specs.Sheet.{worstSettings}
+use Rattle.drop_set.specs.Filters.{weak_by}
+use Rattle.worst_sheet.specs.Worst.{float_bits, worst_points}
+use Rattle.worst_row.specs.Sheet.{worst_settings}
 use Rattle.worst_row.proofs.Patterns.{one-is, two_is}
 use Rattle.sort.proofs.Listed.{sort-listed}
 use Rattle.worst_row.proofs.Accepted.{point-is, point-count}
 
 -- the weak marks, from the settings and the points
-abbrev pub weakMarks : ℕ → List ℕ
-weakMarks n = weakBy worstSettings.score_frac n (strengthsOf (worstPoints n))
+abbrev pub weak_marks : ℕ → List ℕ
+weak_marks n = weak_by worst_settings.score_frac n (strengths_of (worst_points n))
 
 -- "all strengths 1 but the last, which is 2"
 abbrev strength : ℕ → ℕ → Float
 strength n k = cond (eqb (k + 1) n) two one
 
-fraction-is : worstSettings.score_frac ≡ Given two
-unfolding defaultsFor
+fraction-is : worst_settings.score_frac ≡ Given two
+unfolding defaults_for
 fraction-is = refl
 
-pattern-read : (b : Bool) → f32 (floatBits (cond b 2 1)) ≡ cond b two one
+pattern-read : (b : Bool) → f32 (float_bits (cond b 2 1)) ≡ cond b two one
 pattern-read true = two_is
 pattern-read false = one-is
 
@@ -58,47 +58,47 @@ one-not-below true = refl
 one-not-below false = refl
 
 -- the median of n strengths is entry n / 2, as they stand
-median-is : (n : ℕ) → 0 < n → medianOf (list_of n (strength n)) ≡ strength n (n / 2)
-unfolding medianOf
+median-is : (n : ℕ) → 0 < n → median_of (list_of n (strength n)) ≡ strength n (n / 2)
+unfolding median_of
 median-is n h =
     rw (sort-listed lt (strength n) n (λ i j l m. rw (other-one n i (λ e. omega arith)) (one-not-below (eqb (j + 1) n))), length-list n (strength n))
     (list_at n (strength n) (n / 2) nan (omega arith))
 
-module _ (n : ℕ) (few : n ≤ maxPoints) where
+module _ (n : ℕ) (few : n ≤ max_points) where
   abbrev strengths : List Float
-  strengths = strengthsOf (worstPoints n)
+  strengths = strengths_of (worst_points n)
 
   strength-read : (k : ℕ) → k < n → get_or strengths k nan ≡ strength n k
-  unfolding strengthsOf
+  unfolding strengths_of
   strength-read k h =
-      column-at maxPoints nan (length (worstPoints n)) (λ (k : ℕ). f32 (get_or (worstPoints n) k nowhere).strength) k (omega (arith, point-count n few))
+      column-at max_points nan (length (worst_points n)) (λ (k : ℕ). f32 (get_or (worst_points n) k nowhere).strength) k (omega (arith, point-count n few))
       ∙ ap (λ (p : Point). f32 p.strength) (point-is n few k h) ∙ pattern-read (eqb (k + 1) n)
 
-  median-read : 0 < n → strength n (n / 2) ≡ medianOf (first_of n strengths)
-  median-read h = sym (ap medianOf (list_ext nan n (λ (k : ℕ). get_or strengths k nan) (strength n) strength-read) ∙ median-is n h)
+  median-read : 0 < n → strength n (n / 2) ≡ median_of (first_of n strengths)
+  median-read h = sym (ap median_of (list_ext nan n (λ (k : ℕ). get_or strengths k nan) (strength n) strength-read) ∙ median-is n h)
 
   -- each point by its strength and twice the median
-  weak-is : (k : ℕ) → k < n → is_set (weakMarks n) k ≡ lt (strength n k) (two ⊗ strength n (n / 2))
+  weak-is : (k : ℕ) → k < n → is_set (weak_marks n) k ≡ lt (strength n k) (two ⊗ strength n (n / 2))
   weak-is k h =
       let m = strength n (n / 2) in
-      set_is maxPoints n (λ (k : ℕ). lt (get_or strengths k nan) (two ⊗ m)) (weakMarks n) (ap (λ (x : Fraction). weakBy x n strengths) fraction-is ∙ sym (weak-by n strengths two m (median-read (omega arith)))) k h
+      set_is max_points n (λ (k : ℕ). lt (get_or strengths k nan) (two ⊗ m)) (weak_marks n) (ap (λ (x : Fraction). weak_by x n strengths) fraction-is ∙ sym (weak-by n strengths two m (median-read (omega arith)))) k h
       ∙ ap (λ (x : Float). lt x (two ⊗ m)) (strength-read k h)
 
   -- of three or more points the median is 1
   module _ (three : 3 ≤ n) where
-    by_one : (k : ℕ) → k < n → is_set (weakMarks n) k ≡ lt (strength n k) (two ⊗ one)
+    by_one : (k : ℕ) → k < n → is_set (weak_marks n) k ≡ lt (strength n k) (two ⊗ one)
     by_one k h = weak-is k h ∙ rw (other-one n (n / 2) (λ e. omega arith))
 
-    pub others-weak : (k : ℕ) → k + 1 < n → is_set (weakMarks n) k ≡ true
+    pub others-weak : (k : ℕ) → k + 1 < n → is_set (weak_marks n) k ≡ true
     unfolding lt mul of_bits
     others-weak k h = by_one k (omega arith) ∙ rw (other-one n k (λ e. omega arith))
 
-    pub last-strong : (k : ℕ) → k + 1 ≡ n → is_set (weakMarks n) k ≡ false
+    pub last-strong : (k : ℕ) → k + 1 ≡ n → is_set (weak_marks n) k ≡ false
     unfolding lt mul of_bits
     last-strong k e = by_one k (omega arith) ∙ rw (last-two n k e)
 
 -- of two it is 2, and the last is weak too: three are needed
-pub two-weak : (k : ℕ) → k < 2 → is_set (weakMarks 2) k ≡ true
+pub two-weak : (k : ℕ) → k < 2 → is_set (weak_marks 2) k ≡ true
 unfolding lt mul of_bits
 two-weak k h = weak-is 2 (omega arith) k h ∙ below (eqb (k + 1) 2)
   where

@@ -2,7 +2,7 @@
 use Rattle.std.proofs.Common.{◌≡◌, [], ◌∷◌, ◌++◌, refl}
 use lib.Ieee.{to_bits, of_int}
 use Rattle.text.specs.Text.{bytes}
-use Rattle.worst_sheet.specs.Worst.{worstFile, asked}
+use Rattle.worst_sheet.specs.Worst.{worst_file, asked}
 
 -- "n from 2 to 2,304"
 accepted : asked (bytes "2") ∷ asked (bytes "2304") ∷ [] ≡ 2 ∷ 2304 ∷ []
@@ -15,7 +15,7 @@ unfolding asked
 others = refl
 
 -- the settings; two points, with u, v, index, x and y; the fraction 2, the strengths 1 and 2
-smallest : worstFile 2 ≡
+smallest : worst_file 2 ≡
     (1 ∷ 4 ∷ 0 ∷ [])
     ++ (0 ∷ 0 ∷ 0xE0 ∷ 0x40 ∷ [])
     ++ (3 ∷ 40 ∷ 0 ∷ [])
@@ -23,5 +23,5 @@ smallest : worstFile 2 ≡
     ++ (1 ∷ 0 ∷ 0 ∷ 0 ∷ 0 ∷ 0 ∷ 0 ∷ 0 ∷ 1 ∷ 0 ∷ 0 ∷ 0 ∷ 0 ∷ 0 ∷ 0xE0 ∷ 0x40 ∷ 0 ∷ 0 ∷ 0 ∷ 0 ∷ [])
     ++ (4 ∷ 12 ∷ 0 ∷ [])
     ++ (0 ∷ 0 ∷ 0 ∷ 0x40 ∷ 0 ∷ 0 ∷ 0x80 ∷ 0x3F ∷ 0 ∷ 0 ∷ 0 ∷ 0x40 ∷ [])
-unfolding worstFile to_bits of_int
+unfolding worst_file to_bits of_int
 smallest = refl

@@ -9,10 +9,10 @@ use Rattle.text.specs.Answer.{written_of, Shows}
 use Rattle.text.specs.declared.Written.TheVariants.{Whole, NoRoom}
 use Rattle.text.proofs.Stores.{shows, stored-length, stored-then, each_none, each_more, each_long}
 use Rattle.cells.specs.Points.{Point}
-use Rattle.sheet_file.specs.Bytes.{littleEndian}
+use Rattle.sheet_file.specs.Bytes.{little_endian}
 use Rattle.sheet_file.specs.Grammar.{field}
-use Rattle.written_file.specs.File.{pointBytes, pointsBytes, strengthBytes, weights}
-use Rattle.worst_sheet.specs.Worst.{floatBits, strengthAt, pointAt, worstPoints, settingsData, worstFile}
+use Rattle.written_file.specs.File.{point_bytes, points_bytes, strength_bytes, weights}
+use Rattle.worst_sheet.specs.Worst.{float_bits, strength_at, point_at, worst_points, settings_data, worst_file}
 
 -- a text in a buffer that has room for it ends within it, and stands before its end
 pub stored-whole : {l t m : List ℕ} {e : ℕ} → Stored l 0 t m e → length t ≤ length l → (e ≤ length m) × (take e m ≡ t)
@@ -42,26 +42,26 @@ module _ (all : List Point → List ℕ) (one : Point → List ℕ) (none : all 
   unfolding list_of
   all-each n = let z : 0 + n ≡ n = omega arith in rw (each_none (λ u. one (f u)), z) at (each-then 0 n)
 
-pub records-are : (n : ℕ) → pointsBytes (worstPoints n) ≡ each (λ u. pointBytes (pointAt n u)) n
-records-are n = all-each pointsBytes pointBytes refl (λ p ps. refl) (pointAt n) n
+pub records-are : (n : ℕ) → points_bytes (worst_points n) ≡ each (λ u. point_bytes (point_at n u)) n
+records-are n = all-each points_bytes point_bytes refl (λ p ps. refl) (point_at n) n
 
-pub strengths-are : (n : ℕ) → strengthBytes (worstPoints n) ≡ each (λ u. littleEndian (strengthAt n u)) n
-strengths-are n = all-each strengthBytes (λ p. littleEndian p.strength) refl (λ p ps. refl) (pointAt n) n
+pub strengths-are : (n : ℕ) → strength_bytes (worst_points n) ≡ each (λ u. little_endian (strength_at n u)) n
+strengths-are n = all-each strength_bytes (λ p. little_endian p.strength) refl (λ p ps. refl) (point_at n) n
 
-pub records-long : (n : ℕ) → length (pointsBytes (worstPoints n)) ≡ 20 * n
-records-long n = ap length (records-are n) ∙ each_long (λ u. pointBytes (pointAt n u)) 20 n (λ k l. refl)
+pub records-long : (n : ℕ) → length (points_bytes (worst_points n)) ≡ 20 * n
+records-long n = ap length (records-are n) ∙ each_long (λ u. point_bytes (point_at n u)) 20 n (λ k l. refl)
 
-pub strengths-long : (n : ℕ) → length (strengthBytes (worstPoints n)) ≡ 4 * n
-strengths-long n = ap length (strengths-are n) ∙ each_long (λ u. littleEndian (strengthAt n u)) 4 n (λ k l. refl)
+pub strengths-long : (n : ℕ) → length (strength_bytes (worst_points n)) ≡ 4 * n
+strengths-long n = ap length (strengths-are n) ∙ each_long (λ u. little_endian (strength_at n u)) 4 n (λ k l. refl)
 
 -- "length-4 settings, .. cell size 7"
-pub settings-are : settingsData ≡ 0 ∷ 0 ∷ 0xE0 ∷ 0x40 ∷ []
+pub settings-are : settings_data ≡ 0 ∷ 0 ∷ 0xE0 ∷ 0x40 ∷ []
 unfolding to_bits of_int
 settings-are = refl
 
 -- the fields of the sheet
-pub file-is : (n : ℕ) → worstFile n ≡ field 1 settingsData ++ (field 3 (pointsBytes (worstPoints n)) ++ weights (floatBits 2) (worstPoints n))
-unfolding worstFile
+pub file-is : (n : ℕ) → worst_file n ≡ field 1 settings_data ++ (field 3 (points_bytes (worst_points n)) ++ weights (float_bits 2) (worst_points n))
+unfolding worst_file
 file-is n = refl
 
 -- a field is stored as its tag and length, and its data after them

@@ -3,10 +3,10 @@ use Rattle.std.specs.Prelude.{ℕ, ◌+◌, ◌*◌, ◌%◌, List}
 use Rattle.folds.specs.Lists.{over}
 
 -- the number with one digit more, of the character c
-abbrev pub withDigit : ℕ → ℕ → ℕ
-withDigit value c = (value * 10 + c % 16) % 65536
+abbrev pub with_digit : ℕ → ℕ → ℕ
+with_digit value c = (value * 10 + c % 16) % 65536
 
 -- the number that a decimal text spells, if it is below 65,536 (`value-decimal`, proofs/Asked.antt); of another text some number
 unfoldable pub value_of : List ℕ → ℕ
 unfolding over
-value_of argument = over withDigit 0 argument
+value_of argument = over with_digit 0 argument

@@ -6,48 +6,48 @@ use Rattle.std.specs.Float.Ieee.{of_int}
 use Rattle.folds.specs.Below.{first}
 use Rattle.folds.specs.Lists.{list_of}
 use Rattle.folds.specs.Same.{same_list}
-use Rattle.view.specs.View.{maxPoints}
+use Rattle.view.specs.View.{max_points}
 use Rattle.text.specs.Text.{decimal}
 use Rattle.cells.specs.Points.{Point}
-use Rattle.sheet_file.specs.Bytes.{littleEndian}
-use Rattle.written_file.specs.File.{weighedFile}
+use Rattle.sheet_file.specs.Bytes.{little_endian}
+use Rattle.written_file.specs.File.{weighed_file}
 
 -- the 32-bit pattern of the whole number n as f32
-abbrev pub floatBits : ℕ → ℕ
-floatBits n = to_bits binary32 (of_int binary32 (pos n))
+abbrev pub float_bits : ℕ → ℕ
+float_bits n = to_bits binary32 (of_int binary32 (pos n))
 
 -- "all strengths 1 but the last, which is 2"
-abbrev pub strengthAt : ℕ → ℕ → ℕ
-strengthAt n u = floatBits (cond (u + 1 == n) 2 1)
+abbrev pub strength_at : ℕ → ℕ → ℕ
+strength_at n u = float_bits (cond (u + 1 == n) 2 1)
 
 -- "cells (u,0) with index u at (7u,0)"
-abbrev pub pointAt : ℕ → ℕ → Point
-pointAt n u = record { u = u; v = 0; index = u; x = floatBits (7 * u); y = floatBits 0; strength = strengthAt n u }
+abbrev pub point_at : ℕ → ℕ → Point
+point_at n u = record { u = u; v = 0; index = u; x = float_bits (7 * u); y = float_bits 0; strength = strength_at n u }
 
 -- "from u = 0 upward"
-abbrev pub worstPoints : ℕ → List Point
-worstPoints n = list_of n (pointAt n)
+abbrev pub worst_points : ℕ → List Point
+worst_points n = list_of n (point_at n)
 
 -- "length-4 settings, .. cell size 7": the data of tag 1
-abbrev pub settingsData : List ℕ
-settingsData = littleEndian (floatBits 7)
+abbrev pub settings_data : List ℕ
+settings_data = little_endian (float_bits 7)
 
 -- "no tag 2, .. fraction 2"
-unfoldable pub worstFile : ℕ → List ℕ
+unfoldable pub worst_file : ℕ → List ℕ
 unfolding list_of
-worstFile n = weighedFile settingsData (floatBits 2) (worstPoints n)
+worst_file n = weighed_file settings_data (float_bits 2) (worst_points n)
 
 -- "n as its one argument, printed like an index", "n from 2 to 2,304": the n whose decimal digits are the argument, and one more than the most
 -- points where there is none
 unfoldable pub asked : List ℕ → ℕ
 unfolding first same_list decimal
-asked argument = first (λ (n : ℕ). same_list (decimal n) argument) 2 (maxPoints + 1)
+asked argument = first (λ (n : ℕ). same_list (decimal n) argument) 2 (max_points + 1)
 
 -- "writes a sheet that reaches it", "For anything else it writes nothing."
-unfoldable pub worstOf : List ℕ → List ℕ
-unfolding asked worstFile
-worstOf argument = let n = asked argument in cond (nat_lt n (maxPoints + 1)) (worstFile n) []
+unfoldable pub worst_of : List ℕ → List ℕ
+unfolding asked worst_file
+worst_of argument = let n = asked argument in cond (nat_lt n (max_points + 1)) (worst_file n) []
 
 -- no sheet that is written is longer: three fields, each with a tag and two bytes of length (proved in proofs/Size.antt)
-abbrev pub worstSize : ℕ
-worstSize = (3 + length settingsData) + (3 + 20 * maxPoints) + (3 + 4 + 4 * maxPoints)
+abbrev pub worst_size : ℕ
+worst_size = (3 + length settings_data) + (3 + 20 * max_points) + (3 + 4 + 4 * max_points)

@@ -3,14 +3,14 @@
 
 ghost use Rattle.std.specs.Prelude.{◌≡◌, ℕ, ◌/◌, ◌%◌, ◌<◌, ◌≤◌, [], ◌∷◌};
 ghost use Rattle.folds.specs.Same.{same_list};
-ghost use Rattle.view.specs.View.{maxPoints};
+ghost use Rattle.view.specs.View.{max_points};
 ghost use Rattle.text.specs.Answer.{Shows};
 ghost use Rattle.text.specs.Stored.{Stored};
 ghost use Rattle.text.specs.Text.{each, decimal};
-ghost use Rattle.sheet_file.specs.Bytes.{littleEndian};
-ghost use Rattle.sheet_file.specs.Grammar.{mostData};
-ghost use Rattle.written_file.specs.File.{pointBytes};
-ghost use Rattle.worst_sheet.specs.Worst.{floatBits, strengthAt, pointAt, worstFile, asked, worstOf, worstSize};
+ghost use Rattle.sheet_file.specs.Bytes.{little_endian};
+ghost use Rattle.sheet_file.specs.Grammar.{most_data};
+ghost use Rattle.written_file.specs.File.{point_bytes};
+ghost use Rattle.worst_sheet.specs.Worst.{float_bits, strength_at, point_at, worst_file, asked, worst_of, worst_size};
 ghost use Rattle.worst_sheet.specs.Value.{value_of};
 
 use text::Written;
@@ -28,7 +28,7 @@ pub const WORST_SIZE: usize = (3 + SETTINGS_SIZE)
 
 // The number that the specifications use is the code's.
 pub fn worst_size() -> usize
-    ensures { result ≡ worstSize }
+    ensures { result ≡ worst_size }
 {
     WORST_SIZE
 }
@@ -87,14 +87,14 @@ fn asked_points(argument: &[u8]) -> usize
 
 // The pattern of the f32 nearest to n.
 fn float_bits(n: u32) -> u32
-    ensures { result ≡ floatBits n }
+    ensures { result ≡ float_bits n }
 {
     float::to_bits(std::num::nearest_u32_to_f32(n))
 }
 
 // The tag and the length of a field.
 fn put_head(tag: u8, size: usize, out: &mut [u8], at: usize) -> usize
-    requires { size ≤ mostData }
+    requires { size ≤ most_data }
     ensures { Stored out.old at (tag ∷ size % 256 ∷ size / 256 ∷ []) out.new result }
 {
     let a = text::put_byte(tag, out, at);
@@ -103,8 +103,8 @@ fn put_head(tag: u8, size: usize, out: &mut [u8], at: usize) -> usize
 }
 
 fn put_point(u: usize, out: &mut [u8], at: usize) -> usize
-    requires { u < maxPoints }
-    ensures { (n : ℕ) → Stored out.old at (pointBytes (pointAt n u)) out.new result }
+    requires { u < max_points }
+    ensures { (n : ℕ) → Stored out.old at (point_bytes (point_at n u)) out.new result }
 {
     let index = u as u32;
     let a = little_endian::put_u32(index, out, at);
@@ -115,8 +115,8 @@ fn put_point(u: usize, out: &mut [u8], at: usize) -> usize
 }
 
 fn put_points(n: usize, out: &mut [u8], at: usize) -> usize
-    requires { n ≤ maxPoints }
-    ensures { Stored out.old at (each (λ u. pointBytes (pointAt n u)) n) out.new result }
+    requires { n ≤ max_points }
+    ensures { Stored out.old at (each (λ u. point_bytes (point_at n u)) n) out.new result }
 {
     let mut to = at;
     let mut u = 0;
@@ -131,7 +131,7 @@ fn put_points(n: usize, out: &mut [u8], at: usize) -> usize
 // The strength of point u of n: 2 for the last, else 1.
 fn strength(n: usize, u: usize) -> u32
     requires { u < n }
-    ensures { result ≡ strengthAt n u }
+    ensures { result ≡ strength_at n u }
 {
     if u + 1 == n {
         return float_bits(2);
@@ -140,7 +140,7 @@ fn strength(n: usize, u: usize) -> u32
 }
 
 fn put_strengths(n: usize, out: &mut [u8], at: usize) -> usize
-    ensures { Stored out.old at (each (λ u. littleEndian (strengthAt n u)) n) out.new result }
+    ensures { Stored out.old at (each (λ u. little_endian (strength_at n u)) n) out.new result }
 {
     let mut to = at;
     let mut u = 0;
@@ -153,8 +153,8 @@ fn put_strengths(n: usize, out: &mut [u8], at: usize) -> usize
 }
 
 fn put_sheet(n: usize, out: &mut [u8]) -> usize
-    requires { n ≤ maxPoints }
-    ensures { Stored out.old 0 (worstFile n) out.new result }
+    requires { n ≤ max_points }
+    ensures { Stored out.old 0 (worst_file n) out.new result }
 {
     let a = put_head(1, SETTINGS_SIZE, out, 0);
     let b = text::put_text(&SETTINGS, out, a);
@@ -167,7 +167,7 @@ fn put_sheet(n: usize, out: &mut [u8]) -> usize
 
 // Writes the sheet that `argument` asks for to the start of `out`, or nothing.
 pub fn write_worst(argument: &[u8], out: &mut [u8]) -> Written
-    ensures { Shows (worstOf argument.now) out.old out.new result }
+    ensures { Shows (worst_of argument.now) out.old out.new result }
 {
     let n = asked_points(argument);
     if n <= MAX_POINTS {

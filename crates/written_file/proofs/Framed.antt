@@ -9,14 +9,14 @@ use lib.Dec.{eqb}
 use lib.ListN.{length, length-append}
 use lib.Seq.{get_or-append-add}
 use Rattle.cells.specs.Points.{Point}
-use Rattle.sheet_file.specs.Bytes.{byte_at, le16, littleEndian}
-use Rattle.sheet_file.specs.Frame.{framingOf, layout_of}
+use Rattle.sheet_file.specs.Bytes.{byte_at, le16, little_endian}
+use Rattle.sheet_file.specs.Frame.{framing_of, layout_of}
 use Rattle.sheet_file.specs.Grammar.{field, absent, present, WellFramed}
 use Rattle.sheet_file.specs.declared.Layout.{Layout}
 use Rattle.sheet_file.specs.declared.Framing.TheVariants.{Framed}
 use Rattle.sheet_file.proofs.Fields.{is_framed, field_in, StrengthsAt, strengths-there, strengths-absent, GateAt, gate-there, gate-absent, Fields, full-settings, short-settings, fields-of, PointsAt, points-in}
 use Rattle.sheet_file.proofs.Grammar.{well-framed, points-counted}
-use Rattle.written_file.specs.File.{pointsBytes, strengthBytes, weights, weighedFile}
+use Rattle.written_file.specs.File.{points_bytes, strength_bytes, weights, weighed_file}
 use Rattle.written_file.proofs.Parts.{records-length, strengths-length}
 
 -- "Tag 1, length 21 .. Length 4 gives the cell size only"
@@ -24,8 +24,8 @@ abbrev pub SettingsSize : List ℕ → Type 0
 SettingsSize settings = (length settings ≡ 21) ⊎ (length settings ≡ 4)
 
 -- the fields of a written file: no tag 2, the points after tag 1 and a tag and a length, and the strengths after the points
-abbrev pub layoutFor : List ℕ → List Point → Layout
-layoutFor settings ps = record {
+abbrev pub layout_for : List ℕ → List Point → Layout
+layout_for settings ps = record {
   full = eqb (length settings) 21;
   gated = false;
   points = length settings + 6;
@@ -42,24 +42,24 @@ same_layout f a b c d e g h = rw (← a, ← b, ← c, ← d, ← e, ← g, ← 
 
 module _ (settings : List ℕ) (fraction : ℕ) (ps : List Point) where
   abbrev file : List ℕ
-  file = weighedFile settings fraction ps
+  file = weighed_file settings fraction ps
 
   -- how long it is
   pub file-length : length file ≡ length settings + 13 + 24 * length ps
   file-length =
-      omega (arith, length-append settings (field 3 (pointsBytes ps) ++ weights fraction ps), length-append (pointsBytes ps) (weights fraction ps), records-length ps, strengths-length ps)
+      omega (arith, length-append settings (field 3 (points_bytes ps) ++ weights fraction ps), length-append (points_bytes ps) (weights fraction ps), records-length ps, strengths-length ps)
 
   module _ (size : SettingsSize settings) where
     abbrev pub written-well : WellFramed file
     written-well = record {
       settings = settings;
       gate = [];
-      points = pointsBytes ps;
+      points = points_bytes ps;
       weights = weights fraction ps;
       settings-size = size;
       gate-optional = absent refl;
       twenties = omega (arith, records-length ps);
-      weights-optional = present (littleEndian fraction ++ strengthBytes ps) tt refl;
+      weights-optional = present (little_endian fraction ++ strength_bytes ps) tt refl;
       in_order = refl;
     }
 
@@ -70,7 +70,7 @@ module _ (settings : List ℕ) (fraction : ℕ) (ps : List Point) where
     next-tag : byte_at file (length settings + 3) ≡ 3
     next-tag =
         let e : length settings + 3 ≡ length (field 1 settings) + 0 = omega arith in
-        rw e (get_or-append-add (field 1 settings) (field 3 (pointsBytes ps) ++ weights fraction ps) 0 0)
+        rw e (get_or-append-add (field 1 settings) (field 3 (points_bytes ps) ++ weights fraction ps) 0 0)
 
     first-size : le16 file 1 ≡ length settings
     unfolding le16
@@ -91,12 +91,12 @@ module _ (settings : List ℕ) (fraction : ℕ) (ps : List Point) where
     fourth-field e (strengths-there t u s l) = (u, omega arith, omega (arith, file-length))
     fourth-field e (strengths-absent u l) = absurd (omega (arith, file-length))
 
-    layout_is : f ≡ layoutFor settings ps
+    layout_is : f ≡ layout_for settings ps
     layout_is =
         let p = third-field (length settings) refl size (fields-of file f (is_framed file (well-framed file written-well))) in
         let n : f.count ≡ length ps = omega (arith, points-counted file written-well, records-length ps) in
         let w = fourth-field (omega arith) p.after in
         same_layout f p.full_is p.gated-is (p.points-at ∙ omega arith) n w.0 w.1 w.2
 
-    pub framed : framingOf file ≡ Framed (layoutFor settings ps)
+    pub framed : framing_of file ≡ Framed (layout_for settings ps)
     framed = is_framed file (well-framed file written-well) ∙ ap Framed layout_is

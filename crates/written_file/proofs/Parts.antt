@@ -8,12 +8,12 @@ use lib.Seq.{get_or-append-add}
 use Rattle.folds.specs.Lists.{All}
 use Rattle.folds.proofs.Lists.{past_end}
 use Rattle.cells.specs.Points.{Point, nowhere}
-use Rattle.sheet_file.specs.Bytes.{Bytes, le32, littleEndian}
+use Rattle.sheet_file.specs.Bytes.{Bytes, le32, little_endian}
 use Rattle.sheet_file.proofs.Words.{SameBytes, bytes-join, le32-same}
-use Rattle.points.specs.Records.{pointIn}
+use Rattle.points.specs.Records.{point_in}
 use Rattle.points.proofs.Located.{point-same}
 use Rattle.ruling.proofs.Standing.{Words}
-use Rattle.written_file.specs.File.{pointBytes, pointsBytes, strengthBytes}
+use Rattle.written_file.specs.File.{point_bytes, points_bytes, strength_bytes}
 
 -- ---- two lists
 
@@ -28,7 +28,7 @@ module _ (a l : List ℕ) where
   pub word_after : (at k : ℕ) → at ≡ length a + k → le32 (a ++ l) at ≡ le32 l k
   word_after at k e = rw e (le32-same l k (a ++ l) (length a + k) (second-part 4 k))
 
-  pub point-after : (at k w : ℕ) → at ≡ length a + k → pointIn (a ++ l) at w ≡ pointIn l k w
+  pub point-after : (at k w : ℕ) → at ≡ length a + k → point_in (a ++ l) at w ≡ point_in l k w
   point-after at k w e = rw e (point-same l k (a ++ l) (length a + k) w (second-part 20 k))
 
 pub no_bytes : Bytes []
@@ -44,11 +44,11 @@ from_bytes b h =
     let fourth : b / 16777216 % 256 ≡ b / 16777216 = omega arith in
     omega (arith, first, second, third, fourth)
 
-pub word-there : (b : ℕ) (l : List ℕ) → b < 2 ^ 32 → le32 (littleEndian b ++ l) 0 ≡ b
+pub word-there : (b : ℕ) (l : List ℕ) → b < 2 ^ 32 → le32 (little_endian b ++ l) 0 ≡ b
 unfolding le32
 word-there b l h = from_bytes b h
 
-word_bytes : (b : ℕ) → Bytes (littleEndian b)
+word_bytes : (b : ℕ) → Bytes (little_endian b)
 word_bytes b zero = omega arith
 word_bytes b (suc zero) = omega arith
 word_bytes b (suc (suc zero)) = omega arith
@@ -58,15 +58,15 @@ word_bytes b (suc (suc (suc (suc k)))) = no_bytes k
 -- the four bytes of each of some numbers
 abbrev words : List ℕ → List ℕ
 words [] = []
-words (b ∷ l) = littleEndian b ++ words l
+words (b ∷ l) = little_endian b ++ words l
 
 pub words-bytes : (l r : List ℕ) → Bytes r → Bytes (words l ++ r)
 words-bytes [] r h = h
-words-bytes (b ∷ l) r h = bytes-join (littleEndian b) (words l ++ r) (word_bytes b) (words-bytes l r h)
+words-bytes (b ∷ l) r h = bytes-join (little_endian b) (words l ++ r) (word_bytes b) (words-bytes l r h)
 
 -- ---- records
 
-pub records-length : (ps : List Point) → length (pointsBytes ps) ≡ 20 * length ps
+pub records-length : (ps : List Point) → length (points_bytes ps) ≡ 20 * length ps
 records-length [] = refl
 records-length (p ∷ ps) = omega (arith, records-length ps)
 
@@ -74,32 +74,32 @@ records-length (p ∷ ps) = omega (arith, records-length ps)
 abbrev pub weighing : Point → ℕ → Point
 weighing p w = record { u = p.u; v = p.v; index = p.index; x = p.x; y = p.y; strength = w }
 
-record-there : (p : Point) (l : List ℕ) (w : ℕ) → Words p → pointIn (pointBytes p ++ l) 0 w ≡ weighing p w
+record-there : (p : Point) (l : List ℕ) (w : ℕ) → Words p → point_in (point_bytes p ++ l) 0 w ≡ weighing p w
 unfolding le32
 record-there p l w h = rw (from_bytes p.u h.u, from_bytes p.v h.v, from_bytes p.index h.index, from_bytes p.x h.x, from_bytes p.y h.y)
 
 -- point i of a list is read of its records
-pub records-there : (ps : List Point) (l : List ℕ) (w : ℕ) → All Words ps → (i : ℕ) → i < length ps → pointIn (pointsBytes ps ++ l) (20 * i) w ≡ weighing (get_or ps i nowhere) w
+pub records-there : (ps : List Point) (l : List ℕ) (w : ℕ) → All Words ps → (i : ℕ) → i < length ps → point_in (points_bytes ps ++ l) (20 * i) w ≡ weighing (get_or ps i nowhere) w
 records-there [] l w h i b = absurd (omega arith)
-records-there (p ∷ ps) l w h zero b = record-there p (pointsBytes ps ++ l) w h.0
-records-there (p ∷ ps) l w h (suc i) b = point-after (pointBytes p) (pointsBytes ps ++ l) (20 * suc i) (20 * i) w (omega arith) ∙ records-there ps l w h.1 i (omega arith)
+records-there (p ∷ ps) l w h zero b = record-there p (points_bytes ps ++ l) w h.0
+records-there (p ∷ ps) l w h (suc i) b = point-after (point_bytes p) (points_bytes ps ++ l) (20 * suc i) (20 * i) w (omega arith) ∙ records-there ps l w h.1 i (omega arith)
 
-pub records-bytes : (ps : List Point) → Bytes (pointsBytes ps)
+pub records-bytes : (ps : List Point) → Bytes (points_bytes ps)
 records-bytes [] = no_bytes
-records-bytes (p ∷ ps) = words-bytes (p.u ∷ p.v ∷ p.index ∷ p.x ∷ p.y ∷ []) (pointsBytes ps) (records-bytes ps)
+records-bytes (p ∷ ps) = words-bytes (p.u ∷ p.v ∷ p.index ∷ p.x ∷ p.y ∷ []) (points_bytes ps) (records-bytes ps)
 
 -- ---- strengths
 
-pub strengths-length : (ps : List Point) → length (strengthBytes ps) ≡ 4 * length ps
+pub strengths-length : (ps : List Point) → length (strength_bytes ps) ≡ 4 * length ps
 strengths-length [] = refl
 strengths-length (p ∷ ps) = omega (arith, strengths-length ps)
 
 -- strength i of a list is read of its strengths
-pub strengths-there : (ps : List Point) → All Words ps → (i : ℕ) → i < length ps → le32 (strengthBytes ps) (4 * i) ≡ (get_or ps i nowhere).strength
+pub strengths-there : (ps : List Point) → All Words ps → (i : ℕ) → i < length ps → le32 (strength_bytes ps) (4 * i) ≡ (get_or ps i nowhere).strength
 strengths-there [] h i b = absurd (omega arith)
-strengths-there (p ∷ ps) h zero b = word-there p.strength (strengthBytes ps) h.0.strength
-strengths-there (p ∷ ps) h (suc i) b = word_after (littleEndian p.strength) (strengthBytes ps) (4 * suc i) (4 * i) (omega arith) ∙ strengths-there ps h.1 i (omega arith)
+strengths-there (p ∷ ps) h zero b = word-there p.strength (strength_bytes ps) h.0.strength
+strengths-there (p ∷ ps) h (suc i) b = word_after (little_endian p.strength) (strength_bytes ps) (4 * suc i) (4 * i) (omega arith) ∙ strengths-there ps h.1 i (omega arith)
 
-pub strengths-bytes : (ps : List Point) → Bytes (strengthBytes ps)
+pub strengths-bytes : (ps : List Point) → Bytes (strength_bytes ps)
 strengths-bytes [] = no_bytes
-strengths-bytes (p ∷ ps) = words-bytes (p.strength ∷ []) (strengthBytes ps) (strengths-bytes ps)
+strengths-bytes (p ∷ ps) = words-bytes (p.strength ∷ []) (strength_bytes ps) (strengths-bytes ps)

@@ -10,79 +10,79 @@ use lib.ListN.{length, get_or, get_or-append}
 use lib.Ieee.{Float}
 use borrow.Author.Tests.{lt-ltb, le-ltb, eq-eqb}
 use Rattle.folds.specs.Arith.{f32}
-use Rattle.folds.specs.Among.{anyIn}
+use Rattle.folds.specs.Among.{any_in}
 use Rattle.folds.specs.Lists.{All}
 use Rattle.folds.proofs.Lists.{is-list}
-use Rattle.view.specs.View.{maxPoints}
+use Rattle.view.specs.View.{max_points}
 use Rattle.refusals.proofs.Laws.{holds, first-given, none_passes}
 use Rattle.cells.specs.Points.{Point, nowhere}
-use Rattle.sheet_file.specs.Bytes.{Bytes, byte_at, le16, le32, littleEndian}
+use Rattle.sheet_file.specs.Bytes.{Bytes, byte_at, le16, le32, little_endian}
 use Rattle.sheet_file.specs.Grammar.{field}
 use Rattle.sheet_file.specs.Limit.{outside}
-use Rattle.sheet_file.specs.Refusals.{float_at, defaultsFor, settingsIn, edgeShapeOf, fractionIn, fractionOf, settingsOf, badFlag, badFloat, headerRefusals}
+use Rattle.sheet_file.specs.Refusals.{float_at, defaults_for, settings_in, edge_shape_of, fraction_in, fraction_of, settings_of, bad_flag, bad_float, header_refusals}
 use Rattle.sheet_file.specs.declared.EdgeGate.TheVariants.{Off}
 use Rattle.sheet_file.specs.declared.Fraction.{Fraction}
 use Rattle.sheet_file.specs.declared.Framing.TheVariants.{Framed}
 use Rattle.sheet_file.specs.declared.Layout.{Layout}
 use Rattle.sheet_file.specs.declared.Settings.{Settings}
 use Rattle.sheet_file.proofs.Words.{bytes-join, le16-same, le32-same}
-use Rattle.points.specs.Records.{pointIn, ithPoint, pointsIn}
-use Rattle.ruling.specs.Ruling.{refused, rulingFor, points_of, rulingOf}
+use Rattle.points.specs.Records.{point_in, ith_point, points_in}
+use Rattle.ruling.specs.Ruling.{refused, ruling_for, points_of, ruling_of}
 use Rattle.ruling.proofs.Given.{by-points}
 use Rattle.ruling.proofs.Limit.{more-refused}
 use Rattle.ruling.proofs.Standing.{Words}
-use Rattle.written_file.specs.File.{pointsBytes, strengthBytes, weights, weighedFile}
+use Rattle.written_file.specs.File.{points_bytes, strength_bytes, weights, weighed_file}
 use Rattle.written_file.proofs.Parts.{first_part, word_after, point-after, word-there, words-bytes, weighing, records-length, records-there, records-bytes, strengths-length, strengths-there, strengths-bytes}
-use Rattle.written_file.proofs.Framed.{SettingsSize, layoutFor, written-well, framed}
+use Rattle.written_file.proofs.Framed.{SettingsSize, layout_for, written-well, framed}
 
 -- the data of tag 4
-abbrev weightData : ℕ → List Point → List ℕ
-weightData fraction ps = littleEndian fraction ++ strengthBytes ps
+abbrev weight_data : ℕ → List Point → List ℕ
+weight_data fraction ps = little_endian fraction ++ strength_bytes ps
 
 -- what stands before the data of a field: its tag and length
 abbrev head_of : ℕ → List ℕ → List ℕ
 head_of tag body = tag ∷ length body % 256 ∷ length body / 256 ∷ []
 
 -- the settings in the data of tag 1, with this fraction and without tag 2
-abbrev pub settingsFor : List ℕ → ℕ → Settings
-settingsFor settings fraction =
-    cond (eqb (length settings) 21) (settingsIn (field 1 settings) Off (fractionIn (f32 fraction))) (defaultsFor (float_at (field 1 settings) 3) Off (fractionIn (f32 fraction)))
+abbrev pub settings_for : List ℕ → ℕ → Settings
+settings_for settings fraction =
+    cond (eqb (length settings) 21) (settings_in (field 1 settings) Off (fraction_in (f32 fraction))) (defaults_for (float_at (field 1 settings) 3) Off (fraction_in (f32 fraction)))
 
 module _ (settings : List ℕ) (fraction : ℕ) (ps : List Point) where
   abbrev file : List ℕ
-  file = weighedFile settings fraction ps
+  file = weighed_file settings fraction ps
 
   abbrev f : Layout
-  f = layoutFor settings ps
+  f = layout_for settings ps
 
   -- what stands after tag 1
   abbrev rest : List ℕ
-  rest = field 3 (pointsBytes ps) ++ weights fraction ps
+  rest = field 3 (points_bytes ps) ++ weights fraction ps
 
   -- ---- the points
 
   -- the words of tag 4
-  weight-word : (at k : ℕ) → at ≡ f.strengths + k → le32 file at ≡ le32 (weightData fraction ps) k
+  weight-word : (at k : ℕ) → at ≡ f.strengths + k → le32 file at ≡ le32 (weight_data fraction ps) k
   weight-word at k e =
       word_after (field 1 settings) rest at (3 + 20 * length ps + 3 + k) (omega arith)
-      ∙ word_after (field 3 (pointsBytes ps)) (weights fraction ps) (3 + 20 * length ps + 3 + k) (3 + k) (omega (arith, records-length ps))
-      ∙ word_after (head_of 4 (weightData fraction ps)) (weightData fraction ps) (3 + k) k refl
+      ∙ word_after (field 3 (points_bytes ps)) (weights fraction ps) (3 + 20 * length ps + 3 + k) (3 + k) (omega (arith, records-length ps))
+      ∙ word_after (head_of 4 (weight_data fraction ps)) (weight_data fraction ps) (3 + k) k refl
 
   module _ (words : All Words ps) where
     strength-read : (i : ℕ) → i < length ps → le32 file (f.strengths + 4 + 4 * i) ≡ (get_or ps i nowhere).strength
     strength-read i h =
         weight-word (f.strengths + 4 + 4 * i) (4 + 4 * i) (omega arith)
-        ∙ word_after (littleEndian fraction) (strengthBytes ps) (4 + 4 * i) (4 * i) refl ∙ strengths-there ps words i h
+        ∙ word_after (little_endian fraction) (strength_bytes ps) (4 + 4 * i) (4 * i) refl ∙ strengths-there ps words i h
 
-    record-read : (i w : ℕ) → i < length ps → pointIn file (f.points + 20 * i) w ≡ weighing (get_or ps i nowhere) w
+    record-read : (i w : ℕ) → i < length ps → point_in file (f.points + 20 * i) w ≡ weighing (get_or ps i nowhere) w
     record-read i w h =
         point-after (field 1 settings) rest (f.points + 20 * i) (3 + 20 * i) w (omega arith)
-        ∙ point-after (head_of 3 (pointsBytes ps)) (pointsBytes ps ++ weights fraction ps) (3 + 20 * i) (20 * i) w refl
+        ∙ point-after (head_of 3 (points_bytes ps)) (points_bytes ps ++ weights fraction ps) (3 + 20 * i) (20 * i) w refl
         ∙ records-there ps (weights fraction ps) w words i h
 
-    pub points-back : pointsIn file f ≡ ps
-    unfolding pointsIn
-    points-back = sym (is-list nowhere (length ps) (ithPoint file f) ps refl (λ k h. sym (record-read k (le32 file (f.strengths + 4 + 4 * k)) h ∙ ap (weighing (get_or ps k nowhere)) (strength-read k h))))
+    pub points-back : points_in file f ≡ ps
+    unfolding points_in
+    points-back = sym (is-list nowhere (length ps) (ith_point file f) ps refl (λ k h. sym (record-read k (le32 file (f.strengths + 4 + 4 * k)) h ∙ ap (weighing (get_or ps k nowhere)) (strength-read k h))))
 
     -- the points of the file, as it lists them
     pub points-read : SettingsSize settings → points_of file ≡ ps
@@ -104,8 +104,8 @@ module _ (settings : List ℕ) (fraction : ℕ) (ps : List Point) where
   header-byte k h = get_or-append header rest 0 k (omega arith)
 
   -- of all 21 bytes
-  full-settings : (x : Fraction) → length settings ≡ 21 → settingsIn file Off x ≡ settingsIn header Off x
-  unfolding settingsIn
+  full-settings : (x : Fraction) → length settings ≡ 21 → settings_in file Off x ≡ settings_in header Off x
+  unfolding settings_in
   full-settings x e =
       rw (
         header-word 3 (omega arith),
@@ -119,34 +119,34 @@ module _ (settings : List ℕ) (fraction : ℕ) (ps : List Point) where
       )
 
   module _ (small : fraction < 2 ^ 32) where
-    fraction-read : fractionOf file f ≡ fractionIn (f32 fraction)
-    unfolding fractionOf
-    fraction-read = rw (weight-word f.strengths 0 (omega arith) ∙ word-there fraction (strengthBytes ps) small)
+    fraction-read : fraction_of file f ≡ fraction_in (f32 fraction)
+    unfolding fraction_of
+    fraction-read = rw (weight-word f.strengths 0 (omega arith) ∙ word-there fraction (strength_bytes ps) small)
 
-    pub settings-read : SettingsSize settings → settingsOf file f ≡ settingsFor settings fraction
-    unfolding settingsOf edgeShapeOf
-    settings-read (inl e) = rw (fraction-read, eq-eqb (length settings) 21 e) (full-settings (fractionIn (f32 fraction)) e)
+    pub settings-read : SettingsSize settings → settings_of file f ≡ settings_for settings fraction
+    unfolding settings_of edge_shape_of
+    settings-read (inl e) = rw (fraction-read, eq-eqb (length settings) 21 e) (full-settings (fraction_in (f32 fraction)) e)
     settings-read (inr e) = rw (fraction-read, header-word 3 (omega arith), e)
 
   -- ---- the refusals of the header
 
-  flags-read : SettingsSize settings → badFlag file f ≡ badFlag header f
-  unfolding badFlag
+  flags-read : SettingsSize settings → bad_flag file f ≡ bad_flag header f
+  unfolding bad_flag
   flags-read (inl e) = rw (header-byte 17 (omega arith), header-byte 22 (omega arith), header-byte 23 (omega arith))
   flags-read (inr e) = rw e
 
-  floats-read : SettingsSize settings → badFloat file f ≡ badFloat header f
-  unfolding badFloat
+  floats-read : SettingsSize settings → bad_float file f ≡ bad_float header f
+  unfolding bad_float
   floats-read (inl e) = rw (header-word 3 (omega arith), header-word 7 (omega arith), header-word 13 (omega arith), header-word 18 (omega arith))
   floats-read (inr e) = rw (header-word 3 (omega arith), e)
 
-  module _ (room : ℕ) (few : length ps ≤ maxPoints) (enough : 28 * length ps ≤ room) (size : SettingsSize settings) (flags : badFlag header f ≡ false) (floats : badFloat header f ≡ false) where
-    header-passes : anyIn holds (headerRefusals file room (Framed f)) ≡ false
-    unfolding headerRefusals
+  module _ (room : ℕ) (few : length ps ≤ max_points) (enough : 28 * length ps ≤ room) (size : SettingsSize settings) (flags : bad_flag header f ≡ false) (floats : bad_float header f ≡ false) where
+    header-passes : any_in holds (header_refusals file room (Framed f)) ≡ false
+    unfolding header_refusals
     header-passes =
         rw (
           eq-eqb (4 + 4 * length ps) (4 + 4 * length ps) refl,
-          le-ltb maxPoints (length ps) few,
+          le-ltb max_points (length ps) few,
           le-ltb room (28 * length ps) enough,
           flags-read size,
           flags,
@@ -155,48 +155,48 @@ module _ (settings : List ℕ) (fraction : ℕ) (ps : List Point) where
         )
 
     -- the file is ruled by the points that were written, with these settings
-    pub ruled-by-points : All Words ps → fraction < 2 ^ 32 → rulingOf file room ≡ rulingFor (settingsFor settings fraction) ps
+    pub ruled-by-points : All Words ps → fraction < 2 ^ 32 → ruling_of file room ≡ ruling_for (settings_for settings fraction) ps
     ruled-by-points words small =
         by-points file room
-        ∙ rw (framed settings fraction ps size, settings-read small size, points-back words) (none_passes refused (rulingFor (settingsFor settings fraction) ps) (headerRefusals file room (Framed f)) header-passes)
+        ∙ rw (framed settings fraction ps size, settings-read small size, points-back words) (none_passes refused (ruling_for (settings_for settings fraction) ps) (header_refusals file room (Framed f)) header-passes)
 
 -- ---- settings of length 4
 
 module _ (settings : List ℕ) (fraction : ℕ) (ps : List Point) (size : length settings ≡ 4) where
-  abbrev cellSize : Float
-  cellSize = f32 (le32 settings 0)
+  abbrev cell_size : Float
+  cell_size = f32 (le32 settings 0)
 
   abbrev short : Settings
-  short = defaultsFor cellSize Off (fractionIn (f32 fraction))
+  short = defaults_for cell_size Off (fraction_in (f32 fraction))
 
   first_word : le32 (field 1 settings) 3 ≡ le32 settings 0
   first_word = word_after (head_of 1 settings) settings 3 0 refl
 
-  short-settings : settingsFor settings fraction ≡ short
+  short-settings : settings_for settings fraction ≡ short
   short-settings = rw (first_word, size)
 
   -- none of 1, 12, 2, 3, 4 and 5 applies
-  pub ruled : (room : ℕ) → length ps ≤ maxPoints → All Words ps → fraction < 2 ^ 32 → 28 * length ps ≤ room → outside cellSize ≡ false → rulingOf (weighedFile settings fraction ps) room ≡ rulingFor short ps
-  unfolding badFlag badFloat
+  pub ruled : (room : ℕ) → length ps ≤ max_points → All Words ps → fraction < 2 ^ 32 → 28 * length ps ≤ room → outside cell_size ≡ false → ruling_of (weighed_file settings fraction ps) room ≡ ruling_for short ps
+  unfolding bad_flag bad_float
   ruled room few words small enough inside =
       ruled-by-points settings fraction ps room few enough (inr size) (rw size) (rw (first_word, inside, size)) words small ∙ rw short-settings
 
 -- ---- the limits of a list and of a result buffer
 
 -- more points than the limit are refused with 2
-pub many-refused : (settings : List ℕ) (fraction : ℕ) (ps : List Point) (room : ℕ) → SettingsSize settings → maxPoints < length ps → rulingOf (weighedFile settings fraction ps) room ≡ refused 2
+pub many-refused : (settings : List ℕ) (fraction : ℕ) (ps : List Point) (room : ℕ) → SettingsSize settings → max_points < length ps → ruling_of (weighed_file settings fraction ps) room ≡ refused 2
 many-refused settings fraction ps room size h =
-    more-refused (weighedFile settings fraction ps) room (written-well settings fraction ps size) (inr (omega (arith, records-length ps, strengths-length ps))) (omega (arith, records-length ps))
+    more-refused (weighed_file settings fraction ps) room (written-well settings fraction ps size) (inr (omega (arith, records-length ps, strengths-length ps))) (omega (arith, records-length ps))
 
 -- and fewer in a buffer without room for their rows with 3
-pub room-refused : (settings : List ℕ) (fraction : ℕ) (ps : List Point) (room : ℕ) → SettingsSize settings → length ps ≤ maxPoints → room < 28 * length ps → rulingOf (weighedFile settings fraction ps) room ≡ refused 3
-unfolding headerRefusals
+pub room-refused : (settings : List ℕ) (fraction : ℕ) (ps : List Point) (room : ℕ) → SettingsSize settings → length ps ≤ max_points → room < 28 * length ps → ruling_of (weighed_file settings fraction ps) room ≡ refused 3
+unfolding header_refusals
 room-refused settings fraction ps room size few h =
-    let file = weighedFile settings fraction ps in
-    let f = layoutFor settings ps in
+    let file = weighed_file settings fraction ps in
+    let f = layout_for settings ps in
     by-points file room
     ∙ rw (framed settings fraction ps size)
-    (first-given refused (rulingFor (settingsOf file f) (pointsIn file f)) (headerRefusals file room (Framed f)) 3 (lt-ltb room (28 * length ps) h) (rw (eq-eqb (4 + 4 * length ps) (4 + 4 * length ps) refl, le-ltb maxPoints (length ps) few)))
+    (first-given refused (ruling_for (settings_of file f) (points_in file f)) (header_refusals file room (Framed f)) 3 (lt-ltb room (28 * length ps) h) (rw (eq-eqb (4 + 4 * length ps) (4 + 4 * length ps) refl, le-ltb max_points (length ps) few)))
 
 -- ---- bytes
 
@@ -207,11 +207,11 @@ field-bytes tag body t l h (suc zero) = omega arith
 field-bytes tag body t l h (suc (suc zero)) = omega arith
 field-bytes tag body t l h (suc (suc (suc k))) = h k
 
-pub bytes_back : (settings : List ℕ) (fraction : ℕ) (ps : List Point) → SettingsSize settings → Bytes settings → length ps ≤ maxPoints → Bytes (weighedFile settings fraction ps)
+pub bytes_back : (settings : List ℕ) (fraction : ℕ) (ps : List Point) → SettingsSize settings → Bytes settings → length ps ≤ max_points → Bytes (weighed_file settings fraction ps)
 bytes_back settings fraction ps size b few =
-    bytes-join (field 1 settings) (field 3 (pointsBytes ps) ++ weights fraction ps) (field-bytes 1 settings (omega arith) (short size) b)
-    (bytes-join (field 3 (pointsBytes ps)) (weights fraction ps) (field-bytes 3 (pointsBytes ps) (omega arith) (omega (arith, records-length ps)) (records-bytes ps))
-    (field-bytes 4 (weightData fraction ps) (omega arith) (omega (arith, strengths-length ps)) (words-bytes (fraction ∷ []) (strengthBytes ps) (strengths-bytes ps))))
+    bytes-join (field 1 settings) (field 3 (points_bytes ps) ++ weights fraction ps) (field-bytes 1 settings (omega arith) (short size) b)
+    (bytes-join (field 3 (points_bytes ps)) (weights fraction ps) (field-bytes 3 (points_bytes ps) (omega arith) (omega (arith, records-length ps)) (records-bytes ps))
+    (field-bytes 4 (weight_data fraction ps) (omega arith) (omega (arith, strengths-length ps)) (words-bytes (fraction ∷ []) (strength_bytes ps) (strengths-bytes ps))))
   where
     short : SettingsSize settings → length settings < 65536
     short (inl e) = omega arith

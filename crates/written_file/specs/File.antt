@@ -1,30 +1,30 @@
 -- The bytes of a sheet file: its fields, one after the other. Assumes nothing.
 use Rattle.std.specs.Prelude.{List, [], ◌∷◌, ◌++◌, ℕ}
 use Rattle.cells.specs.Points.{Point}
-use Rattle.sheet_file.specs.Bytes.{littleEndian}
+use Rattle.sheet_file.specs.Bytes.{little_endian}
 use Rattle.sheet_file.specs.Grammar.{field}
 
 -- "each point is u i32, v i32, index u32, x f32, y f32"
-abbrev pub pointBytes : Point → List ℕ
-pointBytes p = littleEndian p.u ++ littleEndian p.v ++ littleEndian p.index ++ littleEndian p.x ++ littleEndian p.y
+abbrev pub point_bytes : Point → List ℕ
+point_bytes p = little_endian p.u ++ little_endian p.v ++ little_endian p.index ++ little_endian p.x ++ little_endian p.y
 
-abbrev pub pointsBytes : List Point → List ℕ
-pointsBytes [] = []
-pointsBytes (p ∷ ps) = pointBytes p ++ pointsBytes ps
+abbrev pub points_bytes : List Point → List ℕ
+points_bytes [] = []
+points_bytes (p ∷ ps) = point_bytes p ++ points_bytes ps
 
 -- "one strength f32 per point, in the points' order"
-abbrev pub strengthBytes : List Point → List ℕ
-strengthBytes [] = []
-strengthBytes (p ∷ ps) = littleEndian p.strength ++ strengthBytes ps
+abbrev pub strength_bytes : List Point → List ℕ
+strength_bytes [] = []
+strength_bytes (p ∷ ps) = little_endian p.strength ++ strength_bytes ps
 
 -- "Tag 4, optional, after tag 3, carries a fraction f32 and one strength f32 per point": with the fraction of this pattern
 abbrev pub weights : ℕ → List Point → List ℕ
-weights fraction ps = field 4 (littleEndian fraction ++ strengthBytes ps)
+weights fraction ps = field 4 (little_endian fraction ++ strength_bytes ps)
 
 -- the file with these data of tag 1, no tag 2, and these points, in this order
-abbrev pub unweighedFile : List ℕ → List Point → List ℕ
-unweighedFile settings ps = field 1 settings ++ field 3 (pointsBytes ps)
+abbrev pub unweighed_file : List ℕ → List Point → List ℕ
+unweighed_file settings ps = field 1 settings ++ field 3 (points_bytes ps)
 
 -- and with tag 4
-abbrev pub weighedFile : List ℕ → ℕ → List Point → List ℕ
-weighedFile settings fraction ps = field 1 settings ++ (field 3 (pointsBytes ps) ++ weights fraction ps)
+abbrev pub weighed_file : List ℕ → ℕ → List Point → List ℕ
+weighed_file settings fraction ps = field 1 settings ++ (field 3 (points_bytes ps) ++ weights fraction ps)

@@ -11,7 +11,7 @@ use borrow.Author.Tests.{leb-true, ltb-true, lt-ltb, le-ltb, ne_eqb}
 use lib.ListN.{length, get_or}
 use lib.Ieee.{Float, nan, lt, of_bits}
 use lib.Ieee.Positive.{positive as positive-float}
-use Rattle.folds.specs.Arith.{◌⊗◌, zeroF}
+use Rattle.folds.specs.Arith.{◌⊗◌, zero_f}
 use Rattle.folds.specs.Below.{tally, sum_of, some}
 use Rattle.folds.proofs.Below.{tally-more, sum_more, sum-ext, some-ext, some-no, and-false, and-under, and_left, and_right}
 use Rattle.folds.specs.Lists.{listed}
@@ -20,36 +20,36 @@ use Rattle.folds.specs.Column.{column}
 use Rattle.folds.proofs.Column.{column-at}
 use Rattle.folds.specs.Marked.{Marked}
 use Rattle.folds.proofs.Marked.{marked-as}
-use Rattle.float.specs.Constants.{overlongRatio, globalOverlongRatio}
-use Rattle.median.specs.Median.{medianOf}
+use Rattle.float.specs.Constants.{overlong_ratio, global_overlong_ratio}
+use Rattle.median.specs.Median.{median_of}
 use Rattle.median.proofs.Median.{over-median-of}
 use Rattle.median.specs.Packed.{positives}
 use Rattle.offsets.specs.declared.Offset.{Offset}
-use Rattle.offsets.specs.Offsets.{own, isNear, place_of, offset_of}
+use Rattle.offsets.specs.Offsets.{own, is_near, place_of, offset_of}
 use Rattle.offsets.proofs.Places.{offset_near}
-use Rattle.view.specs.View.{View, maxPoints, viewAt, rank_at, present}
+use Rattle.view.specs.View.{View, max_points, view_at, rank_at, present}
 use Rattle.edges.specs.declared.Edge.{Edge}
-use Rattle.edges.specs.Edges.{edge_at, side, part_of, edgesOf, edgePlace}
+use Rattle.edges.specs.Edges.{edge_at, side, part_of, edges_of, edge_place}
 use Rattle.edges.proofs.Laws.{edge-part}
-use Rattle.wrong_label_filters.specs.Judged.{positiveEdge, inWindow, windowLens, sheetLens, windowX, windowY, overlong, offAxis, fails, endOfFailing, edgeMark}
-use Rattle.wrong_label_filters.specs.Windows.{tableEdge, isUnder, windowTo, withEdgeAt, positiveLens, failingEnds}
+use Rattle.wrong_label_filters.specs.Judged.{positive_edge, in_window, window_lens, sheet_lens, window_x, window_y, overlong, off_axis, fails, end_of_failing, edge_mark}
+use Rattle.wrong_label_filters.specs.Windows.{table_edge, is_under, window_to, with_edge_at, positive_lens, failing_ends}
 use Rattle.wrong_label_filters.specs.declared.judged_edges.Window.{Window}
 
 cond-ext : (b : Bool) {x x' y y' : Bool} → (b ≡ true → x ≡ x') → y ≡ y' → cond b x y ≡ cond b x' y'
 cond-ext true p q = p refl
 cond-ext false p q = q
 
-ratio-positive : T (positive-float overlongRatio)
+ratio-positive : T (positive-float overlong_ratio)
 unfolding of_bits
 ratio-positive = tt
 
-over-is : (r : Float) (l : List Float) (x : Float) → overlong r l x ≡ lt (r ⊗ medianOf l) x
+over-is : (r : Float) (l : List Float) (x : Float) → overlong r l x ≡ lt (r ⊗ median_of l) x
 unfolding overlong
 over-is r l x = refl
 
 module _ (w : View) (E : ℕ → Edge) where
-  sheet-is : sheetLens w E ≡ positiveLens E w.count
-  unfolding sheetLens
+  sheet-is : sheet_lens w E ≡ positive_lens E w.count
+  unfolding sheet_lens
   sheet-is = refl
 
   module _ (k : ℕ) where
@@ -57,28 +57,28 @@ module _ (w : View) (E : ℕ → Edge) where
     abbrev at : ℕ → Edge
     at i = E (rank_at w k (offset_of i))
 
-    abbrev sumX : ℕ → Float
-    sumX j = sum_of (inWindow w E k) (λ i. (at i).ux) j
+    abbrev sum_x : ℕ → Float
+    sum_x j = sum_of (in_window w E k) (λ i. (at i).ux) j
 
-    abbrev sumY : ℕ → Float
-    sumY j = sum_of (inWindow w E k) (λ i. (at i).uy) j
+    abbrev sum_y : ℕ → Float
+    sum_y j = sum_of (in_window w E k) (λ i. (at i).uy) j
 
-    lens-are : windowLens w E k ≡ listed (inWindow w E k) (λ i. (at i).len) 25
-    unfolding windowLens
+    lens-are : window_lens w E k ≡ listed (in_window w E k) (λ i. (at i).len) 25
+    unfolding window_lens
     lens-are = refl
 
-    x-is : windowX w E k ≡ sumX 25
-    unfolding windowX
+    x-is : window_x w E k ≡ sum_x 25
+    unfolding window_x
     x-is = refl
 
-    y-is : windowY w E k ≡ sumY 25
-    unfolding windowY
+    y-is : window_y w E k ≡ sum_y 25
+    unfolding window_y
     y-is = refl
 
     pub fails-is : fails w E k
-        ≡ positiveEdge w E k && cond (leb 5 (length (windowLens w E k)))
-        (overlong overlongRatio (windowLens w E k) (E k).len || offAxis (windowX w E k) (windowY w E k) (E k).ux (E k).uy)
-        (leb 8 (length (sheetLens w E)) && overlong globalOverlongRatio (sheetLens w E) (E k).len)
+        ≡ positive_edge w E k && cond (leb 5 (length (window_lens w E k)))
+        (overlong overlong_ratio (window_lens w E k) (E k).len || off_axis (window_x w E k) (window_y w E k) (E k).ux (E k).uy)
+        (leb 8 (length (sheet_lens w E)) && overlong global_overlong_ratio (sheet_lens w E) (E k).len)
     unfolding fails
     fails-is = refl
 
@@ -86,102 +86,102 @@ module _ (w : View) (E : ℕ → Edge) where
 
     module _ (len : Float) where
       abbrev unders : ℕ → ℕ
-      unders j = tally (λ i. inWindow w E k i && isUnder w E k len i) j
+      unders j = tally (λ i. in_window w E k i && is_under w E k len i) j
 
-      window-is : (j : ℕ) → windowTo w E k len j ≡ record { count = tally (inWindow w E k) j; under = unders j; sx = sumX j; sy = sumY j }
-      unfolding windowTo
+      window-is : (j : ℕ) → window_to w E k len j ≡ record { count = tally (in_window w E k) j; under = unders j; sx = sum_x j; sy = sum_y j }
+      unfolding window_to
       window-is j = refl
 
-      pub window-none : record { count = 0; under = 0; sx = zeroF; sy = zeroF } ≡ windowTo w E k len 0
-      unfolding windowTo tally sum_of
+      pub window-none : record { count = 0; under = 0; sx = zero_f; sy = zero_f } ≡ window_to w E k len 0
+      unfolding window_to tally sum_of
       window-none = refl
 
-      pub window_more : (j : ℕ) → windowTo w E k len (j + 1) ≡ withEdgeAt w E k len j (windowTo w E k len j)
-      unfolding windowTo
+      pub window_more : (j : ℕ) → window_to w E k len (j + 1) ≡ with_edge_at w E k len j (window_to w E k len j)
+      unfolding window_to
       window_more j =
-          rw (tally-more (inWindow w E k) j, tally-more (λ i. inWindow w E k i && isUnder w E k len i) j, sum_more (inWindow w E k) (λ i. (at i).ux) j, sum_more (inWindow w E k) (λ i. (at i).uy) j)
+          rw (tally-more (in_window w E k) j, tally-more (λ i. in_window w E k i && is_under w E k len i) j, sum_more (in_window w E k) (λ i. (at i).ux) j, sum_more (in_window w E k) (λ i. (at i).uy) j)
 
     -- ---- the verdict, from its window
 
-    in-positive : (i : ℕ) → inWindow w E k i ≡ true → lt zeroF (at i).len ≡ true
-    unfolding inWindow
+    in-positive : (i : ℕ) → in_window w E k i ≡ true → lt zero_f (at i).len ≡ true
+    unfolding in_window
     in-positive i p =
         let o = offset_of i in
-        let there = positiveEdge w E (rank_at w k o) in
+        let there = positive_edge w E (rank_at w k o) in
         and_right (present w k o) there (and_right (not (eqb i (place_of own))) (present w k o && there) p)
 
-    local : leb 5 (tally (inWindow w E k) 25) ≡ true → overlong overlongRatio (windowLens w E k) (E k).len ≡ ltb (tally (inWindow w E k) 25 / 2) (unders (E k).len 25)
+    local : leb 5 (tally (in_window w E k) 25) ≡ true → overlong overlong_ratio (window_lens w E k) (E k).len ≡ ltb (tally (in_window w E k) 25 / 2) (unders (E k).len 25)
     local h =
-        over-is overlongRatio (windowLens w E k) (E k).len
-        ∙ ap (λ l. lt (overlongRatio ⊗ medianOf l) (E k).len) lens-are
-        ∙ over-median-of overlongRatio (E k).len ratio-positive (inWindow w E k) (λ i. (at i).len) 25 (λ i l p. in-positive i p) (omega (arith, leb-true 5 (tally (inWindow w E k) 25) h))
+        over-is overlong_ratio (window_lens w E k) (E k).len
+        ∙ ap (λ l. lt (overlong_ratio ⊗ median_of l) (E k).len) lens-are
+        ∙ over-median-of overlong_ratio (E k).len ratio-positive (in_window w E k) (λ i. (at i).len) 25 (λ i l p. in-positive i p) (omega (arith, leb-true 5 (tally (in_window w E k) 25) h))
 
     -- v is the window of rank k's edge, which has the length len, and t the number of positive lengths on the sheet
-    pub fails_by : (len : Float) (v : Window) (t : ℕ) → len ≡ (E k).len → v ≡ windowTo w E k len 25 → t ≡ tally (positiveEdge w E) w.count
+    pub fails_by : (len : Float) (v : Window) (t : ℕ) → len ≡ (E k).len → v ≡ window_to w E k len 25 → t ≡ tally (positive_edge w E) w.count
         → fails w E k
-        ≡ lt zeroF len && cond (leb 5 v.count) (ltb (v.count / 2) v.under || offAxis v.sx v.sy (E k).ux (E k).uy)
-        (leb 8 t && lt (globalOverlongRatio ⊗ medianOf (positiveLens E w.count)) len)
+        ≡ lt zero_f len && cond (leb 5 v.count) (ltb (v.count / 2) v.under || off_axis v.sx v.sy (E k).ux (E k).uy)
+        (leb 8 t && lt (global_overlong_ratio ⊗ median_of (positive_lens E w.count)) len)
     fails_by len v t o e f =
-        let a : length (windowLens w E k) ≡ tally (inWindow w E k) 25 = ap length lens-are ∙ listed-length (inWindow w E k) (λ i. (at i).len) 25 in
-        let b : length (sheetLens w E) ≡ tally (positiveEdge w E) w.count = ap length sheet-is ∙ listed-length (positiveEdge w E) (λ i. (E i).len) w.count in
+        let a : length (window_lens w E k) ≡ tally (in_window w E k) 25 = ap length lens-are ∙ listed-length (in_window w E k) (λ i. (at i).len) 25 in
+        let b : length (sheet_lens w E) ≡ tally (positive_edge w E) w.count = ap length sheet-is ∙ listed-length (positive_edge w E) (λ i. (E i).len) w.count in
         fails-is
         ∙ rw (e ∙ window-is len 25, o, f, a, b, x-is, y-is)
-        (ap (λ r. positiveEdge w E k && r)
-        (cond-ext (leb 5 (tally (inWindow w E k) 25))
-        (λ h. ap (λ r. r || offAxis (sumX 25) (sumY 25) (E k).ux (E k).uy) (local h))
-        (ap (λ r. leb 8 (tally (positiveEdge w E) w.count) && r) (over-is globalOverlongRatio (sheetLens w E) (E k).len ∙ ap (λ l. lt (globalOverlongRatio ⊗ medianOf l) (E k).len) sheet-is))))
+        (ap (λ r. positive_edge w E k && r)
+        (cond-ext (leb 5 (tally (in_window w E k) 25))
+        (λ h. ap (λ r. r || off_axis (sum_x 25) (sum_y 25) (E k).ux (E k).uy) (local h))
+        (ap (λ r. leb 8 (tally (positive_edge w E) w.count) && r) (over-is global_overlong_ratio (sheet_lens w E) (E k).len ∙ ap (λ l. lt (global_overlong_ratio ⊗ median_of l) (E k).len) sheet-is))))
 
 -- the positive lengths, read from a column
-pub column-lens : (E : ℕ → Edge) (n : ℕ) (l : List Float) → l ≡ column maxPoints nan n (λ (k : ℕ). (E k).len) → positives l n ≡ positiveLens E n
+pub column-lens : (E : ℕ → Edge) (n : ℕ) (l : List Float) → l ≡ column max_points nan n (λ (k : ℕ). (E k).len) → positives l n ≡ positive_lens E n
 unfolding positives
 column-lens E n l e =
-    let at : (k : ℕ) → k < n → get_or l k nan ≡ (E k).len = λ k h. rw e (column-at maxPoints nan n (λ (k : ℕ). (E k).len) k h) in
-    listed-ext (λ k. lt zeroF (get_or l k nan)) (λ k. lt zeroF (E k).len) (λ k. get_or l k nan) (λ k. (E k).len) n (λ k h. rw (at k h)) (λ k h p. at k h)
+    let at : (k : ℕ) → k < n → get_or l k nan ≡ (E k).len = λ k h. rw e (column-at max_points nan n (λ (k : ℕ). (E k).len) k h) in
+    listed-ext (λ k. lt zero_f (get_or l k nan)) (λ k. lt zero_f (E k).len) (λ k. get_or l k nan) (λ k. (E k).len) n (λ k h. rw (at k h)) (λ k h p. at k h)
 
 -- ---- what a verdict depends on
 
 -- Two edges whose windows hold the same edges at the same offsets: rank k among the edges E of the one sheet, rank l among F of the other.
 pub record Alike (w v : View) (E F : ℕ → Edge) (k l : ℕ) : Type 0 where
   pub own-edge : E k ≡ F l
-  pub there : (o : Offset) → isNear o ≡ true → present w k o ≡ present v l o
-  pub edges : (o : Offset) → isNear o ≡ true → present v l o ≡ true → E (rank_at w k o) ≡ F (rank_at v l o)
+  pub there : (o : Offset) → is_near o ≡ true → present w k o ≡ present v l o
+  pub edges : (o : Offset) → is_near o ≡ true → present v l o ≡ true → E (rank_at w k o) ≡ F (rank_at v l o)
 
 module _ (w v : View) (E F : ℕ → Edge) (k l : ℕ) (a : Alike w v E F k l) where
-  same-window : (j : ℕ) → j < 25 → inWindow w E k j ≡ inWindow v F l j
-  unfolding inWindow
+  same-window : (j : ℕ) → j < 25 → in_window w E k j ≡ in_window v F l j
+  unfolding in_window
   same-window j h =
       let o = offset_of j in
       let near = offset_near j h in
       ap (λ b. not (eqb j (place_of own)) && b) (rw (a.there o near) (and-under (present v l o) (λ p. rw (a.edges o near p))))
 
-  within : (j : ℕ) → j < 25 → inWindow v F l j ≡ true → E (rank_at w k (offset_of j)) ≡ F (rank_at v l (offset_of j))
-  unfolding inWindow
+  within : (j : ℕ) → j < 25 → in_window v F l j ≡ true → E (rank_at w k (offset_of j)) ≡ F (rank_at v l (offset_of j))
+  unfolding in_window
   within j h p =
       let o = offset_of j in
-      let there = positiveEdge v F (rank_at v l o) in
+      let there = positive_edge v F (rank_at v l o) in
       a.edges o (offset_near j h) (and_left (present v l o) there (and_right (not (eqb j (place_of own))) (present v l o && there) p))
 
-  same-lens : windowLens w E k ≡ windowLens v F l
+  same-lens : window_lens w E k ≡ window_lens v F l
   same-lens =
       lens-are w E k
-      ∙ listed-ext (inWindow w E k) (inWindow v F l) (λ i. (E (rank_at w k (offset_of i))).len) (λ i. (F (rank_at v l (offset_of i))).len) 25 same-window (λ i g p. ap (λ e. e.len) (within i g p))
+      ∙ listed-ext (in_window w E k) (in_window v F l) (λ i. (E (rank_at w k (offset_of i))).len) (λ i. (F (rank_at v l (offset_of i))).len) 25 same-window (λ i g p. ap (λ e. e.len) (within i g p))
       ∙ sym (lens-are v F l)
 
-  same_sum : (part : Edge → Float) → sum_of (inWindow w E k) (λ i. part (E (rank_at w k (offset_of i)))) 25 ≡ sum_of (inWindow v F l) (λ i. part (F (rank_at v l (offset_of i)))) 25
-  same_sum part = sum-ext (inWindow w E k) (inWindow v F l) (λ i. part (E (rank_at w k (offset_of i)))) (λ i. part (F (rank_at v l (offset_of i)))) 25 same-window (λ i g p. ap part (within i g p))
+  same_sum : (part : Edge → Float) → sum_of (in_window w E k) (λ i. part (E (rank_at w k (offset_of i)))) 25 ≡ sum_of (in_window v F l) (λ i. part (F (rank_at v l (offset_of i)))) 25
+  same_sum part = sum-ext (in_window w E k) (in_window v F l) (λ i. part (E (rank_at w k (offset_of i)))) (λ i. part (F (rank_at v l (offset_of i)))) 25 same-window (λ i g p. ap part (within i g p))
 
-  same-x : windowX w E k ≡ windowX v F l
+  same-x : window_x w E k ≡ window_x v F l
   same-x = x-is w E k ∙ same_sum (λ e. e.ux) ∙ sym (x-is v F l)
 
-  same-y : windowY w E k ≡ windowY v F l
+  same-y : window_y w E k ≡ window_y v F l
   same-y = y-is w E k ∙ same_sum (λ e. e.uy) ∙ sym (y-is v F l)
 
   -- with the same lengths on the whole sheet the verdicts are the same
-  pub same-verdict : sheetLens w E ≡ sheetLens v F → fails w E k ≡ fails v F l
+  pub same-verdict : sheet_lens w E ≡ sheet_lens v F → fails w E k ≡ fails v F l
   same-verdict b = fails-is w E k ∙ rw (same-lens, same-x, same-y, b, a.own-edge) (sym (fails-is v F l))
 
   -- An edge that is judged by its own window has the same verdict on every sheet on which its window holds the same edges.
-  pub local-verdict : leb 5 (length (windowLens v F l)) ≡ true → fails w E k ≡ fails v F l
+  pub local-verdict : leb 5 (length (window_lens v F l)) ≡ true → fails w E k ≡ fails v F l
   local-verdict h = fails-is w E k ∙ rw (same-lens, same-x, same-y, h, a.own-edge) (sym (fails-is v F l ∙ rw h))
 
 -- edges that agree below the count have the same verdicts
@@ -189,18 +189,18 @@ same-fails : (w : View) (E F : ℕ → Edge) → ((k : ℕ) → k < w.count → 
 same-fails w E F same k l =
     same-verdict w w E F k k
     (record { own-edge = same k l; there = λ o h. refl; edges = λ o h p. same (rank_at w k o) (ltb-true (rank_at w k o) w.count p) })
-    (sheet-is w E ∙ listed-ext (positiveEdge w E) (positiveEdge w F) (λ i. (E i).len) (λ i. (F i).len) w.count (λ i g. rw (same i g)) (λ i g p. ap (λ e. e.len) (same i g)) ∙ sym (sheet-is w F))
+    (sheet-is w E ∙ listed-ext (positive_edge w E) (positive_edge w F) (λ i. (E i).len) (λ i. (F i).len) w.count (λ i g. rw (same i g)) (λ i g p. ap (λ e. e.len) (same i g)) ∙ sym (sheet-is w F))
 
 -- ---- the marks of a direction
 
 module _ (w : View) (o : Offset) where
-  none : (k : ℕ) → present w k o ≡ false → positiveEdge w (edge_at w o) k ≡ false
+  none : (k : ℕ) → present w k o ≡ false → positive_edge w (edge_at w o) k ≡ false
   unfolding edge_at lt of_bits
   none k h = rw h
 
   -- an edge that fails has two ends
-  two_ends : (k : ℕ) → fails w (edge_at w o) k ≡ true → present w k o ≡ true
-  two_ends k e = there (present w k o) refl
+  two-ends : (k : ℕ) → fails w (edge_at w o) k ≡ true → present w k o ≡ true
+  two-ends k e = there (present w k o) refl
     where
       there : (b : Bool) → present w k o ≡ b → present w k o ≡ true
       there true p = p
@@ -214,29 +214,29 @@ module _ (w : View) (o : Offset) where
   turn false false true h = refl
   turn false false false h = refl
 
-  ends_is : (m : ℕ) → endOfFailing w (edge_at w o) o m ≡ some (λ k. (eqb k m || eqb (rank_at w k o) m) && fails w (edge_at w o) k) w.count
-  unfolding endOfFailing
+  ends_is : (m : ℕ) → end_of_failing w (edge_at w o) o m ≡ some (λ k. (eqb k m || eqb (rank_at w k o) m) && fails w (edge_at w o) k) w.count
+  unfolding end_of_failing
   ends_is m = refl
 
-  ends-are : (E : ℕ → Edge) → ((k : ℕ) → k < w.count → E k ≡ edge_at w o k) → (m : ℕ) → some (λ k. failingEnds w o (fails w E) k m) w.count ≡ endOfFailing w (edge_at w o) o m
+  ends-are : (E : ℕ → Edge) → ((k : ℕ) → k < w.count → E k ≡ edge_at w o k) → (m : ℕ) → some (λ k. failing_ends w o (fails w E) k m) w.count ≡ end_of_failing w (edge_at w o) o m
   ends-are E same m =
-      some-ext (λ k. failingEnds w o (fails w E) k m) (λ k. (eqb k m || eqb (rank_at w k o) m) && fails w (edge_at w o) k) w.count
-      (λ k l. rw (same-fails w E (edge_at w o) same k l) (turn (present w k o) (fails w (edge_at w o) k) (eqb k m || eqb (rank_at w k o) m) (two_ends k)))
+      some-ext (λ k. failing_ends w o (fails w E) k m) (λ k. (eqb k m || eqb (rank_at w k o) m) && fails w (edge_at w o) k) w.count
+      (λ k l. rw (same-fails w E (edge_at w o) same k l) (turn (present w k o) (fails w (edge_at w o) k) (eqb k m || eqb (rank_at w k o) m) (two-ends k)))
       ∙ sym (ends_is m)
 
   -- nothing from the count on is marked
-  ends-past : (t : ℕ → Bool) (m : ℕ) → w.count ≤ m → some (λ k. failingEnds w o t k m) w.count ≡ false
-  ends-past t m g = some-no (λ k. failingEnds w o t k m) w.count (λ k l. go k l (dec_lt (rank_at w k o) w.count))
+  ends-past : (t : ℕ → Bool) (m : ℕ) → w.count ≤ m → some (λ k. failing_ends w o t k m) w.count ≡ false
+  ends-past t m g = some-no (λ k. failing_ends w o t k m) w.count (λ k l. go k l (dec_lt (rank_at w k o) w.count))
     where
-      go : (k : ℕ) → k < w.count → Dec (rank_at w k o < w.count) → failingEnds w o t k m ≡ false
+      go : (k : ℕ) → k < w.count → Dec (rank_at w k o < w.count) → failing_ends w o t k m ≡ false
       go k l (yes y) = rw (ne_eqb k m (λ q. omega (arith, l, q)), ne_eqb (rank_at w k o) m (λ q. omega (arith, y, q)), and-false (t k)) (and-false (present w k o))
       go k l (no y) = rw (le-ltb (rank_at w k o) w.count (omega (arith, y)))
 
 -- the table's edges are those of the view
-table_is : (w : View) (way : ℕ) (edges : List Float) → w.count ≤ maxPoints → way < 2 → edges ≡ edgesOf w → (k : ℕ) → k < w.count → tableEdge edges way k ≡ edge_at w (side way) k
+table_is : (w : View) (way : ℕ) (edges : List Float) → w.count ≤ max_points → way < 2 → edges ≡ edges_of w → (k : ℕ) → k < w.count → table_edge edges way k ≡ edge_at w (side way) k
 table_is w way edges few h e k l = whole (edge_at w (side way) k) (at 0 (omega arith)) (at 1 (omega arith)) (at 2 (omega arith))
   where
-    at : (part : ℕ) → part < 3 → get_or edges (edgePlace way part k) nan ≡ part_of part (edge_at w (side way) k)
+    at : (part : ℕ) → part < 3 → get_or edges (edge_place way part k) nan ≡ part_of part (edge_at w (side way) k)
     at part p = rw e (edge-part w few way part k h p l)
 
     whole : {a b c : Float} (d : Edge) → a ≡ d.len → b ≡ d.ux → c ≡ d.uy → record { len = a; ux = b; uy = c } ≡ d
@@ -246,28 +246,28 @@ table_is w way edges few h e k l = whole (edge_at w (side way) k) (at 0 (omega a
 
 module _ (n : ℕ) (ranks : List ℕ) (way : ℕ) (edges : List Float) where
   abbrev v : View
-  v = viewAt n ranks [] []
+  v = view_at n ranks [] []
 
   -- the marks, from the table
   abbrev pub hits : ℕ → ℕ → Bool
-  hits k m = failingEnds v (side way) (fails v (tableEdge edges way)) k m
+  hits k m = failing_ends v (side way) (fails v (table_edge edges way)) k m
 
-  module _ (xs ys : List Float) (few : n ≤ maxPoints) (h : way < 2) (e : edges ≡ edgesOf (viewAt n ranks xs ys)) where
+  module _ (xs ys : List Float) (few : n ≤ max_points) (h : way < 2) (e : edges ≡ edges_of (view_at n ranks xs ys)) where
     abbrev w : View
-    w = viewAt n ranks xs ys
+    w = view_at n ranks xs ys
 
     -- only the neighbours of the view count
-    same : (k : ℕ) → fails v (tableEdge edges way) k ≡ fails w (tableEdge edges way) k
+    same : (k : ℕ) → fails v (table_edge edges way) k ≡ fails w (table_edge edges way) k
     same k =
-        same-verdict v w (tableEdge edges way) (tableEdge edges way) k k (record { own-edge = refl; there = λ o h. refl; edges = λ o h p. refl })
-        (sheet-is v (tableEdge edges way) ∙ sym (sheet-is w (tableEdge edges way)))
+        same-verdict v w (table_edge edges way) (table_edge edges way) k k (record { own-edge = refl; there = λ o h. refl; edges = λ o h p. refl })
+        (sheet-is v (table_edge edges way) ∙ sym (sheet-is w (table_edge edges way)))
 
-    pub marks-are : {a b : List ℕ} → Marked (λ (m : ℕ). some (λ (k : ℕ). hits k m) n) a b → Marked (λ (m : ℕ). ltb m n && edgeMark w (side way) m) a b
-    marks-are r = marked-as (λ (m : ℕ). some (λ (k : ℕ). hits k m) n) (λ (m : ℕ). ltb m n && edgeMark w (side way) m) (λ m l. go m (dec_lt m n)) r
+    pub marks-are : {a b : List ℕ} → Marked (λ (m : ℕ). some (λ (k : ℕ). hits k m) n) a b → Marked (λ (m : ℕ). ltb m n && edge_mark w (side way) m) a b
+    marks-are r = marked-as (λ (m : ℕ). some (λ (k : ℕ). hits k m) n) (λ (m : ℕ). ltb m n && edge_mark w (side way) m) (λ m l. go m (dec_lt m n)) r
       where
-        go : (m : ℕ) → Dec (m < n) → some (λ (k : ℕ). hits k m) n ≡ ltb m n && edgeMark w (side way) m
+        go : (m : ℕ) → Dec (m < n) → some (λ (k : ℕ). hits k m) n ≡ ltb m n && edge_mark w (side way) m
         go m (yes l) =
             rw (lt-ltb m n l)
-            (some-ext (λ k. hits k m) (λ k. failingEnds w (side way) (fails w (tableEdge edges way)) k m) n (λ k g. rw (same k))
-            ∙ ends-are w (side way) (tableEdge edges way) (table_is w way edges few h e) m)
-        go m (no l) = rw (le-ltb m n (omega (arith, l))) (ends-past v (side way) (fails v (tableEdge edges way)) m (omega (arith, l)))
+            (some-ext (λ k. hits k m) (λ k. failing_ends w (side way) (fails w (table_edge edges way)) k m) n (λ k g. rw (same k))
+            ∙ ends-are w (side way) (table_edge edges way) (table_is w way edges few h e) m)
+        go m (no l) = rw (le-ltb m n (omega (arith, l))) (ends-past v (side way) (fails v (table_edge edges way)) m (omega (arith, l)))

@@ -17,30 +17,30 @@ use Rattle.folds.proofs.Below.{some-ext, some-no, some_one, last_none, last_more
 use Rattle.folds.proofs.Column.{replicate-at}
 use Rattle.folds.specs.Marked.{Marked}
 use Rattle.folds.proofs.Marked.{marked-as, marked-then}
-use Rattle.float.specs.Scalar.{normOf}
+use Rattle.float.specs.Scalar.{norm_of}
 use Rattle.offsets.specs.declared.Offset.{Offset}
-use Rattle.offsets.specs.Offsets.{nextU, prevU, nextV, prevV}
-use Rattle.view.specs.View.{View, maxPoints, rows_at, columnsAt, viewAt, Ranked, rank_at, degreeAt}
+use Rattle.offsets.specs.Offsets.{next_u, prev_u, next_v, prev_v}
+use Rattle.view.specs.View.{View, max_points, rows_at, columns_at, view_at, Ranked, rank_at, degree_at}
 use Rattle.marks.proofs.Guards.{guard, past}
-use Rattle.wrong_label_filters.specs.Frontier.{kink, kinkAt, lastInLine, endMark, frontierMark}
-use Rattle.wrong_label_filters.specs.Lasts.{lineStart, lineMark, Lasts}
+use Rattle.wrong_label_filters.specs.Frontier.{kink, kink_at, last_in_line, end_mark, frontier_mark}
+use Rattle.wrong_label_filters.specs.Lasts.{line_start, line_mark, Lasts}
 
 -- ---- the kink at a rank, from arrays
 
 module _ (n : ℕ) (ranks : List ℕ) (xs ys : List Float) where
   abbrev w : View
-  w = viewAt n ranks xs ys
+  w = view_at n ranks xs ys
 
-  degree-same : (k : ℕ) → degreeAt w k ≡ degreeAt (viewAt n ranks [] []) k
-  unfolding degreeAt
+  degree-same : (k : ℕ) → degree_at w k ≡ degree_at (view_at n ranks [] []) k
+  unfolding degree_at
   degree-same k = refl
 
   abbrev pub between : ℕ → ℕ → Float
-  between a b = normOf (get_or xs b nan ⊖ get_or xs a nan) (get_or ys b nan ⊖ get_or ys a nan)
+  between a b = norm_of (get_or xs b nan ⊖ get_or xs a nan) (get_or ys b nan ⊖ get_or ys a nan)
 
   pub kink-is : (inward : Offset) (k a b c : ℕ) → a ≡ rank_at w k inward → b ≡ rank_at w a inward → c ≡ rank_at w b inward
-      → kinkAt w inward k ≡ ltb a n && (ltb b n && (ltb c n && (leb (degreeAt (viewAt n ranks [] []) k) 2 && kink (between k a) (between a b) (between b c))))
-  unfolding kinkAt
+      → kink_at w inward k ≡ ltb a n && (ltb b n && (ltb c n && (leb (degree_at (view_at n ranks [] []) k) 2 && kink (between k a) (between a b) (between b c))))
+  unfolding kink_at
   kink-is inward k a b c p q r = rw (r, q, p, ← degree-same k)
 
 -- ---- the ends that a loop marks
@@ -55,37 +55,37 @@ end-marks t n r = marked-as (λ (m : ℕ). some (λ (k : ℕ). t k && (ltb k n &
 -- ---- lines
 
 -- the first rank of a line is a rank
-pub line-below : (n : ℕ) (ranks : List ℕ) (way k : ℕ) → Ranked n ranks → k < n → lineStart (viewAt n ranks [] []) way k < n
+pub line-below : (n : ℕ) (ranks : List ℕ) (way k : ℕ) → Ranked n ranks → k < n → line_start (view_at n ranks [] []) way k < n
 line-below n ranks way k r h = go (eqb way 0)
   where
-    go : (b : Bool) → cond b (get_or ranks (rows_at + k) 0) (get_or ranks (columnsAt + k) 0) < n
+    go : (b : Bool) → cond b (get_or ranks (rows_at + k) 0) (get_or ranks (columns_at + k) 0) < n
     go true = r.rows k h
     go false = r.columns k h
 
-pub lasts-none : (line : ℕ → ℕ) → Lasts line 0 (replicate maxPoints 0)
-lasts-none line = record { size = length-replicate {A = ℕ} maxPoints 0; at = λ m l. replicate-at {A = ℕ} maxPoints 0 m ∙ sym (last_none (λ (j : ℕ). eqb (line j) m) 0) }
+pub lasts-none : (line : ℕ → ℕ) → Lasts line 0 (replicate max_points 0)
+lasts-none line = record { size = length-replicate {A = ℕ} max_points 0; at = λ m l. replicate-at {A = ℕ} max_points 0 m ∙ sym (last_none (λ (j : ℕ). eqb (line j) m) 0) }
 
-pub lasts-more : (line : ℕ → ℕ) (k a v : ℕ) {lasts : List ℕ} → a ≡ line k → v ≡ k → a < maxPoints → Lasts line k lasts → Lasts line (k + 1) (set lasts a v)
+pub lasts-more : (line : ℕ → ℕ) (k a v : ℕ) {lasts : List ℕ} → a ≡ line k → v ≡ k → a < max_points → Lasts line k lasts → Lasts line (k + 1) (set lasts a v)
 lasts-more line k a v {lasts} e f h r = record {
   size = length-set lasts a v ∙ r.size;
   at = λ m l. rw (last_more (λ (j : ℕ). eqb (line j) m) 0 k, ← e) (go m l (ℕ_discrete a m));
 }
   where
-    go : (m : ℕ) → m < maxPoints → Dec (a ≡ m) → get_or (set lasts a v) m 0 ≡ cond (eqb a m) k (last (λ (j : ℕ). eqb (line j) m) 0 k)
+    go : (m : ℕ) → m < max_points → Dec (a ≡ m) → get_or (set lasts a v) m 0 ≡ cond (eqb a m) k (last (λ (j : ℕ). eqb (line j) m) 0 k)
     go m l (yes q) = rw (eq-eqb a m q, ← q, get_or-set_same lasts a v 0 (omega (arith, r.size))) f
     go m l (no q) = rw (ne_eqb a m q, get_or-set_other lasts a m v 0 (λ s. q (sym s))) (r.at m l)
 
-pub last-is : (w : View) (line : ℕ → ℕ) (lasts : List ℕ) (k m : ℕ) → Lasts line w.count lasts → m ≡ line k → m < maxPoints → get_or lasts m 0 ≡ lastInLine w line k
-unfolding lastInLine
+pub last-is : (w : View) (line : ℕ → ℕ) (lasts : List ℕ) (k m : ℕ) → Lasts line w.count lasts → m ≡ line k → m < max_points → get_or lasts m 0 ≡ last_in_line w line k
+unfolding last_in_line
 last-is w line lasts k m r e h = r.at m h ∙ rw e
 
 -- both ends of rows and columns
-pub all-ends : (w : View) {a b c : List ℕ} → Marked (λ (m : ℕ). ltb m w.count && lineMark w 0 m) a b → Marked (λ (m : ℕ). ltb m w.count && lineMark w 1 m) b c
-    → Marked (λ (m : ℕ). ltb m w.count && frontierMark w m) a c
-unfolding frontierMark lineMark
+pub all-ends : (w : View) {a b c : List ℕ} → Marked (λ (m : ℕ). ltb m w.count && line_mark w 0 m) a b → Marked (λ (m : ℕ). ltb m w.count && line_mark w 1 m) b c
+    → Marked (λ (m : ℕ). ltb m w.count && frontier_mark w m) a c
+unfolding frontier_mark line_mark
 all-ends w p q =
-    marked-as _ (λ (m : ℕ). ltb m w.count && frontierMark w m)
-    (λ m l. join (ltb m w.count) (endMark w w.row nextU m) (endMark w (lastInLine w w.row) prevU m) (endMark w w.column nextV m) (endMark w (lastInLine w w.column) prevV m))
+    marked-as _ (λ (m : ℕ). ltb m w.count && frontier_mark w m)
+    (λ m l. join (ltb m w.count) (end_mark w w.row next_u m) (end_mark w (last_in_line w w.row) prev_u m) (end_mark w w.column next_v m) (end_mark w (last_in_line w w.column) prev_v m))
     (marked-then _ _ p q)
   where
     join : (l a b c d : Bool) → (l && (a || b)) || (l && (c || d)) ≡ l && (a || (b || (c || d)))

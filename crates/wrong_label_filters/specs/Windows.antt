@@ -2,32 +2,32 @@
 use Rattle.std.specs.Prelude.{◌≡◌, Bool, true, cond, ◌&&◌, ◌||◌, List, ℕ, ◌+◌, ◌≤◌, ◌<◌, eqb, get_or, Float}
 use Rattle.std.specs.Float.{nan}
 use Rattle.std.specs.Float.Ieee.{lt}
-use Rattle.folds.specs.Arith.{◌⊕◌, ◌⊗◌, zeroF}
+use Rattle.folds.specs.Arith.{◌⊕◌, ◌⊗◌, zero_f}
 use Rattle.folds.specs.Below.{tally, sum_of}
 use Rattle.folds.specs.Lists.{listed}
-use Rattle.float.specs.Constants.{overlongRatio, globalOverlongRatio}
-use Rattle.median.specs.Median.{medianOf}
+use Rattle.float.specs.Constants.{overlong_ratio, global_overlong_ratio}
+use Rattle.median.specs.Median.{median_of}
 use Rattle.offsets.specs.declared.Offset.{Offset}
 use Rattle.offsets.specs.Offsets.{offset_of}
-use Rattle.view.specs.View.{View, maxPoints, rank_at, present}
+use Rattle.view.specs.View.{View, max_points, rank_at, present}
 use Rattle.edges.specs.declared.Edge.{Edge}
-use Rattle.edges.specs.Edges.{edgePlace}
-use Rattle.wrong_label_filters.specs.Judged.{inWindow}
+use Rattle.edges.specs.Edges.{edge_place}
+use Rattle.wrong_label_filters.specs.Judged.{in_window}
 use Rattle.wrong_label_filters.specs.declared.judged_edges.Window.{Window}
 use Rattle.wrong_label_filters.specs.declared.judged_edges.Limit.{Limit}
 
 -- the way's edges that a table holds
-abbrev pub tableEdge : List Float → ℕ → ℕ → Edge
-tableEdge edges way k =
+abbrev pub table_edge : List Float → ℕ → ℕ → Edge
+table_edge edges way k =
     record {
-      len = get_or edges (edgePlace way 0 k) nan;
-      ux = get_or edges (edgePlace way 1 k) nan;
-      uy = get_or edges (edgePlace way 2 k) nan;
+      len = get_or edges (edge_place way 0 k) nan;
+      ux = get_or edges (edge_place way 1 k) nan;
+      uy = get_or edges (edge_place way 2 k) nan;
     }
 
 -- one edge more, if t; u says whether it is under
-abbrev pub withEdge : Bool → Bool → Float → Float → Window → Window
-withEdge t u x y v =
+abbrev pub with_edge : Bool → Bool → Float → Float → Window → Window
+with_edge t u x y v =
     record {
       count = cond t (v.count + 1) v.count;
       under = cond (t && u) (v.under + 1) v.under;
@@ -37,39 +37,39 @@ withEdge t u x y v =
 
 module _ (w : View) (E : ℕ → Edge) (k : ℕ) (len : Float) where
   -- 1.5 times the length of the edge at place j is under len
-  abbrev pub isUnder : ℕ → Bool
-  isUnder j = lt (overlongRatio ⊗ (E (rank_at w k (offset_of j))).len) len
+  abbrev pub is_under : ℕ → Bool
+  is_under j = lt (overlong_ratio ⊗ (E (rank_at w k (offset_of j))).len) len
 
   -- rank k's window up to place j: how many edges, how many times 1.5 are under len, and the sum of the unit vectors
-  unfoldable pub windowTo : ℕ → Window
-  windowTo j =
+  unfoldable pub window_to : ℕ → Window
+  window_to j =
       record {
-        count = tally (inWindow w E k) j;
-        under = tally (λ i. inWindow w E k i && isUnder i) j;
-        sx = sum_of (inWindow w E k) (λ i. (E (rank_at w k (offset_of i))).ux) j;
-        sy = sum_of (inWindow w E k) (λ i. (E (rank_at w k (offset_of i))).uy) j;
+        count = tally (in_window w E k) j;
+        under = tally (λ i. in_window w E k i && is_under i) j;
+        sx = sum_of (in_window w E k) (λ i. (E (rank_at w k (offset_of i))).ux) j;
+        sy = sum_of (in_window w E k) (λ i. (E (rank_at w k (offset_of i))).uy) j;
       }
 
   -- a window with the edge at place j, if that is one of rank k's window
-  abbrev pub withEdgeAt : ℕ → Window → Window
-  withEdgeAt j v = withEdge (inWindow w E k j) (isUnder j) (E (rank_at w k (offset_of j))).ux (E (rank_at w k (offset_of j))).uy v
+  abbrev pub with_edge_at : ℕ → Window → Window
+  with_edge_at j v = with_edge (in_window w E k j) (is_under j) (E (rank_at w k (offset_of j))).ux (E (rank_at w k (offset_of j))).uy v
 
 -- the positive lengths of the first n edges
-abbrev pub positiveLens : (ℕ → Edge) → ℕ → List Float
-positiveLens E n = listed (λ i. lt zeroF (E i).len) (λ i. (E i).len) n
+abbrev pub positive_lens : (ℕ → Edge) → ℕ → List Float
+positive_lens E n = listed (λ i. lt zero_f (E i).len) (λ i. (E i).len) n
 
 -- a limit that is known is 1.6 times the median of the positive lengths
 abbrev pub Limits : (ℕ → Edge) → ℕ → Limit → Type 0
-Limits E n l = l.known ≡ true → l.value ≡ globalOverlongRatio ⊗ medianOf (positiveLens E n)
+Limits E n l = l.known ≡ true → l.value ≡ global_overlong_ratio ⊗ median_of (positive_lens E n)
 
 -- what the verdict on rank k's edge is asked with
 pub record Asked (n : ℕ) (edges : List Float) (way k total : ℕ) (l : Limit) : Type 0 where
-  pub few : n ≤ maxPoints
+  pub few : n ≤ max_points
   pub one_way : way < 2
   pub below : k < n
-  pub total-is : total ≡ tally (λ i. lt zeroF (tableEdge edges way i).len) n
-  pub limits : Limits (tableEdge edges way) n l
+  pub total-is : total ≡ tally (λ i. lt zero_f (table_edge edges way i).len) n
+  pub limits : Limits (table_edge edges way) n l
 
 -- the edge from rank k over the offset o leads to a point, it fails, and m is one of its ends
-abbrev pub failingEnds : View → Offset → (ℕ → Bool) → ℕ → ℕ → Bool
-failingEnds w o t k m = present w k o && (t k && (eqb k m || eqb (rank_at w k o) m))
+abbrev pub failing_ends : View → Offset → (ℕ → Bool) → ℕ → ℕ → Bool
+failing_ends w o t k m = present w k o && (t k && (eqb k m || eqb (rank_at w k o) m))

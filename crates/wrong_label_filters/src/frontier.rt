@@ -3,11 +3,11 @@ ghost use Rattle.std.specs.Prelude.{◌≡◌, true, cond, not, ◌&&◌, ◌||�
 ghost use Rattle.std.specs.Float.{nan};
 ghost use Rattle.folds.specs.Arith.{◌⊖◌};
 ghost use Rattle.folds.specs.Marked.{Marked};
-ghost use Rattle.float.specs.Scalar.{normOf};
-ghost use Rattle.offsets.specs.Offsets.{isNear};
-ghost use Rattle.view.specs.View.{maxPoints, rows_at, columnsAt, viewAt, Ranked};
-ghost use Rattle.wrong_label_filters.specs.Frontier.{kink, kinkAt, frontierMark};
-ghost use Rattle.wrong_label_filters.specs.Lasts.{lineStart, lineMark, Lasts};
+ghost use Rattle.float.specs.Scalar.{norm_of};
+ghost use Rattle.offsets.specs.Offsets.{is_near};
+ghost use Rattle.view.specs.View.{max_points, rows_at, columns_at, view_at, Ranked};
+ghost use Rattle.wrong_label_filters.specs.Frontier.{kink, kink_at, frontier_mark};
+ghost use Rattle.wrong_label_filters.specs.Lasts.{line_start, line_mark, Lasts};
 
 use float::constants::FRONTIER_TOLERANCE;
 use offsets::Offset;
@@ -15,8 +15,8 @@ use view::{Floats, MAX_POINTS, Marks, Places, Ranks};
 
 // The distance from rank a to rank b.
 fn rank_distance(x: &Floats, y: &Floats, a: usize, b: usize) -> f32
-    requires { (a < maxPoints) × (b < maxPoints) }
-    ensures { result ≡ normOf (get_or x.now b nan ⊖ get_or x.now a nan) (get_or y.now b nan ⊖ get_or y.now a nan) }
+    requires { (a < max_points) × (b < max_points) }
+    ensures { result ≡ norm_of (get_or x.now b nan ⊖ get_or x.now a nan) (get_or y.now b nan ⊖ get_or y.now a nan) }
 {
     float::norm(x[b] - x[a], y[b] - y[a])
 }
@@ -32,8 +32,8 @@ fn has_kink(e0: f32, e1: f32, e2: f32) -> bool
 
 // Whether four cells follow each other inward from rank k, with a kink there.
 fn kink_at(ranks: &Ranks, x: &Floats, y: &Floats, n: usize, inward: Offset, k: usize) -> bool
-    requires { (n ≤ maxPoints) × (isNear inward ≡ true) × (k < n) }
-    ensures { result ≡ kinkAt (viewAt n ranks.now x.now y.now) inward k }
+    requires { (n ≤ max_points) × (is_near inward ≡ true) × (k < n) }
+    ensures { result ≡ kink_at (view_at n ranks.now x.now y.now) inward k }
 {
     let a = view::rank_at(ranks, k, inward);
     if n <= a {
@@ -67,8 +67,8 @@ fn end_at(
     inward: Offset,
     k: usize,
 ) -> bool
-    requires { (n ≤ maxPoints) × (isNear inward ≡ true) × (k < n) }
-    ensures { result ≡ eqb end k && kinkAt (viewAt n ranks.now x.now y.now) inward k }
+    requires { (n ≤ max_points) × (is_near inward ≡ true) × (k < n) }
+    ensures { result ≡ eqb end k && kink_at (view_at n ranks.now x.now y.now) inward k }
 {
     if end == k {
         return kink_at(ranks, x, y, n, inward, k);
@@ -78,8 +78,8 @@ fn end_at(
 
 // The first rank of rank k's row (way 0) or column.
 fn line_of(ranks: &Ranks, way: usize, k: usize) -> usize
-    requires { k < maxPoints }
-    ensures { result ≡ cond (eqb way 0) (get_or ranks.now (rows_at + k) 0) (get_or ranks.now (columnsAt + k) 0) }
+    requires { k < max_points }
+    ensures { result ≡ cond (eqb way 0) (get_or ranks.now (rows_at + k) 0) (get_or ranks.now (columns_at + k) 0) }
 {
     if way == 0 {
         return view::row_of(ranks, k);
@@ -88,7 +88,7 @@ fn line_of(ranks: &Ranks, way: usize, k: usize) -> usize
 }
 
 fn as_rank(k: usize) -> u16
-    requires { k < maxPoints }
+    requires { k < max_points }
     ensures { result ≡ k }
 {
     k as u16
@@ -97,7 +97,7 @@ fn as_rank(k: usize) -> u16
 // The last rank of each line, at the place of the line.
 fn lasts_of(ranks: &Ranks, n: usize, way: usize) -> Places
     requires { Ranked n ranks.now }
-    ensures { Lasts (lineStart (viewAt n ranks.now [] []) way) n result }
+    ensures { Lasts (line_start (view_at n ranks.now [] []) way) n result }
 {
     let mut lasts = [0u16; MAX_POINTS];
     let mut k = 0;
@@ -128,8 +128,8 @@ fn line_end_at(
     way: usize,
     k: usize,
 ) -> bool
-    requires { Ranked n ranks.now × Lasts (lineStart (viewAt n ranks.now [] []) way) n lasts.now × (k < n) }
-    ensures { result ≡ lineMark (viewAt n ranks.now x.now y.now) way k }
+    requires { Ranked n ranks.now × Lasts (line_start (view_at n ranks.now [] []) way) n lasts.now × (k < n) }
+    ensures { result ≡ line_mark (view_at n ranks.now x.now y.now) way k }
 {
     let first = line_of(ranks, way, k);
     let last = view::wide(lasts[first]);
@@ -145,7 +145,7 @@ fn line_end_at(
 // Marks both ends of each row (way 0) or column that have a kink there.
 fn mark_ends(ranks: &Ranks, x: &Floats, y: &Floats, n: usize, way: usize, mark: &mut Marks)
     requires { Ranked n ranks.now }
-    ensures { Marked (λ (m : ℕ). ltb m n && lineMark (viewAt n ranks.now x.now y.now) way m) mark.old mark.new }
+    ensures { Marked (λ (m : ℕ). ltb m n && line_mark (view_at n ranks.now x.now y.now) way m) mark.old mark.new }
 {
     let lasts = lasts_of(ranks, n, way);
     let mut k = 0;
@@ -158,7 +158,7 @@ fn mark_ends(ranks: &Ranks, x: &Floats, y: &Floats, n: usize, way: usize, mark: 
 // Marks both ends of each row and column that have a kink there.
 pub(crate) fn mark_frontier(ranks: &Ranks, x: &Floats, y: &Floats, n: usize, mark: &mut Marks)
     requires { Ranked n ranks.now }
-    ensures { Marked (λ (m : ℕ). ltb m n && frontierMark (viewAt n ranks.now x.now y.now) m) mark.old mark.new }
+    ensures { Marked (λ (m : ℕ). ltb m n && frontier_mark (view_at n ranks.now x.now y.now) m) mark.old mark.new }
 {
     mark_ends(ranks, x, y, n, 0, mark);
     mark_ends(ranks, x, y, n, 1, mark);

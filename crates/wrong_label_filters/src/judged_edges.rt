@@ -2,14 +2,14 @@
 ghost use Rattle.std.specs.Prelude.{◌≡◌, true, ◌&&◌, ◌||◌, List, [], ltb, ℕ, ◌+◌, ◌/◌, ◌≤◌, ◌<◌, get_or, Float};
 ghost use Rattle.std.specs.Float.{nan};
 ghost use Rattle.std.specs.Float.Ieee.{lt};
-ghost use Rattle.folds.specs.Arith.{zeroF};
+ghost use Rattle.folds.specs.Arith.{zero_f};
 ghost use Rattle.folds.specs.Below.{tally};
 ghost use Rattle.folds.specs.Column.{column};
 ghost use Rattle.folds.specs.Marked.{Marked};
-ghost use Rattle.view.specs.View.{maxPoints, viewAt};
-ghost use Rattle.edges.specs.Edges.{side, edgesOf, edgePlace};
-ghost use Rattle.wrong_label_filters.specs.Judged.{offAxis, fails, edgeMark};
-ghost use Rattle.wrong_label_filters.specs.Windows.{tableEdge, withEdge, withEdgeAt, windowTo, Limits, Asked, failingEnds};
+ghost use Rattle.view.specs.View.{max_points, view_at};
+ghost use Rattle.edges.specs.Edges.{side, edges_of, edge_place};
+ghost use Rattle.wrong_label_filters.specs.Judged.{off_axis, fails, edge_mark};
+ghost use Rattle.wrong_label_filters.specs.Windows.{table_edge, with_edge, with_edge_at, window_to, Limits, Asked, failing_ends};
 
 use edges::Edges;
 use float::constants::{GLOBAL_OVERLONG_RATIO, OVERLONG_RATIO};
@@ -39,8 +39,8 @@ struct Verdict {
 
 // The window v with one edge more; under says whether 1.5 times its length is under the length of the edge that is judged.
 fn with_edge(v: Window, under: bool, ux: f32, uy: f32) -> Window
-    requires { (v.count < maxPoints) × (v.under < maxPoints) }
-    ensures { result ≡ withEdge true under ux uy v }
+    requires { (v.count < max_points) × (v.under < max_points) }
+    ensures { result ≡ with_edge true under ux uy v }
 {
     Window {
         count: v.count + 1,
@@ -61,8 +61,8 @@ fn with_edge_at(
     j: usize,
     own: f32,
 ) -> Window
-    requires { (n ≤ maxPoints) × (way < 2) × (k < n) × (j < 25) × (v.count ≤ j) × (v.under ≤ j) }
-    ensures { result ≡ withEdgeAt (viewAt n ranks.now [] []) (tableEdge edges.now way) k own j v }
+    requires { (n ≤ max_points) × (way < 2) × (k < n) × (j < 25) × (v.count ≤ j) × (v.under ≤ j) }
+    ensures { result ≡ with_edge_at (view_at n ranks.now [] []) (table_edge edges.now way) k own j v }
 {
     if j == offsets::place(offsets::OWN) {
         return v;
@@ -85,8 +85,8 @@ fn with_edge_at(
 
 // The window of rank k's edge, which has the length own.
 fn window_at(ranks: &Ranks, edges: &Edges, n: usize, way: usize, k: usize, own: f32) -> Window
-    requires { (n ≤ maxPoints) × (way < 2) × (k < n) }
-    ensures { result ≡ windowTo (viewAt n ranks.now [] []) (tableEdge edges.now way) k own 25 }
+    requires { (n ≤ max_points) × (way < 2) × (k < n) }
+    ensures { result ≡ window_to (view_at n ranks.now [] []) (table_edge edges.now way) k own 25 }
 {
     let mut v = Window {
         count: 0,
@@ -104,7 +104,7 @@ fn window_at(ranks: &Ranks, edges: &Edges, n: usize, way: usize, k: usize, own: 
 }
 
 fn off_axis(sx: f32, sy: f32, ux: f32, uy: f32) -> bool
-    ensures { result ≡ offAxis sx sy ux uy }
+    ensures { result ≡ off_axis sx sy ux uy }
 {
     let s = float::norm(sx, sy);
     if 0.0 < s {
@@ -115,8 +115,8 @@ fn off_axis(sx: f32, sy: f32, ux: f32, uy: f32) -> bool
 
 // How many of the way's edges have a positive length.
 fn sheet_count(edges: &Edges, n: usize, way: usize) -> usize
-    requires { (n ≤ maxPoints) × (way < 2) }
-    ensures { result ≡ tally (λ (k : ℕ). lt zeroF (get_or edges.now (edgePlace way 0 k) nan)) n }
+    requires { (n ≤ max_points) × (way < 2) }
+    ensures { result ≡ tally (λ (k : ℕ). lt zero_f (get_or edges.now (edge_place way 0 k) nan)) n }
 {
     let mut c = 0;
     let mut k = 0;
@@ -129,8 +129,8 @@ fn sheet_count(edges: &Edges, n: usize, way: usize) -> usize
 
 // The lengths of the way's edges.
 fn lengths_of(edges: &Edges, n: usize, way: usize) -> Floats
-    requires { (n ≤ maxPoints) × (way < 2) }
-    ensures { result ≡ column maxPoints nan n (λ (k : ℕ). get_or edges.now (edgePlace way 0 k) nan) }
+    requires { (n ≤ max_points) × (way < 2) }
+    ensures { result ≡ column max_points nan n (λ (k : ℕ). get_or edges.now (edge_place way 0 k) nan) }
 {
     let none: f32 = 0.0 / 0.0;
     let mut out = [none; MAX_POINTS];
@@ -144,8 +144,8 @@ fn lengths_of(edges: &Edges, n: usize, way: usize) -> Floats
 
 // The sheet's limit, taken where it is not known yet.
 fn sheet_limit(limit: Limit, edges: &Edges, n: usize, way: usize) -> Limit
-    requires { (n ≤ maxPoints) × (way < 2) × Limits (tableEdge edges.now way) n limit }
-    ensures { (result.known ≡ true) × Limits (tableEdge edges.now way) n result }
+    requires { (n ≤ max_points) × (way < 2) × Limits (table_edge edges.now way) n limit }
+    ensures { (result.known ≡ true) × Limits (table_edge edges.now way) n result }
 {
     if limit.known {
         return limit;
@@ -158,7 +158,7 @@ fn sheet_limit(limit: Limit, edges: &Edges, n: usize, way: usize) -> Limit
 
 // Whether an edge with the unit vector (ux, uy) fails by its window, which has counted the edges under it.
 fn fails_in(v: Window, ux: f32, uy: f32) -> bool
-    ensures { result ≡ ltb (v.count / 2) v.under || offAxis v.sx v.sy ux uy }
+    ensures { result ≡ ltb (v.count / 2) v.under || off_axis v.sx v.sy ux uy }
 {
     if v.count / 2 < v.under {
         return true;
@@ -177,7 +177,7 @@ fn fails_at(
     limit: Limit,
 ) -> Verdict
     requires { Asked n edges.now way k total limit }
-    ensures { (result.fails ≡ fails (viewAt n ranks.now [] []) (tableEdge edges.now way) k) × Limits (tableEdge edges.now way) n result.limit }
+    ensures { (result.fails ≡ fails (view_at n ranks.now [] []) (table_edge edges.now way) k) × Limits (table_edge edges.now way) n result.limit }
 {
     let own = edges::length(edges, way, k);
     if 0.0 < own {
@@ -218,7 +218,7 @@ fn mark_edge(
     mark: &mut Marks,
 ) -> Limit
     requires { Asked n edges.now way k total limit }
-    ensures { Marked (failingEnds (viewAt n ranks.now [] []) (side way) (fails (viewAt n ranks.now [] []) (tableEdge edges.now way)) k) mark.old mark.new × Limits (tableEdge edges.now way) n result }
+    ensures { Marked (failing_ends (view_at n ranks.now [] []) (side way) (fails (view_at n ranks.now [] []) (table_edge edges.now way)) k) mark.old mark.new × Limits (table_edge edges.now way) n result }
 {
     let e = view::rank_at(ranks, k, edges::side_of(way));
     if n <= e {
@@ -235,8 +235,8 @@ fn mark_edge(
 
 // Marks the ends of each of the way's edges that fails.
 pub(crate) fn mark_failing(ranks: &Ranks, edges: &Edges, n: usize, way: usize, mark: &mut Marks)
-    requires { (n ≤ maxPoints) × (way < 2) }
-    ensures { (xs ys : List Float) → edges.now ≡ edgesOf (viewAt n ranks.now xs ys) → Marked (λ (m : ℕ). ltb m n && edgeMark (viewAt n ranks.now xs ys) (side way) m) mark.old mark.new }
+    requires { (n ≤ max_points) × (way < 2) }
+    ensures { (xs ys : List Float) → edges.now ≡ edges_of (view_at n ranks.now xs ys) → Marked (λ (m : ℕ). ltb m n && edge_mark (view_at n ranks.now xs ys) (side way) m) mark.old mark.new }
 {
     let total = sheet_count(edges, n, way);
     let mut limit = Limit {

@@ -5,8 +5,8 @@ mod frontier;
 mod judged_edges;
 
 ghost use Rattle.std.specs.Prelude.{◌≡◌};
-ghost use Rattle.view.specs.View.{viewAt};
-ghost use Rattle.wrong_label_filters.specs.WrongLabel.{wrongLabelOf};
+ghost use Rattle.view.specs.View.{view_at};
+ghost use Rattle.wrong_label_filters.specs.WrongLabel.{wrong_label_of};
 ghost use Rattle.wrong_label_filters.specs.EdgesReady.{EdgesReady};
 
 use edges::Edges;
@@ -22,7 +22,7 @@ pub fn topological_wrong_label_drops(
     cell: f32,
 ) -> Marks
     requires { EdgesReady n ranks.now x.now y.now edges.now }
-    ensures { result ≡ wrongLabelOf (viewAt n ranks.now x.now y.now) cell }
+    ensures { result ≡ wrong_label_of (view_at n ranks.now x.now y.now) cell }
 {
     let mut mark = [0u8; MAX_POINTS];
     judged_edges::mark_failing(ranks, edges, n, 0, &mut mark);

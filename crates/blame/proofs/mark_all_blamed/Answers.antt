@@ -1,5 +1,5 @@
-use Rattle.view.specs.View.{viewAt}
-use Rattle.blame.specs.Marks.{evidenceBy, blames}
+use Rattle.view.specs.View.{view_at}
+use Rattle.blame.specs.Marks.{evidence_by, blames}
 use Rattle.folds.proofs.Below.{some-none}
 use Rattle.folds.proofs.Marked.{marked-none, marked_more}
 use mathlib.Core.List.{[]}
@@ -12,4 +12,4 @@ loop-k-init c =
 
 pub loop-k-preserved : goal.loop-k-preserved
 loop-k-preserved c =
-    let a = c.args in (omega arith, marked_more (blames (viewAt a.n a.ranks.now [] []) (evidenceBy a.flags.now a.over.now [] [])) c.loop-k.k c.loop-k.invariant.1 c.mark_blamed.ensures)
+    let a = c.args in (omega arith, marked_more (blames (view_at a.n a.ranks.now [] []) (evidence_by a.flags.now a.over.now [] [])) c.loop-k.k c.loop-k.invariant.1 c.mark_blamed.ensures)

@@ -1,11 +1,11 @@
 use lib.Dec.{ltb}
 use lib.Ieee.{of_bits}
-use Rattle.float.specs.Constants.{duplicateFraction}
+use Rattle.float.specs.Constants.{duplicate_fraction}
 use Rattle.float.proofs.Order.{mul-plain, above_zero}
 use Rattle.folds.proofs.Below.{and-false}
 use Rattle.folds.proofs.Marked.{marked-none, marked-as}
-use Rattle.view.specs.View.{viewAt}
-use Rattle.close_pairs.specs.Close.{limitOf, closeMark}
+use Rattle.view.specs.View.{view_at}
+use Rattle.close_pairs.specs.Close.{limit_of, close_mark}
 use Rattle.close_pairs.proofs.Pairs.{sweepable, swept, nothing-close}
 use Rattle.close_pairs.proofs.Squares.{reaches}
 use Rattle.close_pairs.proofs.mark_close.Goals as goal
@@ -14,21 +14,21 @@ pub sweep-requires : goal.sweep-requires
 unfolding of_bits
 sweep-requires c =
     let p = c.requires in
-    (sweepable _ _ _ _ p.0 c.order_of-order.ensures p.2 _, reaches _ (mul-plain duplicateFraction c.args.cell tt (above_zero c.args.cell c.if-cell.true)))
+    (sweepable _ _ _ _ p.0 c.order_of-order.ensures p.2 _, reaches _ (mul-plain duplicate_fraction c.args.cell tt (above_zero c.args.cell c.if-cell.true)))
 
 pub returns-then-limit : goal.returns-then-limit
-unfolding limitOf
+unfolding limit_of
 returns-then-limit c =
     let g = c.args in
     λ ranks. marked-as _ _ (λ m l. swept _ g.x.now g.y.now g.n c.requires.0 c.order_of-order.ensures c.requires.2 ranks g.cell m c.if-cell.true) c.sweep.ensures
 
 pub returns-else-limit : goal.returns-else-limit
-unfolding limitOf
+unfolding limit_of
 returns-else-limit c =
     let g = c.args in
-    λ ranks. marked-none _ _ (λ m. rw (nothing-close (viewAt g.n ranks g.x.now g.y.now) g.cell m c.if-limit.false) (and-false (ltb m g.n)))
+    λ ranks. marked-none _ _ (λ m. rw (nothing-close (view_at g.n ranks g.x.now g.y.now) g.cell m c.if-limit.false) (and-false (ltb m g.n)))
 
 pub returns-else-cell : goal.returns-else-cell
-unfolding closeMark
+unfolding close_mark
 returns-else-cell c =
     λ ranks. marked-none _ _ (λ m. rw c.if-cell.false (and-false (ltb m c.args.n)))

@@ -4,7 +4,7 @@ use native.Mathlib.Omega.{arith}
 use lib.Dec.{eqb}
 use lib.ListN.{get_or}
 use Rattle.folds.proofs.Below.{tally-none, tally-le, tally-turn}
-use Rattle.components.specs.Components.{patchCount}
+use Rattle.components.specs.Components.{patch_count}
 use Rattle.components.proofs.count.Goals as goal
 
 pub loop-i-init : goal.loop-i-init
@@ -20,6 +20,6 @@ loop-i-preserved c =
     (omega arith, tally-turn _ c.loop-i.i c.one_more-r.ensures (ap (λ (v : ℕ). eqb v c.loop-i.i) c.wide.ensures) c.loop-i.invariant.1)
 
 pub returns : goal.returns
-unfolding patchCount
+unfolding patch_count
 returns c =
     let e : c.loop-i.i ≡ c.args.n = omega arith in rw e at c.loop-i.invariant.1

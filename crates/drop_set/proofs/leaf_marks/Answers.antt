@@ -1,5 +1,5 @@
 use mathlib.Core.Path.{ap, ◌∙◌}
-use Rattle.view.specs.View.{viewAt}
+use Rattle.view.specs.View.{view_at}
 use Rattle.patches.specs.Reach.{paired}
 use Rattle.patches.proofs.Lattices.{square-places, square-paired}
 use Rattle.drop_set.proofs.Laws.{unpeeled, peeled-by}
@@ -13,14 +13,14 @@ weak_leaf_peel-requires c =
 pub returns-in-Missing : goal.returns-in-Missing
 returns-in-Missing c xs ys =
     let a = c.args in
-    c.no_leaves.ensures ∙ unpeeled a.s (viewAt a.n a.ranks.now xs ys) a.strength.now a.marks.now (rw c.in-Missing.is) c.requires.ranked.few
+    c.no_leaves.ensures ∙ unpeeled a.s (view_at a.n a.ranks.now xs ys) a.strength.now a.marks.now (rw c.in-Missing.is) c.requires.ranked.few
 
 pub returns-in-Outside : goal.returns-in-Outside
 returns-in-Outside c xs ys =
     let a = c.args in
-    c.no_leaves-in-Outside.ensures ∙ unpeeled a.s (viewAt a.n a.ranks.now xs ys) a.strength.now a.marks.now (rw c.in-Outside.is) c.requires.ranked.few
+    c.no_leaves-in-Outside.ensures ∙ unpeeled a.s (view_at a.n a.ranks.now xs ys) a.strength.now a.marks.now (rw c.in-Outside.is) c.requires.ranked.few
 
 pub returns-in-Given : goal.returns-in-Given
 returns-in-Given c xs ys =
     let a = c.args in
-    peeled-by a.s (viewAt a.n a.ranks.now xs ys) a.strength.now a.marks.now c.in-Given.is c.square_sides-sides.ensures c.weak_marks-weak.ensures (c.weak_leaf_peel.ensures xs ys)
+    peeled-by a.s (view_at a.n a.ranks.now xs ys) a.strength.now a.marks.now c.in-Given.is c.square_sides-sides.ensures c.weak_marks-weak.ensures (c.weak_leaf_peel.ensures xs ys)

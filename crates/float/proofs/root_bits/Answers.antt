@@ -3,8 +3,8 @@ use Prim.Native.Nat.{ℕ, ◌+◌, ◌-◌, ◌*◌, ◌/◌, ◌%◌, ◌^◌}
 use native.Mathlib.Nat.{mod-eq_of_lt}
 use native.Mathlib.Omega.{arith}
 use lib.Count.{count_leading_zeros}
-use Rattle.float.specs.Root.{nearRoot}
-use Rattle.float.specs.Constants.{hiddenBit}
+use Rattle.float.specs.Root.{near_root}
+use Rattle.float.specs.Constants.{hidden_bit}
 use Rattle.float.proofs.Pattern.{Leading, leading, subnormal, normal, pattern-of-root, moved_down, moved_up}
 use Rattle.float.proofs.root_bits.Goals as goal
 
@@ -33,13 +33,13 @@ returns-then-b-lt8388608 c =
     let z = leading b c.requires.0 (omega arith) in
     pattern-of-root b _ b 0 (b * 2 ^ t) (26 - t) (subnormal b c.if-b-lt8388608.true) c.requires.0 z.low z.high (omega (arith, z)) (omega arith)
     (moved_up b t (omega (arith, z)))
-    (c.root_pattern.ensures ∙ ap (λ (m : ℕ). ((26 - t) / 2 + 50) * 2 ^ 23 + nearRoot (m * 2 ^ (23 + (26 - t) % 2))) (whole b z))
+    (c.root_pattern.ensures ∙ ap (λ (m : ℕ). ((26 - t) / 2 + 50) * 2 ^ 23 + near_root (m * 2 ^ (23 + (26 - t) % 2))) (whole b z))
 
 pub returns : goal.returns
 returns c =
     let b = c.args.b in
-    let m = hiddenBit + b % hiddenBit in
-    let k = b / hiddenBit - 1 in
-    pattern-of-root b _ m k m (b / hiddenBit + 25) (normal b k m (omega arith) (omega arith) (omega arith) (omega arith)) (omega arith) (omega arith) (omega arith) (omega arith) (omega arith)
-    (moved_down m k (b / hiddenBit + 25) (omega arith))
+    let m = hidden_bit + b % hidden_bit in
+    let k = b / hidden_bit - 1 in
+    pattern-of-root b _ m k m (b / hidden_bit + 25) (normal b k m (omega arith) (omega arith) (omega arith) (omega arith)) (omega arith) (omega arith) (omega arith) (omega arith) (omega arith)
+    (moved_down m k (b / hidden_bit + 25) (omega arith))
     c.root_pattern-2.ensures

@@ -1,9 +1,9 @@
-use Rattle.grid.specs.Tables.{ranksOf}
+use Rattle.grid.specs.Tables.{ranks_of}
 use Rattle.grid.proofs.Filled.{blocks-filled}
 use Rattle.grid.proofs.fill.Goals as goal
 
 pub returns : goal.returns
-unfolding ranksOf
+unfolding ranks_of
 returns c =
     let pre = c.requires in
     blocks-filled _ _ _ _ _ _ _ _ _ pre.0.few pre.1 c.fill_near.ensures c.fill_rows.ensures c.fill_columns.ensures c.fill_indices.ensures

@@ -1,7 +1,7 @@
 use mathlib.Core.Path.{◌≡◌}
 use Prim.Native.Nat.{◌+◌, ◌-◌}
 use native.Mathlib.Omega.{arith}
-use Rattle.grid.specs.Tables.{entryIn}
+use Rattle.grid.specs.Tables.{entry_in}
 use Rattle.grid.proofs.Indices.{order_is, walked_start, walked_more, walked-done, rank_below}
 use Rattle.grid.proofs.fill_indices.Goals as goal
 
@@ -13,7 +13,7 @@ loop-i-init c =
 pub bounds-ranks-k : goal.bounds-ranks-k
 bounds-ranks-k c =
     let l = c.loop-i in
-    omega (arith, rank_below (entryIn c.args.idx.now) c.args.n c.requires.0 c.sort.new.a l.invariant.ordered (l.i - 1) (omega (arith, l.invariant.low)))
+    omega (arith, rank_below (entry_in c.args.idx.now) c.args.n c.requires.0 c.sort.new.a l.invariant.ordered (l.i - 1) (omega (arith, l.invariant.low)))
 
 pub loop-i-preserved : goal.loop-i-preserved
 loop-i-preserved c =

@@ -1,7 +1,7 @@
 use mathlib.Core.Path.{ap}
 use Prim.Native.Nat.{ℕ, ◌+◌, ◌/◌}
 use native.Mathlib.Omega.{arith}
-use Rattle.grid.specs.Tables.{entryIn}
+use Rattle.grid.specs.Tables.{entry_in}
 use Rattle.grid.proofs.Standing.{keys-small}
 use Rattle.grid.proofs.Swept.{swept-start, swept-size, swept-more}
 use Rattle.grid.proofs.fill_near.Goals as goal
@@ -29,5 +29,5 @@ loop-i-preserved c =
     let l = c.loop-i in (
       omega arith,
       swept-more c.args.keys.now _ _ c.requires.0 c.requires.1 c.loop-i-test.true
-          (ap (λ (x : ℕ). entryIn c.args.keys.now (l.i / 5) + x) c.steps.ensures) l.invariant.1 c.advance-p.ensures c.five.ensures,
+          (ap (λ (x : ℕ). entry_in c.args.keys.now (l.i / 5) + x) c.steps.ensures) l.invariant.1 c.advance-p.ensures c.five.ensures,
     )

@@ -1,13 +1,13 @@
 use mathlib.Core.Path.{◌≡◌}
 use Prim.Native.Nat.{◌-◌, ◌≤◌}
 use Rattle.view.specs.View.{rows_at}
-use Rattle.cells.specs.Cell.{cellsAt}
-use Rattle.grid.specs.Tables.{firstInRow, spliced}
-use Rattle.grid.proofs.Firsts.{vParts, Tabled}
+use Rattle.cells.specs.Cell.{cells_at}
+use Rattle.grid.specs.Tables.{first_in_row, spliced}
+use Rattle.grid.proofs.Firsts.{v_parts, Tabled}
 use Rattle.grid.proofs.fill_rows.Given as goal
 
 abbrev pub invariant-loop-k : goal.invariant-loop-k
-invariant-loop-k l = (l.k ≤ l.n) × Tabled (vParts l.keys) l.seen l.k × (l.ranks ≡ spliced rows_at l.k (firstInRow l.n (cellsAt l.keys)) l.initial.ranks)
+invariant-loop-k l = (l.k ≤ l.n) × Tabled (v_parts l.keys) l.seen l.k × (l.ranks ≡ spliced rows_at l.k (first_in_row l.n (cells_at l.keys)) l.initial.ranks)
 
 abbrev pub decreases-loop-k : goal.decreases-loop-k
 decreases-loop-k l = l.n - l.k

@@ -1,7 +1,7 @@
 use Rattle.std.proofs.Common.{sym, ap, ◌∙◌, arith}
 use lib.ListN.{length-set}
-use Rattle.grid.specs.Tables.{entryIn}
-use Rattle.grid.specs.Sweep.{standing, standingFrom}
+use Rattle.grid.specs.Tables.{entry_in}
+use Rattle.grid.specs.Sweep.{standing, standing_from}
 use Rattle.grid.proofs.Splicing.{spliced-none, spliced-more}
 use Rattle.grid.proofs.Passing.{reached-hit, reached-miss, stands-there, stands-not}
 use Rattle.grid.proofs.five.Goals as goal
@@ -20,7 +20,7 @@ loop-e-preserved-then-stands c =
       next = omega (arith, l.invariant.next);
       size = length-set l.ranks _ _ ∙ l.invariant.size;
       reached = r.1;
-      five = spliced-more a.to l.e (standingFrom a.n (entryIn a.keys.now) a.target) l.p a.ranks.now (omega (arith, c.requires.2)) (sym r.0 ∙ ap (standing a.n (entryIn a.keys.now)) l.invariant.next) l.invariant.five;
+      five = spliced-more a.to l.e (standing_from a.n (entry_in a.keys.now) a.target) l.p a.ranks.now (omega (arith, c.requires.2)) (sym r.0 ∙ ap (standing a.n (entry_in a.keys.now)) l.invariant.next) l.invariant.five;
     }
 
 pub loop-e-preserved : goal.loop-e-preserved
@@ -33,5 +33,5 @@ loop-e-preserved c =
       next = omega (arith, l.invariant.next);
       size = length-set l.ranks _ _ ∙ l.invariant.size;
       reached = r.1;
-      five = spliced-more a.to l.e (standingFrom a.n (entryIn a.keys.now) a.target) a.n a.ranks.now (omega (arith, c.requires.2)) (sym r.0 ∙ ap (standing a.n (entryIn a.keys.now)) l.invariant.next) l.invariant.five;
+      five = spliced-more a.to l.e (standing_from a.n (entry_in a.keys.now) a.target) a.n a.ranks.now (omega (arith, c.requires.2)) (sym r.0 ∙ ap (standing a.n (entry_in a.keys.now)) l.invariant.next) l.invariant.five;
     }

@@ -7,7 +7,7 @@ use lib.ListN.{length}
 use Rattle.text.specs.Answer.{Shows}
 use Rattle.text.specs.declared.Written.{Written}
 use Rattle.text.specs.declared.Written.TheVariants.{Whole, NoRoom}
-use Rattle.higlaupth.specs.Number.{textNumber}
+use Rattle.higlaupth.specs.Number.{text_number}
 use Rattle.higlaupth.proofs.higlaupth_map.Goals as goal
 
 -- what is made of each answer
@@ -15,7 +15,7 @@ abbrev number : Written → ℕ
 number (Whole n) = n
 number NoRoom = 2 ^ 64 - 1
 
-answered : {t before after : List ℕ} {r : Written} → Shows t before after r → number r ≡ textNumber (length t) (length before)
+answered : {t before after : List ℕ} {r : Written} → Shows t before after r → number r ≡ text_number (length t) (length before)
 answered {t} {before} h = ap number h.answer ∙ go (leb (length t) (length before))
   where
     go : (b : Bool) → number (cond b (Whole (length t)) NoRoom) ≡ cond b (length t) (2 ^ 64 - 1)
@@ -25,5 +25,5 @@ answered {t} {before} h = ap number h.answer ∙ go (leb (length t) (length befo
 pub returns-in-Whole : goal.returns-in-Whole
 returns-in-Whole c = record { number = answered c.in-Whole.ensures; text = c.in-Whole.ensures.buffer }
 
-pub returns-in-NoRoom : goal.returns-in-NoRoom
-returns-in-NoRoom c = record { number = answered c.in-NoRoom.ensures; text = c.in-NoRoom.ensures.buffer }
+pub returns-in-no_room : goal.returns-in-no_room
+returns-in-no_room c = record { number = answered c.in-NoRoom.ensures; text = c.in-NoRoom.ensures.buffer }

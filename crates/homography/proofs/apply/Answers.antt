@@ -1,8 +1,8 @@
-use Rattle.homography.specs.Fit.{appliedTo}
+use Rattle.homography.specs.Fit.{applied_to}
 use mathlib.Core.Path.{refl}
 use Rattle.homography.proofs.apply.Goals as goal
 
 pub returns : goal.returns
-unfolding appliedTo
+unfolding applied_to
 returns c =
     refl

@@ -1,13 +1,13 @@
-use Rattle.homography.specs.Fit.{denormalizedMap}
+use Rattle.homography.specs.Fit.{denormalized_map}
 use Rattle.homography.proofs.denormalize_homography.Goals as goal
 
 pub returns-then-det : goal.returns-then-det
-unfolding denormalizedMap
+unfolding denormalized_map
 returns-then-det c =
     rw (← c.determinant-det.ensures, c.if-det.true)
 
 pub returns : goal.returns
-unfolding denormalizedMap
+unfolding denormalized_map
 returns c =
     rw (
       c.normalize_homography.ensures,

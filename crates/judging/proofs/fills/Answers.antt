@@ -3,9 +3,9 @@ use mathlib.Core.List.{List}
 use Prim.Native.Nat.{ℕ}
 use native.Mathlib.Omega.{arith}
 use lib.ListN.{length}
-use Rattle.view.specs.View.{viewAt}
+use Rattle.view.specs.View.{view_at}
 use Rattle.patches.proofs.Lattices.{square-places}
-use Rattle.predict.specs.Fills.{fillsOf, offsetsOf}
+use Rattle.predict.specs.Fills.{fills_of, offsets_of}
 use Rattle.judging.proofs.fills.Goals as goal
 
 pub fills-requires : goal.fills-requires
@@ -16,4 +16,4 @@ fills-requires c =
 pub returns : goal.returns
 returns c =
     let a = c.args in
-    c.fills.ensures ∙ ap (λ (sides : List ℕ). fillsOf (viewAt a.t.count a.ranks.now a.x.now a.y.now) (offsetsOf sides) a.marks.now) c.square_sides-sides.ensures
+    c.fills.ensures ∙ ap (λ (sides : List ℕ). fills_of (view_at a.t.count a.ranks.now a.x.now a.y.now) (offsets_of sides) a.marks.now) c.square_sides-sides.ensures

@@ -1,10 +1,10 @@
-use Rattle.view.specs.View.{viewAt}
-use Rattle.cells.specs.Cell.{cellsAt}
+use Rattle.view.specs.View.{view_at}
+use Rattle.cells.specs.Cell.{cells_at}
 use Rattle.drop_set.proofs.Laws.{judged-is}
 use Rattle.judging.proofs.judge_ranked.Goals as goal
 
 pub returns : goal.returns
 returns c =
     let a = c.args in
-    judged-is a.t.settings (viewAt a.t.count a.ranks.now a.x.now a.y.now) (cellsAt a.keys.now) a.strength.now _ _ _ c.measure-m.ensures.findings c.measure-m.ensures.figures
+    judged-is a.t.settings (view_at a.t.count a.ranks.now a.x.now a.y.now) (cells_at a.keys.now) a.strength.now _ _ _ c.measure-m.ensures.findings c.measure-m.ensures.figures
     (c.drop_patches-d.ensures a.x.now a.y.now)

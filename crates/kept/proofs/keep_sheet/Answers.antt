@@ -1,8 +1,8 @@
 use mathlib.Core.Path.{refl}
 use lib.ListN.{length-replicate}
-use Rattle.folds.specs.Arith.{zeroF}
-use Rattle.judged.specs.Columns.{measuresSize}
-use Rattle.judged.specs.Judged.{judgedFrom}
+use Rattle.folds.specs.Arith.{zero_f}
+use Rattle.judged.specs.Columns.{measures_size}
+use Rattle.judged.specs.Judged.{judged_from}
 use Rattle.kept.proofs.Cases.{arrays, fit, done, turned}
 use Rattle.kept.proofs.keep_sheet.Goals as goal
 
@@ -10,7 +10,7 @@ pub judge-j-requires : goal.judge-j-requires
 judge-j-requires c =
     let a = c.args in (
       arrays a.file.now a.rows.now (λ k. (c.type_inv.file k).fits) a.sheet c.requires c.if-number-eq0.true,
-      record { zeros = refl; long = length-replicate measuresSize zeroF },
+      record { zeros = refl; long = length-replicate measures_size zero_f },
     )
 
 pub write_rows-requires : goal.write_rows-requires
@@ -19,7 +19,7 @@ write_rows-requires c =
     fit a.file.now a.rows.now (λ k. (c.type_inv.file k).fits) a.sheet c.requires c.if-number-eq0.true
 
 pub returns-then-number-eq0 : goal.returns-then-number-eq0
-unfolding judgedFrom
+unfolding judged_from
 returns-then-number-eq0 c =
     let a = c.args in
     let d = done a.file.now a.rows.now (λ k. (c.type_inv.file k).fits) a.sheet c.requires c.if-number-eq0.true c.judge-j.ensures c.write_rows.ensures in

@@ -1,11 +1,11 @@
 use mathlib.Core.Path.{◌∙◌, sym}
 use Rattle.folds.proofs.Below.{first-end}
-use Rattle.linear.specs.Linear.{nextLarger}
+use Rattle.linear.specs.Linear.{next_larger}
 use Rattle.linear.proofs.Pivot.{next-found, next-passed}
 use Rattle.linear.proofs.next_larger.Goals as goal
 
 pub returns-then-largest-magnitude : goal.returns-then-largest-magnitude
-unfolding nextLarger
+unfolding next_larger
 returns-then-largest-magnitude c =
     let a = c.args in
     let t = c.loop-k-test.true in
@@ -18,6 +18,6 @@ loop-k-preserved c =
     next-passed a.m.now a.i a.best c.loop-k.k t c.magnitude-largest.ensures c.magnitude.ensures c.if-largest-magnitude.false ∙ c.loop-k.invariant
 
 pub returns : goal.returns
-unfolding nextLarger
+unfolding next_larger
 returns c =
     sym (first-end _ _ _ c.loop-k-test.false) ∙ c.loop-k.invariant

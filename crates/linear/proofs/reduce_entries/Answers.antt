@@ -1,10 +1,10 @@
 use mathlib.Core.Path.{◌∙◌, sym}
 use Rattle.folds.proofs.Run.{run_step, run-done}
-use Rattle.linear.specs.Linear.{reduceEntry}
+use Rattle.linear.specs.Linear.{reduce_entry}
 use Rattle.linear.proofs.reduce_entries.Goals as goal
 
 pub loop-j-preserved : goal.loop-j-preserved
-unfolding reduceEntry
+unfolding reduce_entry
 loop-j-preserved c =
     sym (run_step _ _ _ _ c.loop-j-test.true) ∙ c.loop-j.invariant
 

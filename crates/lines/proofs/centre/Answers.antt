@@ -1,4 +1,4 @@
-use Rattle.lines.specs.Fit.{centreOf, meanOver}
+use Rattle.lines.specs.Fit.{centre_of, mean_over}
 use Rattle.folds.proofs.Lists.{over_none, over-more}
 use lib.Seq.{length-take-le}
 use native.Mathlib.Omega.{arith}
@@ -16,6 +16,6 @@ loop-i-preserved c =
     (omega arith, rw (over-more _ _ l i 0 (omega arith), ← c.loop-i.invariant.1, c.wide-j.ensures), rw (over-more _ _ l i 0 (omega arith), ← c.loop-i.invariant.2, c.wide-j.ensures))
 
 pub returns : goal.returns
-unfolding centreOf meanOver
+unfolding centre_of mean_over
 returns c =
     let e : c.loop-i.i ≡ c.args.c = omega arith in rw (length-take-le c.args.c c.args.l.now (omega (arith, c.requires)), ← e, c.loop-i.invariant.1, c.loop-i.invariant.2)

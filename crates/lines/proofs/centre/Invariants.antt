@@ -1,6 +1,6 @@
 use Rattle.lines.specs.Fit.{value_at}
 use Rattle.folds.specs.Lists.{over}
-use Rattle.folds.specs.Arith.{◌⊕◌, zeroF}
+use Rattle.folds.specs.Arith.{◌⊕◌, zero_f}
 use lib.Ieee.{Float}
 use lib.ListN.{take}
 use mathlib.Core.Path.{◌≡◌}
@@ -8,7 +8,7 @@ use Prim.Native.Nat.{ℕ, ◌≤◌, ◌-◌}
 use Rattle.lines.proofs.centre.Given as goal
 
 abbrev pub invariant-loop-i : goal.invariant-loop-i
-invariant-loop-i l = (l.i ≤ l.c) × (l.cx ≡ over (λ (s : Float) (j : ℕ). s ⊕ value_at l.x j) zeroF (take l.i l.l)) × (l.cy ≡ over (λ (s : Float) (j : ℕ). s ⊕ value_at l.y j) zeroF (take l.i l.l))
+invariant-loop-i l = (l.i ≤ l.c) × (l.cx ≡ over (λ (s : Float) (j : ℕ). s ⊕ value_at l.x j) zero_f (take l.i l.l)) × (l.cy ≡ over (λ (s : Float) (j : ℕ). s ⊕ value_at l.y j) zero_f (take l.i l.l))
 
 abbrev pub decreases-loop-i : goal.decreases-loop-i
 decreases-loop-i l = l.c - l.i

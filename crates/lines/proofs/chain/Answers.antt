@@ -1,5 +1,5 @@
 use Rattle.lines.proofs.Walking.{chain-start, chain_more}
-use Rattle.view.specs.View.{maxPoints}
+use Rattle.view.specs.View.{max_points}
 use Rattle.lines.proofs.Walking.{line-below}
 use native.Mathlib.Omega.{arith}
 use mathlib.Core.Path.{◌≡◌}
@@ -13,5 +13,5 @@ loop-i-init c =
 pub loop-i-preserved : goal.loop-i-preserved
 loop-i-preserved c =
     let e : c.loop-i.i ≡ c.loop-i.i - 1 + 1 = omega arith in
-    let place : c.line_of-number.result < maxPoints = omega (arith, line-below c.requires.0 c.args.rows (c.loop-i.i - 1) (omega arith), c.line_of-number.ensures, c.requires.0.few) in
+    let place : c.line_of-number.result < max_points = omega (arith, line-below c.requires.0 c.args.rows (c.loop-i.i - 1) (omega arith), c.line_of-number.ensures, c.requires.0.few) in
     (omega arith, chain_more _ _ (c.loop-i.i - 1) _ _ _ (omega arith) (omega (arith, c.requires.0.few)) place c.line_of-number.ensures (rw e at c.loop-i.invariant.1))

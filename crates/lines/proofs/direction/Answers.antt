@@ -1,17 +1,17 @@
-use Rattle.lines.specs.Fit.{directionOf}
+use Rattle.lines.specs.Fit.{direction_of}
 use Rattle.lines.proofs.direction.Goals as goal
 
 pub returns-then-abs : goal.returns-then-abs
-unfolding directionOf
+unfolding direction_of
 returns-then-abs c =
     rw (← c.abs.ensures, c.if-abs.true, c.larger_eigenvalue.ensures)
 
 pub returns-then-sxx-syy : goal.returns-then-sxx-syy
-unfolding directionOf
+unfolding direction_of
 returns-then-sxx-syy c =
     rw (← c.abs.ensures, c.if-abs.false, c.if-sxx-syy.true)
 
 pub returns : goal.returns
-unfolding directionOf
+unfolding direction_of
 returns c =
     rw (← c.abs.ensures, c.if-abs.false, c.if-sxx-syy.false)

@@ -1,12 +1,12 @@
-use Rattle.lines.specs.Fit.{fitOf, centreOf, lineAround}
+use Rattle.lines.specs.Fit.{fit_of, centre_of, line_around}
 use lib.Ieee.{Float}
 use mathlib.Core.List.{List}
 use mathlib.Core.Path.{◌≡◌, refl}
 use Prim.Native.Nat.{ℕ}
 use Rattle.lines.proofs.fit.Goals as goal
 
-fit_is : (x y : ℕ → Float) (l : List ℕ) → lineAround x y (centreOf x y l) l ≡ fitOf x y l
-unfolding fitOf
+fit_is : (x y : ℕ → Float) (l : List ℕ) → line_around x y (centre_of x y l) l ≡ fit_of x y l
+unfolding fit_of
 fit_is x y l = refl
 
 pub returns : goal.returns

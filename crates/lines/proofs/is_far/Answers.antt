@@ -1,7 +1,7 @@
-use Rattle.lines.specs.Flags.{isFar}
+use Rattle.lines.specs.Flags.{is_far}
 use Rattle.lines.proofs.is_far.Goals as goal
 
 pub returns : goal.returns
-unfolding isFar
+unfolding is_far
 returns c =
     rw c.distance.ensures

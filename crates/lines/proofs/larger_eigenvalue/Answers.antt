@@ -1,7 +1,7 @@
-use Rattle.lines.specs.Fit.{largerEigenvalue}
+use Rattle.lines.specs.Fit.{larger_eigenvalue}
 use Rattle.lines.proofs.larger_eigenvalue.Goals as goal
 
 pub returns : goal.returns
-unfolding largerEigenvalue
+unfolding larger_eigenvalue
 returns c =
     rw (c.sqrt-disc.ensures, c.max.ensures)

@@ -1,4 +1,4 @@
-use Rattle.lines.specs.Fit.{value_at, momentOf, directionOf, lineThrough, lineAround}
+use Rattle.lines.specs.Fit.{value_at, moment_of, direction_of, line_through, line_around}
 use Rattle.lines.specs.declared.Line.{Line}
 use Rattle.lines.specs.declared.Vector.{Vector}
 use mathlib.Core.List.{List}
@@ -12,17 +12,17 @@ use Prim.Native.Nat.{ℕ}
 use Rattle.lines.proofs.line_around.Goals as goal
 
 whole : (x y : ℕ → Float) (v : Vector) (l : List ℕ) (i c : ℕ) {sxx sxy syy : Float} {d : Vector} {r : Line} → i ≡ c
-    → sxx ≡ momentOf x v.x x v.x (take i l) → sxy ≡ momentOf x v.x y v.y (take i l) → syy ≡ momentOf y v.y y v.y (take i l)
-    → d ≡ directionOf sxx sxy syy → r ≡ lineThrough v d → r ≡ lineAround x y v (take c l)
-unfolding lineAround
+    → sxx ≡ moment_of x v.x x v.x (take i l) → sxy ≡ moment_of x v.x y v.y (take i l) → syy ≡ moment_of y v.y y v.y (take i l)
+    → d ≡ direction_of sxx sxy syy → r ≡ line_through v d → r ≡ line_around x y v (take c l)
+unfolding line_around
 whole x y v l i c e a b g h k = cc
 
 pub loop-i-init : goal.loop-i-init
-unfolding momentOf over
+unfolding moment_of over
 loop-i-init c = (omega arith, refl, refl, refl)
 
 pub loop-i-preserved : goal.loop-i-preserved
-unfolding momentOf
+unfolding moment_of
 loop-i-preserved c =
     let l = c.args.l.now in
     let i = c.loop-i.i in (

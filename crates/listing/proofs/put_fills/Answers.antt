@@ -1,14 +1,14 @@
 use Rattle.std.proofs.Common.{rules, List, ℕ, get_or}
-use Rattle.cells.specs.Cell.{cellsAt}
+use Rattle.cells.specs.Cell.{cells_at}
 use Rattle.predict.specs.declared.Prediction.{Prediction}
 use Rattle.predict.specs.declared.Prediction.TheVariants.{NoPair}
 use Rattle.text.proofs.Stores.{stored-start, stored_more}
-use Rattle.listing.specs.Listing.{fillLine}
+use Rattle.listing.specs.Listing.{fill_line}
 use Rattle.listing.proofs.put_fills.Goals as goal
 
 -- the line of rank k
 abbrev line : List ℕ → List ℕ → List Prediction → ℕ → List ℕ
-line keys marks fills k = fillLine (cellsAt keys k) (get_or marks k 0) (get_or fills k NoPair)
+line keys marks fills k = fill_line (cells_at keys k) (get_or marks k 0) (get_or fills k NoPair)
 
 pub loop-k-init : goal.loop-k-init
 loop-k-init c =

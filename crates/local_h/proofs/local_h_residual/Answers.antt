@@ -1,7 +1,7 @@
 use mathlib.Core.Path.{◌∙◌}
 use mathlib.Core.List.{[]}
 use native.Mathlib.Omega.{arith}
-use Rattle.cells.specs.Cell.{cellsAt}
+use Rattle.cells.specs.Cell.{cells_at}
 use Rattle.local_h.proofs.Bases.{members-ranked, fitted, unfitted}
 use Rattle.local_h.proofs.local_h_residual.Goals as goal
 
@@ -12,9 +12,9 @@ residual_from-requires c =
 pub returns-then-f-lt24 : goal.returns-then-f-lt24
 returns-then-f-lt24 c =
     let a = c.args in
-    c.residual_from.ensures ∙ fitted a.n a.ranks.now a.x.now a.y.now (cellsAt a.keys.now) a.k c.find_base-f.result (c.find_base-f.ensures a.x.now a.y.now) c.if-f-lt24.true
+    c.residual_from.ensures ∙ fitted a.n a.ranks.now a.x.now a.y.now (cells_at a.keys.now) a.k c.find_base-f.result (c.find_base-f.ensures a.x.now a.y.now) c.if-f-lt24.true
 
 pub returns : goal.returns
 returns c =
     let a = c.args in
-    unfitted a.n a.ranks.now a.x.now a.y.now (cellsAt a.keys.now) a.k c.find_base-f.result (c.find_base-f.ensures a.x.now a.y.now) c.if-f-lt24.false
+    unfitted a.n a.ranks.now a.x.now a.y.now (cells_at a.keys.now) a.k c.find_base-f.result (c.find_base-f.ensures a.x.now a.y.now) c.if-f-lt24.false

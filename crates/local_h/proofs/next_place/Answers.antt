@@ -5,15 +5,15 @@ use native.Mathlib.Omega.{arith}
 use lib.ListN.{get_or, get_or-eq_default}
 use Rattle.offsets.specs.Offsets.{own, place_of}
 use Rattle.offsets.specs.declared.Offset.{Offset}
-use Rattle.view.specs.View.{viewAt}
-use Rattle.local_h.specs.Order.{nearestFirst, offsetAt}
-use Rattle.local_h.specs.Base.{memberAt}
+use Rattle.view.specs.View.{view_at}
+use Rattle.local_h.specs.Order.{nearest_first, offset_at}
+use Rattle.local_h.specs.Base.{member_at}
 use Rattle.local_h.proofs.Bases.{serving-is}
 use Rattle.local_h.proofs.Searching.{search-start, search-more, search-found, search-end}
 use Rattle.local_h.proofs.next_place.Goals as goal
 
 -- the rank that was read is the one at place p
-member : (ranks : List ℕ) (n k p j : ℕ) (o : Offset) → o ≡ offsetAt p → j ≡ get_or ranks (25 * k + place_of o) 0 → j ≡ memberAt (viewAt n ranks [] []) k p
+member : (ranks : List ℕ) (n k p j : ℕ) (o : Offset) → o ≡ offset_at p → j ≡ get_or ranks (25 * k + place_of o) 0 → j ≡ member_at (view_at n ranks [] []) k p
 member ranks n k p j o e h = h ∙ ap (λ (x : Offset). get_or ranks (25 * k + place_of x) 0) e
 
 pub loop-p-init : goal.loop-p-init
@@ -40,4 +40,4 @@ loop-p-preserved c =
 
 pub returns : goal.returns
 returns c =
-    record { place = search-end _ _ _ c.loop-p-test.false c.loop-p.invariant; within = refl; offset = sym (get_or-eq_default nearestFirst own c.loop-p-test.false); rank = λ h. absurd (omega arith) }
+    record { place = search-end _ _ _ c.loop-p-test.false c.loop-p.invariant; within = refl; offset = sym (get_or-eq_default nearest_first own c.loop-p-test.false); rank = λ h. absurd (omega arith) }

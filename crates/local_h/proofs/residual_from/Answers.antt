@@ -1,8 +1,8 @@
-use Rattle.local_h.specs.Residual.{residualFrom}
+use Rattle.local_h.specs.Residual.{residual_from}
 use Rattle.local_h.proofs.residual_from.Goals as goal
 
 pub returns : goal.returns
-unfolding residualFrom
+unfolding residual_from
 returns c =
     rw (
       c.residual_by.ensures,

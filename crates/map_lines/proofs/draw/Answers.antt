@@ -1,14 +1,14 @@
 use native.Mathlib.Omega.{arith}
 use lib.IntN.{pos, ◌-ℤ◌}
 use Rattle.cells.specs.Points.{bias}
-use Rattle.cells.specs.Cell.{cellsAt}
+use Rattle.cells.specs.Cell.{cells_at}
 use borrow.Author.Rules.{rules}
 use Rattle.map_lines.proofs.Drawing.{drawn-none, drawn-more}
 use Rattle.map_lines.proofs.draw.Goals as goal
 
 pub loop-k-init : goal.loop-k-init
 loop-k-init c =
-    let a = c.args in (search rules, drawn-none (cellsAt a.keys.now) a.marks.now (pos a.u -ℤ pos bias) (pos a.v -ℤ pos bias))
+    let a = c.args in (search rules, drawn-none (cells_at a.keys.now) a.marks.now (pos a.u -ℤ pos bias) (pos a.v -ℤ pos bias))
 
 pub loop-k-preserved : goal.loop-k-preserved
 loop-k-preserved c =

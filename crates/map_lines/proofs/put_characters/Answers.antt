@@ -3,7 +3,7 @@ use native.Mathlib.Omega.{arith}
 use Rattle.text.proofs.Stores.{stored-start, stored_more}
 use borrow.Author.Rules.{rules}
 use Rattle.map_lines.specs.Map.{columns}
-use Rattle.map_lines.specs.Page.{pageLine}
+use Rattle.map_lines.specs.Page.{page_line}
 use Rattle.map_lines.proofs.put_characters.Goals as goal
 use Rattle.map_lines.proofs.put_characters.Invariants.{character}
 
@@ -17,7 +17,7 @@ loop-j-preserved c =
     (search rules, stored_more (character a.page.now a.i) c.loop-j.invariant.1 c.put_byte-next.ensures)
 
 pub returns : goal.returns
-unfolding pageLine
+unfolding page_line
 returns c =
     let e : c.loop-j.j ≡ columns = omega arith in
     rw e at c.loop-j.invariant.1

@@ -4,12 +4,12 @@ use lib.IntN.{pos, ◌-ℤ◌}
 use Rattle.cells.specs.Points.{bias}
 use Rattle.text.specs.Text.{each}
 use Rattle.text.specs.Stored.{Stored}
-use Rattle.map_lines.specs.Map.{lineText}
-use Rattle.map_lines.specs.Page.{pageLine}
+use Rattle.map_lines.specs.Map.{line_text}
+use Rattle.map_lines.specs.Page.{page_line}
 use Rattle.map_lines.proofs.put_lines.Given as goal
 
 abbrev pub line : List ℕ → ℕ → ℕ → List ℕ
-line page v i = lineText (pos (v + i) -ℤ pos bias) (pageLine page i)
+line page v i = line_text (pos (v + i) -ℤ pos bias) (page_line page i)
 
 abbrev pub invariant-loop-i : goal.invariant-loop-i
 invariant-loop-i l = (l.i ≤ l.count) × Stored l.initial.out l.at (each (line l.page l.v) l.i) l.out l.to

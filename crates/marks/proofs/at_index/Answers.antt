@@ -8,14 +8,14 @@ use lib.ListN.{get_or}
 use Rattle.folds.specs.Below.{some}
 use Rattle.folds.proofs.Below.{and-false}
 use Rattle.folds.proofs.Marked.{marked-none, marked_more}
-use Rattle.view.specs.View.{maxPoints, indicesAt}
+use Rattle.view.specs.View.{max_points, indices_at}
 use Rattle.marks.specs.Marks.{is_set}
 use Rattle.marks.proofs.Guards.{guard, past, each-as-column}
 use Rattle.marks.proofs.at_index.Goals as goal
 
 -- rank j hits place m
 abbrev hits : List ℕ → List ℕ → ℕ → ℕ → ℕ → Bool
-hits ranks mark n j m = is_set mark j && (ltb (get_or ranks (indicesAt + j) 0) n && eqb (get_or ranks (indicesAt + j) 0) m)
+hits ranks mark n j m = is_set mark j && (ltb (get_or ranks (indices_at + j) 0) n && eqb (get_or ranks (indices_at + j) 0) m)
 
 pub loop-k-init : goal.loop-k-init
 unfolding some
@@ -31,8 +31,8 @@ pub returns : goal.returns
 returns c =
     let a = c.args in
     let h : c.loop-k.k ≡ a.n = omega arith in
-    let place : ℕ → ℕ = λ k. get_or a.ranks.now (indicesAt + k) 0 in
-    each-as-column (hits a.ranks.now a.mark.now a.n) (λ (j m : ℕ). is_set a.mark.now j && eqb (place j) m) maxPoints a.n (omega arith)
+    let place : ℕ → ℕ = λ k. get_or a.ranks.now (indices_at + k) 0 in
+    each-as-column (hits a.ranks.now a.mark.now a.n) (λ (j m : ℕ). is_set a.mark.now j && eqb (place j) m) max_points a.n (omega arith)
     (λ k m g l. rw (past (place k) m a.n l) (and-false (is_set a.mark.now k)))
     (λ k m g l. rw (guard (place k) m a.n l))
     (rw h at c.loop-k.invariant.1)

@@ -4,12 +4,12 @@ use lib.Dec.{eqb, ltb}
 use lib.ListN.{get_or, replicate}
 use Rattle.folds.specs.Below.{some}
 use Rattle.folds.specs.Marked.{Marked}
-use Rattle.view.specs.View.{maxPoints, indicesAt}
+use Rattle.view.specs.View.{max_points, indices_at}
 use Rattle.marks.specs.Marks.{is_set}
 use Rattle.marks.proofs.at_index.Given as goal
 
 abbrev pub invariant-loop-k : goal.invariant-loop-k
-invariant-loop-k l = (l.k ≤ l.n) × Marked (λ (m : ℕ). some (λ (j : ℕ). is_set l.mark j && (ltb (get_or l.ranks (indicesAt + j) 0) l.n && eqb (get_or l.ranks (indicesAt + j) 0) m)) l.k) (replicate maxPoints 0) l.out
+invariant-loop-k l = (l.k ≤ l.n) × Marked (λ (m : ℕ). some (λ (j : ℕ). is_set l.mark j && (ltb (get_or l.ranks (indices_at + j) 0) l.n && eqb (get_or l.ranks (indices_at + j) 0) m)) l.k) (replicate max_points 0) l.out
 
 abbrev pub decreases-loop-k : goal.decreases-loop-k
 decreases-loop-k l = l.n - l.k

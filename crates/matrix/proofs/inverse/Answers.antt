@@ -1,8 +1,8 @@
-use Rattle.matrix.specs.Matrix.{inverseOf}
+use Rattle.matrix.specs.Matrix.{inverse_of}
 use mathlib.Core.Path.{refl}
 use Rattle.matrix.proofs.inverse.Goals as goal
 
 pub returns : goal.returns
-unfolding inverseOf
+unfolding inverse_of
 returns c =
     refl

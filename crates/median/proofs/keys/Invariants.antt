@@ -2,13 +2,13 @@ use Prim.Native.Nat.{ℕ, ◌-◌, ◌≤◌, ◌<◌}
 use lib.Ieee.{nan}
 use lib.ListN.{get_or, replicate}
 use Rattle.folds.specs.Column.{Filling}
-use Rattle.view.specs.View.{maxPoints}
+use Rattle.view.specs.View.{max_points}
 use Rattle.sort.specs.Packed.{packed}
 use Rattle.median.specs.Keys.{Number, key_at}
 use Rattle.median.proofs.keys.Given as goal
 
 abbrev pub invariant-loop-k : goal.invariant-loop-k
-invariant-loop-k l = (l.k ≤ l.n) × Filling (replicate maxPoints 0) 0 (packed (key_at l.v)) l.k l.out × ((j : ℕ) → j < l.k → Number (get_or l.v j nan))
+invariant-loop-k l = (l.k ≤ l.n) × Filling (replicate max_points 0) 0 (packed (key_at l.v)) l.k l.out × ((j : ℕ) → j < l.k → Number (get_or l.v j nan))
 
 abbrev pub decreases-loop-k : goal.decreases-loop-k
 decreases-loop-k l = l.n - l.k

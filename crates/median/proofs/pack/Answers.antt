@@ -1,5 +1,5 @@
 use Rattle.median.proofs.Steps.{packed_none, packed_more}
-use Rattle.median.specs.Packed.{positiveAt}
+use Rattle.median.specs.Packed.{positive_at}
 use Rattle.folds.proofs.Below.{tally-le}
 use native.Mathlib.Omega.{arith}
 use Rattle.median.proofs.pack.Goals as goal
@@ -10,7 +10,7 @@ loop-k-init c =
 
 pub put-c-requires : goal.put-c-requires
 put-c-requires c =
-    let i = c.loop-k.invariant.1 in (omega (arith, i.count, tally-le (positiveAt c.args.v.now) c.loop-k.k), i.size)
+    let i = c.loop-k.invariant.1 in (omega (arith, i.count, tally-le (positive_at c.args.v.now) c.loop-k.k), i.size)
 
 pub loop-k-preserved : goal.loop-k-preserved
 loop-k-preserved c =

@@ -1,4 +1,4 @@
-use Rattle.median.specs.Keys.{risingOf}
+use Rattle.median.specs.Keys.{rising_of}
 use lib.Dec.{T}
 use lib.Ieee.{Float, nan, inf, fin, binary32, fits, is_nan}
 use lib.Ieee.Scale.{finite}
@@ -24,7 +24,7 @@ overflow_cast-b c =
     omega (arith, to_bits-lt binary32 c.args.x f)
 
 pub returns-then-b-lt2147483648 : goal.returns-then-b-lt2147483648
-unfolding risingOf
+unfolding rising_of
 returns-then-b-lt2147483648 c =
     record { is = rw (lt-ltb _ _ c.if-b-lt2147483648.true); small = omega arith; number = record { is_finite = c.requires; is-f32 = subst T (sym c.well_formed.0.1) tt } }
 
@@ -34,6 +34,6 @@ overflow_sub-result c =
     omega (arith, to_bits-lt binary32 c.args.x f)
 
 pub returns : goal.returns
-unfolding risingOf
+unfolding rising_of
 returns c =
     record { is = rw (le-ltb _ _ c.if-b-lt2147483648.false); small = omega arith; number = record { is_finite = c.requires; is-f32 = subst T (sym c.well_formed.0.1) tt } }

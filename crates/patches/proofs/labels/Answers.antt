@@ -1,6 +1,6 @@
 use mathlib.Core.List.{[]}
 use native.Mathlib.Omega.{arith}
-use Rattle.view.specs.View.{viewAt}
+use Rattle.view.specs.View.{view_at}
 use Rattle.patches.proofs.Searching.{list-start, search-none}
 use Rattle.patches.proofs.Labelling.{search-labels}
 use Rattle.patches.proofs.labels.Goals as goal
@@ -21,4 +21,4 @@ pub returns : goal.returns
 returns c xs ys =
     let a = c.args in
     let i = c.loop-i.invariant in
-    search-labels a.n (viewAt a.n a.ranks.now [] []).near a.sides.now a.dropped.now _ _ _ _ _ c.loop-i-test.false c.requires.0 i.1 i.2
+    search-labels a.n (view_at a.n a.ranks.now [] []).near a.sides.now a.dropped.now _ _ _ _ _ c.loop-i-test.false c.requires.0 i.1 i.2

@@ -2,13 +2,13 @@ use mathlib.Core.Path.{ap, ◌∙◌}
 use Prim.Native.Nat.{ℕ, ◌*◌, ◌≤◌, ◌<◌, zero-le}
 use native.Mathlib.Omega.{arith}
 use lib.ListN.{length, length-set, length-replicate}
-use Rattle.view.specs.View.{maxPoints}
+use Rattle.view.specs.View.{max_points}
 use Rattle.peel.proofs.Chaining.{chain-none, chain-put}
 use Rattle.peel.proofs.chain.Goals as goal
 
 pub loop-i-init : goal.loop-i-init
 loop-i-init c =
-    (zero-le, ap length c.requires.1 ∙ length-replicate {A = ℕ} (2 * maxPoints) 0, chain-none c.requires.1)
+    (zero-le, ap length c.requires.1 ∙ length-replicate {A = ℕ} (2 * max_points) 0, chain-none c.requires.1)
 
 pub loop-i-preserved : goal.loop-i-preserved
 loop-i-preserved c =

@@ -4,7 +4,7 @@ use native.Mathlib.Omega.{arith}
 use borrow.Author.Tests.{eqb-true}
 use lib.ListN.{get_or}
 use Rattle.folds.proofs.Below.{and_left, and_right}
-use Rattle.peel.specs.Work.{isPoint}
+use Rattle.peel.specs.Work.{is_point}
 use Rattle.peel.proofs.Leaves.{leaf-point}
 use Rattle.peel.proofs.Chaining.{walk_start, walk_first, walk-less, walk-next, walk_more}
 use Rattle.peel.proofs.Searching.{put-start, put-room, put-more, put-end}
@@ -31,7 +31,7 @@ loop-c-init c =
     let b = c.requires.0.indices a.k point in
     let h = c.wide-c.ensures ∙ ap (λ (m : ℕ). get_or a.chains.now m 0) c.index_of.ensures in (
       b,
-      (λ x t e. c.if-marks-k-eq1.false (c.requires.2.shared x a.k (and_left _ _ t) point (eqb-true _ _ (and_right (isPoint a.state.now x) _ t)) e)),
+      (λ x t e. c.if-marks-k-eq1.false (c.requires.2.shared x a.k (and_left _ _ t) point (eqb-true _ _ (and_right (is_point a.state.now x) _ t)) e)),
       walk_start c.requires.1 b h,
       put-start c.requires.2 (λ x l t. walk_first c.requires.1 b h x (c.requires.0.within x (and_left _ _ t)) l t),
     )

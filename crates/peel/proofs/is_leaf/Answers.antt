@@ -6,7 +6,7 @@ use borrow.Author.Tests.{eq-eqb, ne_eqb, lt-ltb, le-ltb}
 use lib.Dec.{ltb}
 use lib.ListN.{length, get_or}
 use Rattle.folds.proofs.Below.{tally-none, tally-turn, tally-le, not-true}
-use Rattle.peel.specs.Work.{livesAt, nearAt, liveBeside, leafAt}
+use Rattle.peel.specs.Work.{lives_at, near_at, live_beside, leaf_at}
 use Rattle.peel.proofs.Leaves.{dead-beyond, leaf-point, leaf-by}
 use Rattle.peel.proofs.is_leaf.Goals as goal
 use Rattle.peel.proofs.is_leaf.Goals.{else-j-lt-MAX_POINTS-via-then-j-lt-MAX_POINTS+else-state-j-gt-DEAD, else-j-lt-MAX_POINTS-via-else-j-lt-MAX_POINTS}
@@ -14,7 +14,7 @@ use Rattle.peel.proofs.is_leaf.Goals.{else-j-lt-MAX_POINTS-via-then-j-lt-MAX_POI
 pub returns-then-k-ge-MAX_POINTS : goal.returns-then-k-ge-MAX_POINTS
 returns-then-k-ge-MAX_POINTS c =
     let a = c.args in
-    sym (not-true (leafAt a.ranks.now a.state.now a.sides.now a.k) (λ e. omega (arith, c.if-k-ge-MAX_POINTS.true, c.requires.within a.k (leaf-point a.ranks.now a.state.now a.sides.now a.k e))))
+    sym (not-true (leaf_at a.ranks.now a.state.now a.sides.now a.k) (λ e. omega (arith, c.if-k-ge-MAX_POINTS.true, c.requires.within a.k (leaf-point a.ranks.now a.state.now a.sides.now a.k e))))
 
 pub returns-then-state-k-ne-WEAK : goal.returns-then-state-k-ne-WEAK
 returns-then-state-k-ne-WEAK c =
@@ -27,23 +27,23 @@ loop-i-init c =
 pub overflow_add-count : goal.overflow_add-count
 overflow_add-count c =
     let a = c.args in
-    omega (arith, c.loop-i.invariant.1, tally-le (λ (i : ℕ). livesAt a.state.now (nearAt a.ranks.now (25 * a.k + get_or a.sides.now i 0))) c.loop-i.i)
+    omega (arith, c.loop-i.invariant.1, tally-le (λ (i : ℕ). lives_at a.state.now (near_at a.ranks.now (25 * a.k + get_or a.sides.now i 0))) c.loop-i.i)
 
 pub loop-i-preserved-then-state-j-gt-DEAD : goal.loop-i-preserved-then-state-j-gt-DEAD
 loop-i-preserved-then-state-j-gt-DEAD c =
-    (omega arith, tally-turn _ c.loop-i.i {b = true} refl (sym (lt-ltb _ _ c.if-state-j-gt-DEAD.true) ∙ ap (livesAt c.args.state.now) c.rank_at_place-j.ensures) c.loop-i.invariant.1)
+    (omega arith, tally-turn _ c.loop-i.i {b = true} refl (sym (lt-ltb _ _ c.if-state-j-gt-DEAD.true) ∙ ap (lives_at c.args.state.now) c.rank_at_place-j.ensures) c.loop-i.invariant.1)
 
 pub loop-i-preserved : goal.loop-i-preserved
 loop-i-preserved c =
-    let dead : livesAt c.args.state.now c.rank_at_place-j.result ≡ false = elim c.else-j-lt-MAX_POINTS.branch [
+    let dead : lives_at c.args.state.now c.rank_at_place-j.result ≡ false = elim c.else-j-lt-MAX_POINTS.branch [
       | else-j-lt-MAX_POINTS-via-then-j-lt-MAX_POINTS+else-state-j-gt-DEAD w ↦ le-ltb _ _ w.if-state-j-gt-DEAD.false
       | else-j-lt-MAX_POINTS-via-else-j-lt-MAX_POINTS w ↦ dead-beyond c.requires c.rank_at_place-j.result w.if-j-lt-MAX_POINTS.false
     ] in
-    (omega arith, tally-turn _ c.loop-i.i {b = false} refl (sym dead ∙ ap (livesAt c.args.state.now) c.rank_at_place-j.ensures) c.loop-i.invariant.1)
+    (omega arith, tally-turn _ c.loop-i.i {b = false} refl (sym dead ∙ ap (lives_at c.args.state.now) c.rank_at_place-j.ensures) c.loop-i.invariant.1)
 
 pub returns : goal.returns
 returns c =
     let a = c.args in
     let e : c.loop-i.i ≡ length a.sides.now = omega arith in
-    ap (λ (m : ℕ). ltb m 2) c.loop-i.invariant.1 ∙ ap (λ (i : ℕ). ltb (liveBeside a.ranks.now a.state.now a.sides.now i a.k) 2) e
+    ap (λ (m : ℕ). ltb m 2) c.loop-i.invariant.1 ∙ ap (λ (i : ℕ). ltb (live_beside a.ranks.now a.state.now a.sides.now i a.k) 2) e
     ∙ leaf-by a.ranks.now a.state.now a.sides.now a.k true (eq-eqb _ _ c.if-state-k-ne-WEAK.false)

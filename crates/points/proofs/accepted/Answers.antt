@@ -5,7 +5,7 @@ use Rattle.points.proofs.Columns.{key_fits, inside, key-column, index-column, x-
 use Rattle.points.proofs.Ordering.{entries-placed}
 use Rattle.points.proofs.Clashes.{none-off}
 use Rattle.points.specs.Entries.{EntriesHeld}
-use Rattle.points.specs.Refusals.{offStrength}
+use Rattle.points.specs.Refusals.{off_strength}
 use mathlib.Core.Path.{refl, ◌∙◌}
 use borrow.Author.Rules.{rules}
 use Rattle.points.proofs.accepted.Goals as goal
@@ -30,7 +30,7 @@ pub strengths-requires : goal.strengths-requires
 strengths-requires c =
     record {
       held = record { room = c.requires.room; placed = (held _ _ _ c.requires).placed };
-      inside = none-off _ _ offStrength c.requires.strengths;
+      inside = none-off _ _ off_strength c.requires.strengths;
     }
 
 pub returns : goal.returns

@@ -1,11 +1,11 @@
-use Rattle.sort.specs.Packed.{packedPlaces}
+use Rattle.sort.specs.Packed.{packed_places}
 use Rattle.folds.specs.Column.{Filling}
 use lib.ListN.{get_or}
 use Prim.Native.Nat.{ℕ, ◌-◌, ◌/◌, ◌≤◌}
 use Rattle.points.proofs.keys.Given as goal
 
 abbrev pub invariant-loop-i : goal.invariant-loop-i
-invariant-loop-i l = (l.i ≤ l.n) × Filling l.initial.out 0 (λ (k : ℕ). get_or l.entries k 0 / packedPlaces) l.i l.out
+invariant-loop-i l = (l.i ≤ l.n) × Filling l.initial.out 0 (λ (k : ℕ). get_or l.entries k 0 / packed_places) l.i l.out
 
 abbrev pub decreases-loop-i : goal.decreases-loop-i
 decreases-loop-i l = l.n - l.i

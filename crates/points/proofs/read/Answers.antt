@@ -1,9 +1,9 @@
 use Rattle.sheet_file.specs.declared.Fraction.{Fraction}
-use Rattle.folds.specs.Among.{anyIn}
+use Rattle.folds.specs.Among.{any_in}
 use Rattle.folds.proofs.Below.{or-none}
 use Rattle.refusals.proofs.Laws.{neither-holds}
 use Rattle.cells.specs.Points.{Point}
-use Rattle.points.specs.Refusals.{offRange, offLimit, offStrength, offFraction, pointRefusals}
+use Rattle.points.specs.Refusals.{off_range, off_limit, off_strength, off_fraction, point_refusals}
 use Rattle.points.proofs.Ordering.{entries-placed}
 use Rattle.points.proofs.Clashes.{cells-found, positions-found, strengths-found}
 use Rattle.points.proofs.Rulings.{refused-by, accepted-by}
@@ -13,21 +13,21 @@ use mathlib.Core.Path.{◌≡◌, refl, sym, ◌∙◌}
 use Rattle.points.proofs.read.Goals as goal
 
 -- what is known where a test has failed, of the points ps and the fraction x
-in-limits : (x : Fraction) (ps : List Point) → anyIn offRange ps ≡ false → anyIn offLimit ps ≡ false → offFraction x || anyIn offStrength ps ≡ false → {b : Bool} → b ≡ false
-    → anyIn offRange ps || (anyIn offLimit ps || ((offFraction x || anyIn offStrength ps) || b)) ≡ false
+in-limits : (x : Fraction) (ps : List Point) → any_in off_range ps ≡ false → any_in off_limit ps ≡ false → off_fraction x || any_in off_strength ps ≡ false → {b : Bool} → b ≡ false
+    → any_in off_range ps || (any_in off_limit ps || ((off_fraction x || any_in off_strength ps) || b)) ≡ false
 in-limits x ps r l s h = neither-holds r (neither-holds l (neither-holds s h))
 
 pub returns-then-some_off : goal.returns-then-some_off
-unfolding pointRefusals
+unfolding point_refusals
 returns-then-some_off c = refused-by _ _ 6 (sym c.some_off.ensures ∙ c.if-some_off.true) refl c.refused.ensures
 
 pub returns-then-some_off-2 : goal.returns-then-some_off-2
-unfolding pointRefusals
+unfolding point_refusals
 returns-then-some_off-2 c =
     refused-by _ _ 7 (sym c.some_off-2.ensures ∙ c.if-some_off-2.true) (neither-holds (sym c.some_off.ensures ∙ c.if-some_off.false) refl) c.refused-then-some_off-2.ensures
 
 pub returns-then-has_bad_strength : goal.returns-then-has_bad_strength
-unfolding pointRefusals
+unfolding point_refusals
 returns-then-has_bad_strength c =
     let r = sym c.some_off.ensures ∙ c.if-some_off.false in
     let l = sym c.some_off-2.ensures ∙ c.if-some_off-2.false in
@@ -38,7 +38,7 @@ some_clash-requires c =
     record { room = c.requires; placed = rw c.entries-by_cell.ensures (entries-placed _ _ _ _ c.requires.records.few) }
 
 pub returns-then-some_clash : goal.returns-then-some_clash
-unfolding pointRefusals
+unfolding point_refusals
 returns-then-some_clash c =
     let r = sym c.some_off.ensures ∙ c.if-some_off.false in
     let l = sym c.some_off-2.ensures ∙ c.if-some_off-2.false in
@@ -51,7 +51,7 @@ some_clash-requires-2 c =
     record { room = c.requires; placed = rw c.entries-by_index.ensures (entries-placed _ _ _ _ c.requires.records.few) }
 
 pub returns-then-some_clash-2 : goal.returns-then-some_clash-2
-unfolding pointRefusals
+unfolding point_refusals
 returns-then-some_clash-2 c =
     let r = sym c.some_off.ensures ∙ c.if-some_off.false in
     let l = sym c.some_off-2.ensures ∙ c.if-some_off-2.false in
@@ -65,7 +65,7 @@ some_clash-requires-3 c =
     record { room = c.requires; placed = rw c.entries-by_index.ensures (entries-placed _ _ _ _ c.requires.records.few) }
 
 pub returns-then-some_clash-3 : goal.returns-then-some_clash-3
-unfolding pointRefusals
+unfolding point_refusals
 returns-then-some_clash-3 c =
     let r = sym c.some_off.ensures ∙ c.if-some_off.false in
     let l = sym c.some_off-2.ensures ∙ c.if-some_off-2.false in
@@ -84,12 +84,12 @@ accepted-requires c =
       bytes = λ k. (c.type_inv.file k).fits;
       in-range = sym c.some_off.ensures ∙ c.if-some_off.false;
       in-limit = sym c.some_off-2.ensures ∙ c.if-some_off-2.false;
-      strengths = (or-none (offFraction c.args.fraction) _ s).1;
+      strengths = (or-none (off_fraction c.args.fraction) _ s).1;
       ordered = c.entries-by_cell.ensures;
     }
 
 pub returns : goal.returns
-unfolding pointRefusals
+unfolding point_refusals
 returns c =
     let r = sym c.some_off.ensures ∙ c.if-some_off.false in
     let l = sym c.some_off-2.ensures ∙ c.if-some_off-2.false in

@@ -1,17 +1,17 @@
 use Rattle.std.proofs.Common.{◌≡◌, ℕ, List, sym, ◌∙◌, arith, rules}
-use Rattle.folds.specs.Among.{anyIn}
+use Rattle.folds.specs.Among.{any_in}
 use Rattle.folds.specs.Below.{some}
 use Rattle.folds.proofs.Among.{any-list}
 use Rattle.folds.proofs.Below.{some-none, some_more, some-yes}
 use Rattle.sheet_file.specs.declared.Layout.{Layout}
-use Rattle.points.specs.Entries.{offBy}
-use Rattle.points.specs.Records.{ithPoint, pointsIn}
+use Rattle.points.specs.Entries.{off_by}
+use Rattle.points.specs.Records.{ith_point, points_in}
 use Rattle.points.specs.declared.Part.{Part}
 use Rattle.points.proofs.some_off.Goals as goal
 
-listed : (file : List ℕ) (f : Layout) (part : Part) → anyIn (offBy part) (pointsIn file f) ≡ some (λ (k : ℕ). offBy part (ithPoint file f k)) f.count
-unfolding pointsIn
-listed file f part = any-list (ithPoint file f) f.count (offBy part)
+listed : (file : List ℕ) (f : Layout) (part : Part) → any_in (off_by part) (points_in file f) ≡ some (λ (k : ℕ). off_by part (ith_point file f k)) f.count
+unfolding points_in
+listed file f part = any-list (ith_point file f) f.count (off_by part)
 
 pub loop-i-init : goal.loop-i-init
 loop-i-init c = (search rules, some-none _)

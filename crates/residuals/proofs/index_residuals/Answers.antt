@@ -1,15 +1,15 @@
 use Prim.Native.Nat.{ℕ}
 use lib.ListN.{get_or}
 use lib.Ieee.{nan}
-use Rattle.cells.specs.Cell.{cellsAt}
-use Rattle.view.specs.View.{viewAt}
+use Rattle.cells.specs.Cell.{cells_at}
+use Rattle.view.specs.View.{view_at}
 use Rattle.residuals.proofs.Indexing.{gathered}
 use Rattle.residuals.proofs.index_residuals.Goals as goal
 
 pub returns : goal.returns
 returns c =
     let a = c.args in
-    gathered (viewAt a.n a.ranks.now a.x.now a.y.now) (cellsAt a.keys.now) (λ (j : ℕ). get_or a.scale.now j nan) a.tolerance
+    gathered (view_at a.n a.ranks.now a.x.now a.y.now) (cells_at a.keys.now) (λ (j : ℕ). get_or a.scale.now j nan) a.tolerance
     c.cell_residuals-cells.ensures
     (c.by_index.ensures a.x.now a.y.now)
     c.values.ensures

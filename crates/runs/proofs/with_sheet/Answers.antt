@@ -5,7 +5,7 @@ use native.Mathlib.Omega.{arith}
 use lib.ListN.{length, replicate}
 use Rattle.folds.proofs.Column.{fill_more}
 use Rattle.folds.proofs.Lists.{is-list}
-use Rattle.runs.specs.Run.{summed, withSheet}
+use Rattle.runs.specs.Run.{summed, with_sheet}
 use Rattle.runs.proofs.Full.{not_full}
 use Rattle.runs.proofs.with_sheet.Goals as goal
 
@@ -22,7 +22,7 @@ overflow_add-sheets c =
     omega (arith, (not_full c.args.run c.requires.room).few)
 
 pub returns : goal.returns
-unfolding withSheet
+unfolding with_sheet
 returns c =
     let l = c.loop-i in
     let a = c.args in

@@ -1,8 +1,8 @@
 use Rattle.std.proofs.Common.{refl}
 use lib.ListN.{length-replicate}
-use Rattle.folds.specs.Arith.{zeroF}
-use Rattle.judged.specs.Columns.{measuresSize}
-use Rattle.judged.specs.Judged.{judgedFrom}
+use Rattle.folds.specs.Arith.{zero_f}
+use Rattle.judged.specs.Columns.{measures_size}
+use Rattle.judged.specs.Judged.{judged_from}
 use Rattle.sheet_fills.proofs.Cases.{arrays, few, done, turned}
 use Rattle.sheet_fills.proofs.fill_read.Goals as goal
 
@@ -11,7 +11,7 @@ judge_sheet-j-requires c =
     let a = c.args in (
       arrays a.file.now a.out.now (λ k. (c.type_inv.file k).fits) a.sheet c.requires c.if-number-eq0.true,
       refl,
-      record { zeros = refl; long = length-replicate measuresSize zeroF },
+      record { zeros = refl; long = length-replicate measures_size zero_f },
     )
 
 pub fills-fills-requires : goal.fills-fills-requires
@@ -25,7 +25,7 @@ put_fills-end-requires c =
     few a.file.now a.out.now (λ k. (c.type_inv.file k).fits) a.sheet c.requires c.if-number-eq0.true
 
 pub returns-then-number-eq0 : goal.returns-then-number-eq0
-unfolding judgedFrom
+unfolding judged_from
 returns-then-number-eq0 c =
     let a = c.args in
     let d = done a.file.now a.out.now (λ k. (c.type_inv.file k).fits) a.sheet c.requires c.if-number-eq0.true c.judge_sheet-j.ensures.ranks c.judge_sheet-j.ensures.judged c.fills-fills.ensures c.put_fills-end.ensures in

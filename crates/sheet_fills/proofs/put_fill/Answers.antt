@@ -1,13 +1,13 @@
 use Rattle.std.proofs.Common.{eq-eqb, ne_eqb}
 use Rattle.text.proofs.Stores.{stored-none, stored-then}
-use Rattle.sheet_fills.specs.Bytes.{fillBytes}
+use Rattle.sheet_fills.specs.Bytes.{fill_bytes}
 use Rattle.sheet_fills.proofs.put_fill.Goals as goal
 
 pub returns-then-marks-eq0 : goal.returns-then-marks-eq0
 returns-then-marks-eq0 c = rw (eq-eqb _ _ c.if-marks-eq0.true) stored-none
 
 pub returns : goal.returns
-unfolding fillBytes
+unfolding fill_bytes
 returns c =
     rw (ne_eqb _ _ c.if-marks-eq0.false)
     (stored-then (stored-then (rw c.u_part.ensures at c.put_cell_number-a.ensures) (rw c.v_part.ensures at c.put_cell_number-b.ensures)) c.put_prediction.ensures)

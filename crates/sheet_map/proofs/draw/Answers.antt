@@ -3,16 +3,16 @@ use mathlib.Core.Bool.{◌||◌}
 use mathlib.Core.List.{List}
 use Prim.Native.Nat.{ℕ}
 use lib.Dec.{ltb}
-use Rattle.cells.specs.Cell.{cellsAt}
-use Rattle.judged.specs.Judged.{Judged, judgedFrom}
-use Rattle.map_lines.specs.Map.{columns, mostLines, tooWide}
+use Rattle.cells.specs.Cell.{cells_at}
+use Rattle.judged.specs.Judged.{Judged, judged_from}
+use Rattle.map_lines.specs.Map.{columns, most_lines, too_wide}
 use Rattle.map_lines.specs.Page.{Spans}
 use Rattle.map_lines.specs.declared.spans.Axis.TheVariants.{AlongU, AlongV}
 use Rattle.map_lines.specs.declared.spans.Span.{Span}
 use Rattle.sheet_map.proofs.draw.Goals as goal
 
 -- the test of what the code found is that of the definition
-of-spans : {keys : List ℕ} {n : ℕ} {u v : Span} → Spans AlongU keys n u → Spans AlongV keys n v → tooWide n (cellsAt keys) ≡ ltb columns u.count || ltb mostLines v.count
+of-spans : {keys : List ℕ} {n : ℕ} {u v : Span} → Spans AlongU keys n u → Spans AlongV keys n v → too_wide n (cells_at keys) ≡ ltb columns u.count || ltb most_lines v.count
 of-spans a b = rw (a.count-is, b.count-is)
 
 pub returns-then-too_wide : goal.returns-then-too_wide
@@ -28,7 +28,7 @@ write_map-requires c = (
 )
 
 pub returns : goal.returns
-unfolding judgedFrom
+unfolding judged_from
 returns c =
     rw (of-spans c.span_along-u.ensures c.span_along-v.ensures ∙ sym c.too_wide.ensures ∙ c.if-too_wide.false)
     (rw (ap (λ (x : Judged). x.marks) c.judge-j.ensures) at c.write_map.ensures)

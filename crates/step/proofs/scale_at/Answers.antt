@@ -1,12 +1,12 @@
-use Rattle.step.specs.Step.{scaleAt}
+use Rattle.step.specs.Step.{scale_at}
 use Rattle.step.proofs.scale_at.Goals as goal
 
 pub returns-then-s : goal.returns-then-s
-unfolding scaleAt
+unfolding scale_at
 returns-then-s c =
     rw (← c.index_of.ensures, c.if-s.true)
 
 pub returns-else-s : goal.returns-else-s
-unfolding scaleAt
+unfolding scale_at
 returns-else-s c =
     rw (← c.index_of.ensures, c.if-s.false)

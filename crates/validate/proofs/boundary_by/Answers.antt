@@ -1,5 +1,5 @@
-use Rattle.view.specs.View.{viewAt}
-use Rattle.cells.specs.Cell.{cellsAt}
+use Rattle.view.specs.View.{view_at}
+use Rattle.cells.specs.Cell.{cells_at}
 use Rattle.patches.proofs.Lattices.{square-places}
 use Rattle.validate.proofs.Stages.{off-boundary, on-boundary}
 use Rattle.validate.proofs.boundary_by.Goals as goal
@@ -10,9 +10,9 @@ boundary-requires c = (c.requires.0, square-places _ c.square_sides-sides.ensure
 pub returns-in-Off : goal.returns-in-Off
 returns-in-Off c xs ys =
     let a = c.args in
-    off-boundary (viewAt a.n a.ranks.now xs ys) (cellsAt a.keys.now) c.in-Off.is c.requires.0.few
+    off-boundary (view_at a.n a.ranks.now xs ys) (cells_at a.keys.now) c.in-Off.is c.requires.0.few
 
 pub returns-in-On : goal.returns-in-On
 returns-in-On c xs ys =
     let a = c.args in
-    on-boundary (viewAt a.n a.ranks.now xs ys) (cellsAt a.keys.now) _ c.in-On.is c.square_sides-sides.ensures (c.boundary.ensures xs ys)
+    on-boundary (view_at a.n a.ranks.now xs ys) (cells_at a.keys.now) _ c.in-On.is c.square_sides-sides.ensures (c.boundary.ensures xs ys)

@@ -1,10 +1,10 @@
 use Rattle.validate.proofs.Stages.{rules-are}
-use Rattle.cells.specs.Cell.{cellsAt}
-use Rattle.view.specs.View.{viewAt}
+use Rattle.cells.specs.Cell.{cells_at}
+use Rattle.view.specs.View.{view_at}
 use Rattle.validate.proofs.by_rules.Goals as goal
 
 pub returns : goal.returns
 returns c =
     let a = c.args in
-    rules-are a.s (viewAt a.n a.ranks.now a.x.now a.y.now) (cellsAt a.keys.now) c.steps-steps.ensures (c.scales-scales.ensures a.x.now a.y.now)
+    rules-are a.s (view_at a.n a.ranks.now a.x.now a.y.now) (cells_at a.keys.now) c.steps-steps.ensures (c.scales-scales.ensures a.x.now a.y.now)
     c.line_flags-flags.ensures c.index_residuals-r.ensures c.deviations-deviates.ensures (c.marks-marks.ensures a.x.now a.y.now)

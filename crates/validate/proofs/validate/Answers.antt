@@ -1,10 +1,10 @@
-use Rattle.cells.specs.Cell.{cellsAt}
-use Rattle.view.specs.View.{viewAt}
+use Rattle.cells.specs.Cell.{cells_at}
+use Rattle.view.specs.View.{view_at}
 use Rattle.validate.proofs.Stages.{all_are}
 use Rattle.validate.proofs.validate.Goals as goal
 
 pub returns : goal.returns
 returns c =
     let a = c.args in
-    all_are a.s (viewAt a.n a.ranks.now a.x.now a.y.now) (cellsAt a.keys.now) a.counts.now c.by_rules-r.ensures c.requires.reasons
+    all_are a.s (view_at a.n a.ranks.now a.x.now a.y.now) (cells_at a.keys.now) a.counts.now c.by_rules-r.ensures c.requires.reasons
     (c.boundary_by.ensures a.x.now a.y.now) c.with_reasons.ensures

@@ -1,14 +1,14 @@
 use Rattle.std.proofs.Common.{rules}
 use Rattle.text.proofs.Stores.{stored-start, stored_more}
-use Rattle.written_file.specs.File.{pointBytes}
-use Rattle.worst_sheet.specs.Worst.{pointAt}
+use Rattle.written_file.specs.File.{point_bytes}
+use Rattle.worst_sheet.specs.Worst.{point_at}
 use Rattle.worst_sheet.proofs.put_points.Goals as goal
 
 pub loop-u-init : goal.loop-u-init
 loop-u-init c =
-    (search rules, stored-start (λ k. pointBytes (pointAt c.args.n k)))
+    (search rules, stored-start (λ k. point_bytes (point_at c.args.n k)))
 
 pub loop-u-preserved : goal.loop-u-preserved
 loop-u-preserved c =
     let n = c.args.n in
-    (search rules, stored_more (λ k. pointBytes (pointAt n k)) c.loop-u.invariant.1 (c.put_point-next.ensures n))
+    (search rules, stored_more (λ k. point_bytes (point_at n k)) c.loop-u.invariant.1 (c.put_point-next.ensures n))

@@ -1,14 +1,14 @@
 use Rattle.std.proofs.Common.{rules}
 use Rattle.text.proofs.Stores.{stored-start, stored_more}
-use Rattle.sheet_file.specs.Bytes.{littleEndian}
-use Rattle.worst_sheet.specs.Worst.{strengthAt}
+use Rattle.sheet_file.specs.Bytes.{little_endian}
+use Rattle.worst_sheet.specs.Worst.{strength_at}
 use Rattle.worst_sheet.proofs.put_strengths.Goals as goal
 
 pub loop-u-init : goal.loop-u-init
 loop-u-init c =
-    (search rules, stored-start (λ k. littleEndian (strengthAt c.args.n k)))
+    (search rules, stored-start (λ k. little_endian (strength_at c.args.n k)))
 
 pub loop-u-preserved : goal.loop-u-preserved
 loop-u-preserved c =
     let n = c.args.n in
-    (search rules, stored_more (λ k. littleEndian (strengthAt n k)) c.loop-u.invariant.1 (rw c.strength.ensures at c.put_u32-next.ensures))
+    (search rules, stored_more (λ k. little_endian (strength_at n k)) c.loop-u.invariant.1 (rw c.strength.ensures at c.put_u32-next.ensures))

@@ -1,6 +1,6 @@
 use mathlib.Core.Path.{◌≡◌}
 use native.Mathlib.Omega.{arith}
-use Rattle.edge_shape.specs.Figures.{indexFigures}
+use Rattle.edge_shape.specs.Figures.{index_figures}
 use Rattle.judged.proofs.Columns.{blank-filled, filled_more, filled_in}
 use Rattle.judged.proofs.figures.evaluate_edge_shape.Goals as goal
 
@@ -16,5 +16,5 @@ loop-k-preserved c =
     (omega arith, filled_more _ c.loop-k.k (rw (← c.index_of.ensures) c.figures_at-f.ensures) c.put_figures.ensures c.loop-k.invariant.1)
 
 pub returns : goal.returns
-unfolding indexFigures
+unfolding index_figures
 returns c = let e : c.loop-k.k ≡ c.args.n = omega arith in filled_in _ _ c.requires.0.ranked.few (rw e at c.loop-k.invariant.1)

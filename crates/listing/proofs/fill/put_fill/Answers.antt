@@ -1,9 +1,9 @@
 use borrow.Author.Tests.{ne_eqb}
-use Rattle.listing.specs.Listing.{fillText}
+use Rattle.listing.specs.Listing.{fill_text}
 use Rattle.text.proofs.Stores.{stored-then}
 use Rattle.listing.proofs.fill.put_fill.Goals as goal
 
 pub returns : goal.returns
-unfolding fillText
+unfolding fill_text
 returns c =
     rw (ne_eqb _ _ c.if-marks-eq0.false) (stored-then (stored-then (stored-then c.put_cell-a.ensures c.put_byte-b.ensures) c.put_prediction-c.ensures) c.put_byte.ensures)

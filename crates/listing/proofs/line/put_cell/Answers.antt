@@ -1,9 +1,9 @@
-use Rattle.listing.specs.Listing.{cellText}
+use Rattle.listing.specs.Listing.{cell_text}
 use Rattle.text.proofs.Stores.{stored-then}
 use Rattle.listing.proofs.line.put_cell.Goals as goal
 
 pub returns : goal.returns
-unfolding cellText
+unfolding cell_text
 returns c =
     stored-then (stored-then (rw c.u_part.ensures at c.put_cell_number-a.ensures) c.put_byte-b.ensures)
     (rw c.v_part.ensures at c.put_cell_number.ensures)

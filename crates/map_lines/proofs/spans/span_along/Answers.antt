@@ -8,7 +8,7 @@ use lib.Dec.{eqb}
 use lib.IntN.{ℤ, pos, neg_ℤ, ◌+ℤ◌}
 use lib.ListN.{get_or}
 use Rattle.cells.specs.Points.{bias}
-use Rattle.cells.specs.Cell.{cellsAt}
+use Rattle.cells.specs.Cell.{cells_at}
 use borrow.Author.Rules.{rules}
 use Rattle.map_lines.specs.Map.{smallest, span}
 use Rattle.map_lines.specs.Page.{along, part, Spans}
@@ -17,7 +17,7 @@ use Rattle.map_lines.specs.declared.spans.Axis.TheVariants.{AlongU, AlongV}
 use Rattle.map_lines.proofs.Ends.{Ends, ends-start, ends_more, higher-below, smallest-end, span-ends}
 use Rattle.map_lines.proofs.spans.span_along.Goals as goal
 
-coordinates : (axis : Axis) (keys : List ℕ) → ◌≡◌ {A = ℕ → ℤ} (λ (k : ℕ). along axis (cellsAt keys k)) (λ (k : ℕ). pos (part axis (get_or keys k 0)) +ℤ neg_ℤ (pos bias))
+coordinates : (axis : Axis) (keys : List ℕ) → ◌≡◌ {A = ℕ → ℤ} (λ (k : ℕ). along axis (cells_at keys k)) (λ (k : ℕ). pos (part axis (get_or keys k 0)) +ℤ neg_ℤ (pos bias))
 coordinates AlongU keys = refl
 coordinates AlongV keys = refl
 

@@ -2,15 +2,15 @@ use mathlib.Core.Path.{◌≡◌}
 use mathlib.Core.Bool.{Bool}
 use Prim.Native.Nat.{ℕ, ◌≤◌, ◌-◌}
 use Rattle.folds.specs.Below.{first}
-use Rattle.marks.specs.Filters.{filterCount}
-use Rattle.marks.specs.Byte.{hasMark, firstMark}
+use Rattle.marks.specs.Filters.{filter_count}
+use Rattle.marks.specs.Byte.{has_mark, first_mark}
 use Rattle.marks.proofs.filters.first_mark.Given as goal
 
 abbrev pub by : ℕ → ℕ → Bool
-by marks f = hasMark f marks
+by marks f = has_mark f marks
 
 abbrev pub invariant-loop-f : goal.invariant-loop-f
-invariant-loop-f l = (l.f ≤ filterCount) × (first (by l.marks) l.f filterCount ≡ firstMark l.marks)
+invariant-loop-f l = (l.f ≤ filter_count) × (first (by l.marks) l.f filter_count ≡ first_mark l.marks)
 
 abbrev pub decreases-loop-f : goal.decreases-loop-f
-decreases-loop-f l = filterCount - l.f
+decreases-loop-f l = filter_count - l.f

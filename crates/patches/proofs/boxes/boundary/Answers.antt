@@ -6,22 +6,22 @@ use lib.Dec.{eqb, ltb}
 use lib.ListN.{replicate}
 use Rattle.folds.proofs.Lists.{past_end}
 use Rattle.folds.proofs.Column.{replicate-at}
-use Rattle.view.specs.View.{maxPoints, viewAt}
-use Rattle.cells.specs.Cell.{cellsAt}
-use Rattle.patches.specs.Patches.{labelsOf}
+use Rattle.view.specs.View.{max_points, view_at}
+use Rattle.cells.specs.Cell.{cells_at}
+use Rattle.patches.specs.Patches.{labels_of}
 use Rattle.patches.proofs.Agreeing.{labels-depend}
-use Rattle.patches.specs.Boxes.{boundaryAmong, boundaryOf}
+use Rattle.patches.specs.Boxes.{boundary_among, boundary_of}
 use Rattle.patches.proofs.boxes.boundary.Goals as goal
 
 -- with nothing dropped, every rank survives
-all_alike : (n : ℕ) (near : ℕ → ℕ) (sides : List ℕ) → labelsOf n near sides (replicate maxPoints 0) ≡ labelsOf n near sides []
+all_alike : (n : ℕ) (near : ℕ → ℕ) (sides : List ℕ) → labels_of n near sides (replicate max_points 0) ≡ labels_of n near sides []
 all_alike n near sides =
-    labels-depend n near near sides sides (replicate maxPoints 0) [] (λ k h. ap (λ (x : ℕ). ltb k n && eqb x 0) (replicate-at {A = ℕ} maxPoints 0 k ∙ sym (past_end 0 k))) (λ a b h g. refl)
+    labels-depend n near near sides sides (replicate max_points 0) [] (λ k h. ap (λ (x : ℕ). ltb k n && eqb x 0) (replicate-at {A = ℕ} max_points 0 k ∙ sym (past_end 0 k))) (λ a b h g. refl)
 
 pub returns : goal.returns
-unfolding boundaryOf
+unfolding boundary_of
 returns c xs ys =
     let a = c.args in
-    let w = viewAt a.n a.ranks.now [] [] in
+    let w = view_at a.n a.ranks.now [] [] in
     c.boundary_among.ensures
-    ∙ ap (λ (s : List ℕ). boundaryAmong w s (cellsAt a.keys.now)) (c.labels-label.ensures [] [] ∙ all_alike a.n w.near a.sides.now)
+    ∙ ap (λ (s : List ℕ). boundary_among w s (cells_at a.keys.now)) (c.labels-label.ensures [] [] ∙ all_alike a.n w.near a.sides.now)

@@ -2,8 +2,8 @@ use mathlib.Core.Path.{ap}
 use mathlib.Core.List.{[]}
 use lib.Ieee.{lt}
 use borrow.Author.Tests.{le-leb, lt-leb}
-use Rattle.view.specs.View.{viewAt}
-use Rattle.wrong_label_filters.specs.Windows.{tableEdge}
+use Rattle.view.specs.View.{view_at}
+use Rattle.wrong_label_filters.specs.Windows.{table_edge}
 use Rattle.wrong_label_filters.proofs.FailingEdges.{fails-is, fails_by}
 use Rattle.wrong_label_filters.proofs.judged_edges.fails_at.Goals as goal
 
@@ -11,7 +11,7 @@ pub returns-then-v-ge5 : goal.returns-then-v-ge5
 returns-then-v-ge5 c =
     let a = c.args in (
       rw (
-        fails_by (viewAt a.n a.ranks.now [] []) (tableEdge a.edges.now a.way) a.k _ c.window_at-v.result a.total c.length-own.ensures c.window_at-v.ensures c.requires.total-is,
+        fails_by (view_at a.n a.ranks.now [] []) (table_edge a.edges.now a.way) a.k _ c.window_at-v.result a.total c.length-own.ensures c.window_at-v.ensures c.requires.total-is,
         c.if-own.true,
         le-leb _ _ c.if-v-ge5.true,
         ← c.unit.ensures,
@@ -25,7 +25,7 @@ returns-then-total-ge8 c =
     let a = c.args in
     let s = c.sheet_limit-sheet.ensures in (
       rw (
-        fails_by (viewAt a.n a.ranks.now [] []) (tableEdge a.edges.now a.way) a.k _ c.window_at-v.result a.total c.length-own.ensures c.window_at-v.ensures c.requires.total-is,
+        fails_by (view_at a.n a.ranks.now [] []) (table_edge a.edges.now a.way) a.k _ c.window_at-v.result a.total c.length-own.ensures c.window_at-v.ensures c.requires.total-is,
         c.if-own.true,
         lt-leb _ _ c.if-v-ge5.false,
         le-leb _ _ c.if-total-ge8.true,
@@ -37,7 +37,7 @@ pub returns-else-total-ge8 : goal.returns-else-total-ge8
 returns-else-total-ge8 c =
     let a = c.args in (
       rw (
-        fails_by (viewAt a.n a.ranks.now [] []) (tableEdge a.edges.now a.way) a.k _ c.window_at-v.result a.total c.length-own.ensures c.window_at-v.ensures c.requires.total-is,
+        fails_by (view_at a.n a.ranks.now [] []) (table_edge a.edges.now a.way) a.k _ c.window_at-v.result a.total c.length-own.ensures c.window_at-v.ensures c.requires.total-is,
         c.if-own.true,
         lt-leb _ _ c.if-v-ge5.false,
         lt-leb _ _ c.if-total-ge8.false,
@@ -48,4 +48,4 @@ returns-else-total-ge8 c =
 pub returns-else-own : goal.returns-else-own
 returns-else-own c =
     let a = c.args in
-    (rw (fails-is (viewAt a.n a.ranks.now [] []) (tableEdge a.edges.now a.way) a.k, ← c.length-own.ensures, c.if-own.false), c.requires.limits)
+    (rw (fails-is (view_at a.n a.ranks.now [] []) (table_edge a.edges.now a.way) a.k, ← c.length-own.ensures, c.if-own.false), c.requires.limits)

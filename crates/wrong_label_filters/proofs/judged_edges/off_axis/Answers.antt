@@ -1,12 +1,12 @@
-use Rattle.wrong_label_filters.specs.Judged.{offAxis}
+use Rattle.wrong_label_filters.specs.Judged.{off_axis}
 use Rattle.wrong_label_filters.proofs.judged_edges.off_axis.Goals as goal
 
 pub returns-then-s : goal.returns-then-s
-unfolding offAxis
+unfolding off_axis
 returns-then-s c =
     rw (← c.norm-s.ensures, c.if-s.true) c.over_30_degrees.ensures
 
 pub returns : goal.returns
-unfolding offAxis
+unfolding off_axis
 returns c =
     rw (← c.norm-s.ensures, c.if-s.false)
