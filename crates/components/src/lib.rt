@@ -105,7 +105,7 @@ fn others(label: &Places, n: usize, win: usize) -> Marks
 // ---- the component mark
 
 // The component mark of each rank, and how many patches there are.
-#[derive(Clone, Copy)]
+#[derive(Drop)]
 pub struct ComponentFilter {
     pub marks: Marks,
     pub components_seen: usize,

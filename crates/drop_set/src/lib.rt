@@ -25,7 +25,7 @@ use sheet_file::{Fraction, Settings};
 use view::{Floats, MAX_POINTS, Marks, Ranks, Words};
 
 // The bytes of marks, how many patches the survivors have, how many rounds removed a weak end, and the tally.
-#[derive(Clone, Copy)]
+#[derive(Drop)]
 pub struct DropSet {
     pub marks: Marks,
     pub components: usize,

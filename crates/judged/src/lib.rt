@@ -9,7 +9,7 @@ use view::{Floats, Marks};
 
 // What the filters find that go by the points themselves, but for the edge figures, which stand in the tables of `figures`: the byte of marks
 // of each rank's index; the residual of each rank's index, where `has` is 1; and the box boundary that is held under its index.
-#[derive(Clone, Copy)]
+#[derive(Drop)]
 pub struct Measured {
     pub marks: Marks,
     pub has: Marks,
@@ -19,7 +19,7 @@ pub struct Measured {
 
 // A judged sheet but for its edge figures: the same with the marks of all filters, how many patches the survivors have, how many rounds of the
 // peel removed something, and the tally.
-#[derive(Clone, Copy)]
+#[derive(Drop)]
 pub struct Findings {
     pub marks: Marks,
     pub components: usize,

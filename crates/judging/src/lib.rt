@@ -82,14 +82,14 @@ pub fn judge<'a>(
 
 // The judged sheet of points that were read of an accepted file, its table of ranks and its edge figures into empty tables.
 pub fn judge_sheet(
-    sheet: Sheet,
+    sheet: &Sheet,
     ranks: &mut Ranks,
     counts: &mut FigureCounts,
     measures: &mut FigureMeasures,
 ) -> Findings
-    requires { Arrays sheet.count sheet.table.keys sheet.table.x sheet.table.y sheet.table.strength × (ranks.old ≡ replicate ranks_size 0) × Blank counts.old measures.old }
-    ensures ranks { ranks.new ≡ ranks_of sheet.count sheet.table.keys sheet.table.idx }
-    ensures judged { judged_from result counts.new measures.new ≡ judged_by sheet.settings sheet.count sheet.table.keys sheet.table.idx sheet.table.x sheet.table.y sheet.table.strength }
+    requires { Arrays sheet.now.count sheet.now.table.keys sheet.now.table.x sheet.now.table.y sheet.now.table.strength × (ranks.old ≡ replicate ranks_size 0) × Blank counts.old measures.old }
+    ensures ranks { ranks.new ≡ ranks_of sheet.now.count sheet.now.table.keys sheet.now.table.idx }
+    ensures judged { judged_from result counts.new measures.new ≡ judged_by sheet.now.settings sheet.now.count sheet.now.table.keys sheet.now.table.idx sheet.now.table.x sheet.now.table.y sheet.now.table.strength }
 {
     let settings = sheet.settings;
     let n = sheet.count;

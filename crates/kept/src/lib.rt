@@ -54,13 +54,13 @@ fn keep_sheet(file: &[u8], sheet: Sheet, rows: &mut [u8]) -> Kept
             &mut counts,
             &mut measures,
         );
-        rows::write_rows(j, &counts, &measures, n, rows);
         let answer = Answer::Accepted(Counts {
             points: n,
             components: j.components,
             rounds: j.rounds,
         });
         let tally = j.tally;
+        rows::write_rows(j, &counts, &measures, n, rows);
         return Kept { answer, tally };
     }
     let answer = Answer::Refused(number);

@@ -132,11 +132,11 @@ pub fn write_listing<'a>(
     requires { n ≤ max_points }
     ensures { (measures : List Float) → Shows (listing_of n (cells_at keys.now) idx.now (judged_from j counts.now measures) fills) out.old out.new result }
 {
+    let tally = j.tally;
+    let marks = j.marks;
     let a = put_head(n, j.components, j.rounds, out, 0);
     let b = put_lines(n, keys, idx, j, counts, out, a);
-    let tally = j.tally;
     let c = put_tally(&tally, out, b);
-    let marks = j.marks;
     let d = put_fills(n, keys, &marks, fills, out, c);
     text::answer(d, out.len())
 }

@@ -212,7 +212,7 @@ fn remove(queue: &Places, from: usize, end: usize, state: &mut Marks)
 // ---- the whole
 
 // The mark of each rank, and how many rounds removed something.
-#[derive(Clone, Copy)]
+#[derive(Drop)]
 pub struct Peeled {
     pub marks: Marks,
     pub rounds: usize,

@@ -275,7 +275,7 @@ fn strengths(file: &[u8], f: Layout, entries: &[u64; MAX_POINTS]) -> Floats
 }
 
 // The points in cell order, one array a field; or one of the numbers 6, 7, 13, 8, 9 and 14, and no points.
-#[derive(Clone, Copy)]
+#[derive(Drop)]
 pub struct Table {
     pub number: u8,
     pub keys: Words,

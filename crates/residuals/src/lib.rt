@@ -14,7 +14,7 @@ use view::{Floats, MAX_POINTS, Marks, Ranks, Words};
 mod by_index;
 
 // For each rank: whether there is a residual, and which, or 0; whether it is over the tolerance, and over twice the tolerance.
-#[derive(Clone, Copy)]
+#[derive(Drop)]
 pub struct Residuals {
     pub has: Marks,
     pub value: Floats,

@@ -22,7 +22,7 @@ pub fn rows_size() -> usize
 }
 
 // The settings, how many points there are, and the points in cell order. The number of a refusal is the table's; it is 0 for none.
-#[derive(Clone, Copy)]
+#[derive(Drop)]
 pub struct Sheet {
     pub settings: Settings,
     pub count: usize,

@@ -122,7 +122,7 @@ fn fill_read(file: &[u8], sheet: Sheet, out: &mut [u8]) -> FillAnswer
         let mut counts = [0u8; FIGURE_COUNTS_SIZE];
         let mut measures = [0.0f32; FIGURE_MEASURES_SIZE];
         let mut ranks = [0u16; RANKS_SIZE];
-        let j = judging::judge_sheet(sheet, &mut ranks, &mut counts, &mut measures);
+        let j = judging::judge_sheet(&sheet, &mut ranks, &mut counts, &mut measures);
         let marks = j.marks;
         let fills = judging::fills(terms, &ranks, &sheet.table.x, &sheet.table.y, &marks);
         let end = put_fills(n, &sheet.table.keys, &marks, fills, out);

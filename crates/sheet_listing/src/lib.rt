@@ -23,7 +23,7 @@ pub fn list_sheet(file: &[u8], out: &mut [u8]) -> Written
         let mut counts = [0u8; FIGURE_COUNTS_SIZE];
         let mut measures = [0.0f32; FIGURE_MEASURES_SIZE];
         let mut ranks = [0u16; RANKS_SIZE];
-        let j = judging::judge_sheet(sheet, &mut ranks, &mut counts, &mut measures);
+        let j = judging::judge_sheet(&sheet, &mut ranks, &mut counts, &mut measures);
         let marks = j.marks;
         let fills = judging::fills(terms, &ranks, &sheet.table.x, &sheet.table.y, &marks);
         return listing::write_listing(

@@ -21,7 +21,7 @@ use sheet_file::{EdgeGate, Settings};
 use view::{Floats, MAX_POINTS, Marks, Ranks, Words};
 
 // What rules 1 to 4 give: the mark of each rank's index, and its residual, if it has one.
-#[derive(Clone, Copy)]
+#[derive(Drop)]
 struct ByRules {
     marks: Marks,
     has: Marks,
