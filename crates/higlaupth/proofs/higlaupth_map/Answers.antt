@@ -25,5 +25,5 @@ answered {t} {before} h = ap number h.answer ∙ go (leb (length t) (length befo
 pub returns-in-Whole : goal.returns-in-Whole
 returns-in-Whole c = record { number = answered c.in-Whole.ensures; text = c.in-Whole.ensures.buffer }
 
-pub returns-in-no_room : goal.returns-in-no_room
-returns-in-no_room c = record { number = answered c.in-NoRoom.ensures; text = c.in-NoRoom.ensures.buffer }
+pub returns-in-NoRoom : goal.returns-in-NoRoom
+returns-in-NoRoom c = record { number = answered c.in-NoRoom.ensures; text = c.in-NoRoom.ensures.buffer }

@@ -5,6 +5,6 @@ pub returns-in-Found : goal.returns-in-Found
 unfolding residual_by
 returns-in-Found c = rw (c.in-Found.is, c.norm.ensures, c.apply-s.ensures)
 
-pub returns-in-no_fit : goal.returns-in-no_fit
+pub returns-in-NoFit : goal.returns-in-NoFit
 unfolding residual_by
-returns-in-no_fit c = rw c.in-NoFit.is
+returns-in-NoFit c = rw c.in-NoFit.is
