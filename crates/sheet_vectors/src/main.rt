@@ -89,7 +89,15 @@ fn replay<R: Read>(input: &mut R) -> bool {
     if !recorded::read_part(input, &mut file, size) {
         return false;
     }
-    agrees(input, &file[..size], room, answer, listing_size, map_size, fills)
+    agrees(
+        input,
+        &file[..size],
+        room,
+        answer,
+        listing_size,
+        map_size,
+        fills,
+    )
 }
 
 fn main(rt: HostRuntime) {
