@@ -1,3 +1,4 @@
 pub mod Constants
 pub mod Root
 pub mod Scalar
+pub mod Remainder

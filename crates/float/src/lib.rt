@@ -7,8 +7,38 @@ ghost use Rattle.std.specs.Float.Ieee.{of_bits, to_bits};
 ghost use Rattle.float.specs.Constants.{infinity_bits};
 ghost use Rattle.float.specs.Root.{floor_root, near_root, root_of};
 ghost use Rattle.float.specs.Scalar.{norm_of, abs_of, magnitude_of, max_of, min_of, clamp_of, over30_degrees};
+ghost use Rattle.float.specs.Remainder.{length_of, is_exact, is_zero, distance_of};
 
 pub mod constants;
+
+// A root by whole numbers: S, R - S * S, and the power. R is the number times 2^power, and S the whole number nearest to R's root.
+#[derive(Clone, Copy)]
+pub struct ScaledRoot {
+    pub root: u32,
+    pub remainder: i32,
+    pub power: i32,
+}
+
+// For negatives, infinity and NaN there is neither root nor remainder.
+#[derive(Clone, Copy)]
+pub enum WholeRoot {
+    Neither,
+    Found(ScaledRoot),
+}
+
+// What is known of a root's remainder: R - S * S, or that there is neither.
+#[derive(Clone, Copy)]
+pub enum Remainder {
+    Neither,
+    Found(i32),
+}
+
+// A distance: the f32 nearest to a root, and the root's remainder.
+#[derive(Clone, Copy)]
+pub struct Distance {
+    pub value: f32,
+    pub remainder: Remainder,
+}
 
 // A step of Newton's iteration for the root of n.
 fn newton(n: u64, r: u64) -> u64
@@ -119,11 +149,37 @@ pub fn to_bits(x: f32) -> u32
     f32::to_bits(x)
 }
 
-// The length of (x, y).
-pub fn norm(x: f32, y: f32) -> f32
-    ensures { result ≡ norm_of x y }
+// The root of x with its remainder.
+pub fn root_distance(x: f32) -> Distance
+    ensures { result ≡ distance_of x }
 {
-    sqrt(x * x + y * y)
+    Distance {
+        value: sqrt(x),
+        remainder: Remainder::Neither,
+    }
+}
+
+// The length of (x, y) with its remainder.
+pub fn norm(x: f32, y: f32) -> Distance
+    ensures { result ≡ length_of x y }
+{
+    root_distance(x * x + y * y)
+}
+
+fn is_zero(z: i32) -> bool
+    ensures { result ≡ is_zero z }
+{
+    z == 0
+}
+
+// Whether a distance is the root itself: its remainder is 0.
+pub fn is_exact(d: Distance) -> bool
+    ensures { result ≡ is_exact d }
+{
+    match d.remainder {
+        Remainder::Found(z) => is_zero(z),
+        Remainder::Neither => false,
+    }
 }
 
 // x with its sign cleared.
