@@ -45,7 +45,7 @@ fn mean_distance(p: [PlanePoint; 4], x: f32, y: f32) -> f32
     let b = float::norm(p[1].x - x, p[1].y - y);
     let c = float::norm(p[2].x - x, p[2].y - y);
     let d = float::norm(p[3].x - x, p[3].y - y);
-    mean(a, b, c, d)
+    mean(a.value, b.value, c.value, d.value)
 }
 
 fn scale(d: f32) -> f32

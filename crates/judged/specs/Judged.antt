@@ -1,5 +1,6 @@
 -- A judged sheet: what the filters find of its points, by rank. Assumes nothing.
 use Rattle.std.specs.Prelude.{List, ℕ, Float}
+use Rattle.local_h.specs.declared.Residual.{Residual}
 use Rattle.edge_shape.specs.declared.Figures.{Figures}
 use Rattle.judged.specs.declared.Findings.{Findings}
 use Rattle.judged.specs.Columns.{figures_in}
@@ -13,9 +14,8 @@ pub record Judged : Type 0 where
   pub rounds : ℕ
   -- how many indices are counted under each filter, and how many are kept
   pub tally : List ℕ
-  -- the residual of each rank's index, where `has` is 1
-  pub has : List ℕ
-  pub value : List Float
+  -- the residual of each rank's index
+  pub residuals : List Residual
   -- the edge figures and the box boundary that are held under its index
   pub figures : List Figures
   pub boundary : List ℕ
@@ -29,8 +29,7 @@ judged_from f counts measures =
       components = f.components;
       rounds = f.rounds;
       tally = f.tally;
-      has = f.has;
-      value = f.value;
+      residuals = f.residuals;
       figures = figures_in counts measures;
       boundary = f.boundary;
     }

@@ -4,16 +4,16 @@
 
 pub mod figures;
 
+use local_h::ResidualColumn;
 use marks::Tally;
-use view::{Floats, Marks};
+use view::Marks;
 
 // What the filters find that go by the points themselves, but for the edge figures, which stand in the tables of `figures`: the byte of marks
-// of each rank's index; the residual of each rank's index, where `has` is 1; and the box boundary that is held under its index.
+// of each rank's index; the residual of each rank's index; and the box boundary that is held under its index.
 #[derive(Drop)]
 pub struct Measured {
     pub marks: Marks,
-    pub has: Marks,
-    pub value: Floats,
+    pub residuals: ResidualColumn,
     pub boundary: Marks,
 }
 
@@ -25,7 +25,6 @@ pub struct Findings {
     pub components: usize,
     pub rounds: usize,
     pub tally: Tally,
-    pub has: Marks,
-    pub value: Floats,
+    pub residuals: ResidualColumn,
     pub boundary: Marks,
 }

@@ -3,7 +3,7 @@
 use mathlib.Core.Path.{◌≡◌, refl, sym, ◌∙◌, subst}
 use mathlib.Core.Bool.{Bool, true, false, cond, not, ◌||◌}
 use Prim.Native.Nat.{ℕ}
-use lib.Ieee.{Float}
+use Rattle.float.specs.declared.Distance.{Distance}
 use Rattle.homography.specs.declared.PlanePoint.{PlanePoint}
 use Rattle.homography.specs.declared.Homography.{Homography}
 use Rattle.homography.specs.declared.HomographyFit.TheVariants as fit
@@ -19,7 +19,7 @@ use Rattle.local_h.specs.declared.Residual.TheVariants.{Value, NoFit}
 
 -- the residual r is none where b holds, and else a number
 abbrev Unless : Bool → Residual → Type 0
-Unless b r = (x : Float) × (r ≡ cond b NoFit (Value x))
+Unless b r = (x : Distance) × (r ≡ cond b NoFit (Value x))
 
 unless : (four unfit : Bool) (h : Homography) (p q : PlanePoint) → Unless (not four || unfit) (cond four (residual_by (cond unfit fit.NoFit (fit.Found h)) p q) NoFit)
 unfolding residual_by
@@ -32,9 +32,9 @@ data IsNone : Residual → Type 0 where
 
 -- it is a number
 pub data IsValue : Residual → Type 0 where
-  value : (x : Float) → IsValue (Value x)
+  value : (x : Distance) → IsValue (Value x)
 
-none_of : (b : Bool) (x : Float) → IsNone (cond b NoFit (Value x)) → b ≡ true
+none_of : (b : Bool) (x : Distance) → IsNone (cond b NoFit (Value x)) → b ≡ true
 none_of true x e = refl
 none_of false x e = elim e [ ]
 

@@ -4,7 +4,8 @@ use Rattle.std.specs.Float.{binary32}
 use Rattle.std.specs.Float.Ieee.{of_int}
 use Rattle.folds.specs.Arith.{◌⊖◌}
 use Rattle.folds.specs.Below.{first, first_in}
-use Rattle.float.specs.Scalar.{norm_of}
+use Rattle.float.specs.Remainder.{length_of, remainder_of}
+use Rattle.float.specs.declared.Distance.{Distance}
 use Rattle.homography.specs.declared.PlanePoint.{PlanePoint}
 use Rattle.homography.specs.declared.Homography.{Homography}
 use Rattle.homography.specs.declared.HomographyFit.{HomographyFit}
@@ -25,8 +26,8 @@ abbrev pub cell_point : Cell → PlanePoint
 cell_point c = record { x = coordinate c.u; y = coordinate c.v }
 
 -- how far the map h takes p from q
-abbrev pub distance_by : Homography → PlanePoint → PlanePoint → Float
-distance_by h p q = norm_of ((applied_to h p).x ⊖ q.x) ((applied_to h p).y ⊖ q.y)
+abbrev pub distance_by : Homography → PlanePoint → PlanePoint → Distance
+distance_by h p q = length_of ((applied_to h p).x ⊖ q.x) ((applied_to h p).y ⊖ q.y)
 
 -- "A residual is a number or the finding that no fit exists": how far the map takes p from q
 unfoldable pub residual_by : HomographyFit → PlanePoint → PlanePoint → Residual
@@ -57,5 +58,5 @@ module _ (w : View) (cell : ℕ → Cell) where
 
 -- This name on an `unfolding` line opens every definition that a residual computes by.
 unfoldable pub residuals-compute : Bool
-unfolding fit-computes of_int first first_in on_line is_other is_serving base_of residual_by residual_from residual_at
+unfolding fit-computes remainder_of of_int first first_in on_line is_other is_serving base_of residual_by residual_from residual_at
 residuals-compute = true

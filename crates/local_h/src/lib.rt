@@ -11,9 +11,10 @@ ghost use Rattle.local_h.specs.Base.{step_product, on_line, is_other_rank, are_o
 ghost use Rattle.local_h.specs.Places.{FoundFrom, BaseFound, FiveRanks};
 ghost use Rattle.local_h.specs.Residual.{coordinate, cell_point, seen_at, residual_by, residual_from, residual_at};
 
+use float::Distance;
 use homography::{HomographyFit, PlanePoint};
 use offsets::{OWN, Offset};
-use view::{Floats, Ranks, Words};
+use view::{Floats, MAX_POINTS, Ranks, Words};
 
 // The base of a corner, by places in the order of the 24 cells round it. A place of 24 or more is none, and then so are those after it.
 #[derive(Clone, Copy)]
@@ -45,9 +46,12 @@ struct FoundBase {
 // A residual, or the finding that no fit exists.
 #[derive(Clone, Copy)]
 pub enum Residual {
-    Value(f32),
+    Value(Distance),
     NoFit,
 }
+
+// An entry for each point.
+pub type ResidualColumn = [Residual; MAX_POINTS];
 
 // The 24 offsets within 2, nearest first, then by smaller dv, then by smaller du.
 const NEAREST_FIRST: [Offset; 24] = [
