@@ -1,8 +1,7 @@
 -- How long a listing is at most. Assumes nothing.
 use mathlib.Core.Path.{◌≡◌, refl}
 use mathlib.Core.Bool.{Bool, true, false, cond, ◌&&◌}
-use mathlib.Core.List.{List, ◌++◌}
-use mathlib.Core.Option.{Option, none, some}
+use mathlib.Core.List.{List, [], ◌++◌}
 use lib.Ieee.{Float, binary32, to_bits}
 use Prim.Native.Nat.{ℕ, suc, ◌+◌, ◌-◌, ◌*◌, ◌/◌, ◌%◌, ◌^◌, ◌≤◌, ◌<◌}
 use native.Mathlib.Decide.{dec_lt}
@@ -17,6 +16,9 @@ use Rattle.view.specs.View.{max_points}
 use Rattle.text.specs.Text.{bytes, each, decimal, whole, digit, hex}
 use Rattle.cells.specs.Points.{bias, stride}
 use Rattle.cells.specs.Cell.{cell_of_key, cells_at}
+use Rattle.float.specs.Remainder.{is_exact}
+use Rattle.local_h.specs.declared.Residual.{Residual}
+use Rattle.local_h.specs.declared.Residual.TheVariants.{Value, NoFit}
 use Rattle.judged.specs.Shown.{Shown, shown_at}
 use Rattle.judged.specs.Judged.{Judged}
 use Rattle.edge_shape.specs.Figures.{reason_number}
@@ -65,12 +67,12 @@ marks-size marks =
 float_size : (x : Float) → AtMost 8 (hex 8 (to_bits binary32 x))
 float_size x = record { within = omega (arith, hex-length 8 (to_bits binary32 x)) }
 
-residual-size : (r : Option Float) → AtMost 8 (residual_text r)
+residual-size : (r : Residual) → AtMost 9 (residual_text r)
 unfolding residual_text
-residual-size none = record { within = omega arith }
-residual-size (some x) = float_size x
+residual-size NoFit = record { within = omega arith }
+residual-size (Value d) = join (float_size d.value) (either (is_exact d) (known (bytes "=")) (record { within = omega arith }))
 
-shown-size : (marks reason : ℕ) (r : Option Float) → AtMost (11 + filter_count) (shown_text marks reason r)
+shown-size : (marks reason : ℕ) (r : Residual) → AtMost (12 + filter_count) (shown_text marks reason r)
 unfolding shown_text
 shown-size marks reason r =
     join (join (join (join (marks-size marks) (known (bytes " "))) (either (leb 1 reason && leb reason 3) (known (digit reason)) (known (bytes "-")))) (known (bytes " "))) (residual-size r)

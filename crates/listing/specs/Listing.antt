@@ -1,10 +1,12 @@
 -- "What the program `sheet` prints". Assumes nothing.
-use Rattle.std.specs.Prelude.{cond, ◌&&◌, List, [], ◌++◌, ℕ, ◌+◌, ◌*◌, eqb, leb, Float, get_or}
-use Rattle.std.proofs.Math.Option.{Option, none, some}
+use Rattle.std.specs.Prelude.{cond, ◌&&◌, List, [], ◌++◌, ℕ, ◌+◌, ◌*◌, eqb, leb, get_or}
 use Rattle.std.specs.Float.{binary32}
 use Rattle.std.specs.Float.Ieee.{to_bits}
 use Rattle.view.specs.View.{max_points}
 use Rattle.cells.specs.Cell.{Cell}
+use Rattle.float.specs.Remainder.{is_exact}
+use Rattle.local_h.specs.declared.Residual.{Residual}
+use Rattle.local_h.specs.declared.Residual.TheVariants.{Value, NoFit}
 use Rattle.edge_shape.specs.Figures.{reason_number}
 use Rattle.judged.specs.Shown.{Shown, shown_at}
 use Rattle.judged.specs.Judged.{Judged}
@@ -32,18 +34,19 @@ marks_text marks = each (mark_text marks) filter_count
 abbrev pub reason_text : ℕ → List ℕ
 reason_text reason = cond (leb 1 reason && leb reason 3) (digit reason) (bytes "-")
 
--- "residual in eight hexadecimal digits with capitals or a dash"; "NaN is 0x7FC00000"
-unfoldable pub residual_text : Option Float → List ℕ
+-- "residual in eight hexadecimal digits with capitals or a dash"; "NaN is 0x7FC00000"; "the listing puts `=` directly after a residual whose
+-- remainder is 0"
+unfoldable pub residual_text : Residual → List ℕ
 unfolding hex to_bits
-residual_text none = bytes "-"
-residual_text (some x) = hex 8 (to_bits binary32 x)
+residual_text NoFit = bytes "-"
+residual_text (Value d) = hex 8 (to_bits binary32 d.value) ++ cond (is_exact d) (bytes "=") []
 
-unfoldable pub shown_text : ℕ → ℕ → Option Float → List ℕ
+unfoldable pub shown_text : ℕ → ℕ → Residual → List ℕ
 unfolding marks_text residual_text
 shown_text marks reason residual = marks_text marks ++ bytes " " ++ reason_text reason ++ bytes " " ++ residual_text residual
 
 -- "Per point: u, v, index, marks (VOWC), reason 1 to 3 or a dash, residual in eight hexadecimal digits with capitals or a dash."
-unfoldable pub line_text : Cell → ℕ → ℕ → ℕ → Option Float → List ℕ
+unfoldable pub line_text : Cell → ℕ → ℕ → ℕ → Residual → List ℕ
 unfolding cell_text decimal shown_text
 line_text cell index marks reason residual = cell_text cell ++ bytes " " ++ decimal index ++ bytes " " ++ shown_text marks reason residual ++ bytes "\n"
 
@@ -103,7 +106,7 @@ listing_of n cell indices j fills =
 
 -- no line of a point is longer, no line of a dropped one, and no listing: the first line has at most 40 bytes (proved in proofs/Size.antt)
 abbrev pub line_size : ℕ
-line_size = 36 + filter_count
+line_size = 37 + filter_count
 
 abbrev pub fill_line_size : ℕ
 fill_line_size = 33

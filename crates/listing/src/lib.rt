@@ -24,7 +24,7 @@ use view::{MAX_POINTS, Marks, Words};
 
 // A buffer of this size has room for every listing: the first line, a line for each point, the tally, a line for each dropped point.
 pub const LISTING_SIZE: usize = 40
-    + (36 + FILTERS) * MAX_POINTS
+    + (37 + FILTERS) * MAX_POINTS
     + (10 + 17 * FILTERS)
     + 33 * MAX_POINTS;
 
@@ -65,7 +65,7 @@ fn put_lines(
     while k < n {
         let number = edge_shape::reason_number(judged::figures::reason_from(counts, k));
         let next = line::put_line(
-            keys[k], idx[k], j.marks[k], number, j.has[k], j.value[k], out, to,
+            keys[k], idx[k], j.marks[k], number, j.residuals[k], out, to,
         );
         to = next;
         k += 1;

@@ -1,13 +1,15 @@
 // The line of a point: its cell, its index and what is shown of it.
-ghost use Rattle.std.specs.Prelude.{◌≡◌, [], ◌∷◌, ◌<◌, pos, ◌-ℤ◌};
+ghost use Rattle.std.specs.Prelude.{◌≡◌, cond, [], ◌∷◌, ◌<◌, pos, ◌-ℤ◌};
 ghost use Rattle.cells.specs.Points.{bias};
 ghost use Rattle.cells.specs.Cell.{cell_of_key};
-ghost use Rattle.judged.specs.Shown.{residual_of};
+ghost use Rattle.float.specs.Remainder.{is_exact};
 ghost use Rattle.marks.specs.Filters.{filter_count};
 ghost use Rattle.text.specs.Stored.{Stored};
-ghost use Rattle.text.specs.Text.{whole};
+ghost use Rattle.text.specs.Text.{bytes, whole};
 ghost use Rattle.listing.specs.Listing.{cell_text, mark_text, marks_text, reason_text, residual_text, shown_text, line_text};
 
+use float::Distance;
+use local_h::Residual;
 use marks::filters;
 use marks::filters::FILTERS;
 
@@ -52,13 +54,30 @@ fn reason_byte(reason: u8) -> u8
     b'-'
 }
 
-fn put_residual(has: u8, value: f32, out: &mut [u8], at: usize) -> usize
-    ensures { Stored out.old at (residual_text (residual_of has value)) out.new result }
+// `=` if the remainder is 0.
+fn put_exact(d: Distance, out: &mut [u8], at: usize) -> usize
+    ensures { Stored out.old at (cond (is_exact d) (bytes "=") []) out.new result }
 {
-    if has == 1 {
-        return text::put_hex(8, float::to_bits(value), out, at);
+    if float::is_exact(d) {
+        return text::put_byte(b'=', out, at);
     }
-    text::put_byte(b'-', out, at)
+    at
+}
+
+fn put_distance(d: Distance, out: &mut [u8], at: usize) -> usize
+    ensures { Stored out.old at (residual_text (Value d)) out.new result }
+{
+    let a = text::put_hex(8, float::to_bits(d.value), out, at);
+    put_exact(d, out, a)
+}
+
+fn put_residual(r: Residual, out: &mut [u8], at: usize) -> usize
+    ensures { Stored out.old at (residual_text r) out.new result }
+{
+    match r {
+        Residual::Value(d) => put_distance(d, out, at),
+        Residual::NoFit => text::put_byte(b'-', out, at),
+    }
 }
 
 // The cell number b - BIAS.
@@ -76,33 +95,32 @@ pub(crate) fn put_cell(key: u32, out: &mut [u8], at: usize) -> usize
     put_cell_number(cells::v_part(key), out, b)
 }
 
-fn put_shown(marks: u8, reason: u8, has: u8, value: f32, out: &mut [u8], at: usize) -> usize
-    ensures { Stored out.old at (shown_text marks reason (residual_of has value)) out.new result }
+fn put_shown(marks: u8, reason: u8, r: Residual, out: &mut [u8], at: usize) -> usize
+    ensures { Stored out.old at (shown_text marks reason r) out.new result }
 {
     let a = put_marks(marks, out, at);
     let b = text::put_byte(b' ', out, a);
     let c = text::put_byte(reason_byte(reason), out, b);
     let d = text::put_byte(b' ', out, c);
-    put_residual(has, value, out, d)
+    put_residual(r, out, d)
 }
 
-// The line of the point whose cell has this key; `has` is 1 where there is a residual.
+// The line of the point whose cell has this key.
 pub(crate) fn put_line(
     key: u32,
     index: u32,
     marks: u8,
     reason: u8,
-    has: u8,
-    value: f32,
+    r: Residual,
     out: &mut [u8],
     at: usize,
 ) -> usize
-    ensures { Stored out.old at (line_text (cell_of_key key) index marks reason (residual_of has value)) out.new result }
+    ensures { Stored out.old at (line_text (cell_of_key key) index marks reason r) out.new result }
 {
     let a = put_cell(key, out, at);
     let b = text::put_byte(b' ', out, a);
     let c = text::put_decimal(wide(index), out, b);
     let d = text::put_byte(b' ', out, c);
-    let e = put_shown(marks, reason, has, value, out, d);
+    let e = put_shown(marks, reason, r, out, d);
     text::put_byte(b'\n', out, e)
 }

@@ -16,7 +16,7 @@ use Rattle.edge_shape.specs.declared.Measure.{Measure}
 use Rattle.edge_shape.specs.declared.Measure.TheVariants.{Absent, Held}
 use Rattle.edge_shape.specs.Figures.{reason_number}
 use Rattle.sheet_file.specs.Bytes.{little_endian}
-use Rattle.rows.specs.Rows.{bits_of, is_present, cosine_of, ratio_of, floats_of, presence, row_of, row_size, row_byte}
+use Rattle.rows.specs.Rows.{bits_of, is_present, residual_float, cosine_of, ratio_of, floats_of, presence, row_of, row_size, row_byte}
 use Rattle.judged.specs.Shown.{Shown}
 
 -- a measure has both floats or none
@@ -48,8 +48,8 @@ head-put l at a b c d e f g = rw (add-one at, add-two at, add-three at, add-four
 
 -- the stores of a row
 pub row_put : (s : Shown) (l : List ℕ) (at : ℕ) {reason floats p q t u v : ℕ} {m1 m2 m3 m4 m5 : List ℕ}
-    → reason ≡ reason_number s.figures.reason → floats ≡ presence (floats_of s.residual s.figures.continuation s.figures.cells)
-    → p ≡ bits_of s.residual → q ≡ bits_of (cosine_of s.figures.continuation) → t ≡ bits_of (ratio_of s.figures.continuation)
+    → reason ≡ reason_number s.figures.reason → floats ≡ presence (floats_of (residual_float s.residual) s.figures.continuation s.figures.cells)
+    → p ≡ bits_of (residual_float s.residual) → q ≡ bits_of (cosine_of s.figures.continuation) → t ≡ bits_of (ratio_of s.figures.continuation)
     → u ≡ bits_of (cosine_of s.figures.cells) → v ≡ bits_of (ratio_of s.figures.cells)
     → m1 ≡ sets (head_put l at s.marks reason floats s.figures.degree s.boundary s.figures.adjacent s.figures.valid) (at + 8) (little_endian p)
     → m2 ≡ sets m1 (at + 12) (little_endian q) → m3 ≡ sets m2 (at + 16) (little_endian t) → m4 ≡ sets m3 (at + 20) (little_endian u) → m5 ≡ sets m4 (at + 24) (little_endian v)

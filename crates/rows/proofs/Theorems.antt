@@ -8,6 +8,10 @@ use native.Mathlib.Nat.{add-zero}
 use lib.ListN.{length, get_or, drop, replicate, length-append, get_or-append}
 use lib.Seq.{get_or-append-add, get_or-drop}
 use lib.Ieee.{Float, nan, binary32, of_bits, to_bits}
+use lib.IntN.{pos}
+use Rattle.float.specs.declared.Remainder.TheVariants.{Found}
+use Rattle.local_h.specs.declared.Residual.{Residual}
+use Rattle.local_h.specs.declared.Residual.TheVariants.{Value}
 use Rattle.edge_shape.specs.declared.Measure.TheVariants.{Absent, Held}
 use Rattle.edge_shape.specs.declared.Reason.TheVariants.{BadContinuation}
 use Rattle.edge_shape.specs.Figures.{no_figures}
@@ -15,7 +19,7 @@ use Rattle.folds.specs.Lists.{list_of}
 use Rattle.folds.proofs.Lists.{length-list, list_at, is-list}
 use Rattle.folds.specs.Marked.{bit}
 use Rattle.sheet_file.specs.Bytes.{little_endian}
-use Rattle.rows.specs.Rows.{bits_of, is_present, row_of, row_size, row_byte, rows_over}
+use Rattle.rows.specs.Rows.{bits_of, is_present, residual_float, row_of, row_size, row_byte, rows_over}
 use Rattle.judged.specs.Shown.{Shown}
 use Rattle.rows.proofs.Laws.{row-length, row-byte}
 
@@ -28,7 +32,7 @@ nan-bits = refl
 pub worked-row : row_of
     (record {
       marks = 5;
-      residual = some (of_bits binary32 0x3f80_0000);
+      residual = Value (record { value = of_bits binary32 0x3f80_0000; remainder = Found (pos 0) });
       figures = record { degree = 4; adjacent = 3; valid = 0; continuation = Held (of_bits binary32 0x3f00_0000) (of_bits binary32 0x4000_0000); cells = Absent; reason = BadContinuation };
       boundary = 1;
     })
@@ -38,10 +42,10 @@ unfolding row_of of_bits
 worked-row = refl
 
 -- "Without tag 2, bytes 1, 3 to 7 and all edge floats are zero": of a point without figures
-pub blank-row : (marks : ℕ) (residual : Option Float) → row_of (record { marks = marks; residual = residual; figures = no_figures; boundary = 0 })
-    ≡ marks ∷ 0 ∷ bit (is_present residual) ∷ replicate 5 0 ++ little_endian (bits_of residual) ++ replicate 16 0
+pub blank-row : (marks : ℕ) (residual : Residual) → row_of (record { marks = marks; residual = residual; figures = no_figures; boundary = 0 })
+    ≡ marks ∷ 0 ∷ bit (is_present (residual_float residual)) ∷ replicate 5 0 ++ little_endian (bits_of (residual_float residual)) ++ replicate 16 0
 unfolding row_of
-blank-row marks residual = rw (add-zero (bit (is_present residual)))
+blank-row marks residual = rw (add-zero (bit (is_present (residual_float residual))))
 
 -- ---- the rows, one after the other
 

@@ -8,6 +8,8 @@ use Rattle.folds.specs.Marked.{bit}
 use Rattle.edge_shape.specs.Figures.{reason_number}
 use Rattle.edge_shape.specs.declared.Measure.{Measure}
 use Rattle.edge_shape.specs.declared.Measure.TheVariants.{Absent, Held}
+use Rattle.local_h.specs.declared.Residual.{Residual}
+use Rattle.local_h.specs.declared.Residual.TheVariants.{Value, NoFit}
 use Rattle.judged.specs.Shown.{Shown}
 use Rattle.sheet_file.specs.Bytes.{little_endian}
 
@@ -21,6 +23,11 @@ bits_of (some x) = to_bits binary32 x
 abbrev pub is_present : Option Float → Bool
 is_present none = false
 is_present (some x) = true
+
+-- the number of a residual
+abbrev pub residual_float : Residual → Option Float
+residual_float NoFit = none
+residual_float (Value d) = some d.value
 
 -- the least cosine and the largest ratio of a measure
 abbrev pub cosine_of : Measure → Option Float
@@ -52,7 +59,7 @@ unfoldable pub row_of : Shown → List ℕ
 unfolding to_bits
 row_of s =
     let f = s.figures in
-    let floats = floats_of s.residual f.continuation f.cells in
+    let floats = floats_of (residual_float s.residual) f.continuation f.cells in
     s.marks ∷ reason_number f.reason ∷ presence floats
     ∷ f.degree ∷ s.boundary ∷ f.adjacent ∷ f.valid ∷ 0
     ∷ float_bytes floats

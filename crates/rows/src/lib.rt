@@ -6,13 +6,14 @@ ghost use Rattle.std.proofs.lemmas.List.Edits.{sets};
 ghost use Rattle.view.specs.View.{max_points};
 ghost use Rattle.folds.specs.Marked.{bit};
 ghost use Rattle.judged.specs.Judged.{judged_from};
-ghost use Rattle.judged.specs.Shown.{residual_of, shown_at};
+ghost use Rattle.judged.specs.Shown.{shown_at};
 ghost use Rattle.sheet_file.specs.Bytes.{little_endian};
-ghost use Rattle.rows.specs.Rows.{bits_of, is_present, cosine_of, ratio_of, floats_of, presence, row_of, row_size, rows_over};
+ghost use Rattle.rows.specs.Rows.{bits_of, is_present, residual_float, cosine_of, ratio_of, floats_of, presence, row_of, row_size, rows_over};
 
 use edge_shape::{Figures, Measure};
 use judged::Findings;
 use judged::figures::{FigureCounts, FigureMeasures};
+use local_h::Residual;
 
 // The bytes of a row.
 pub const ROW_SIZE: usize = 28;
@@ -29,13 +30,13 @@ fn put_word(b: u32, rows: &mut [u8], at: usize)
 }
 
 // The pattern of the residual, or 0.
-fn residual_bits(has: u8, value: f32) -> u32
-    ensures { result ≡ bits_of (residual_of has value) }
+fn residual_bits(r: Residual) -> u32
+    ensures { result ≡ bits_of (residual_float r) }
 {
-    if has == 1 {
-        return float::to_bits(value);
+    match r {
+        Residual::Value(d) => float::to_bits(d.value),
+        Residual::NoFit => 0,
     }
-    0
 }
 
 // The pattern of the cosine, or 0.
@@ -59,13 +60,13 @@ fn ratio_bits(m: Measure) -> u32
 }
 
 // 1 if there is a residual, else 0.
-fn residual_count(has: u8, value: f32) -> u8
-    ensures { (result ≡ bit (is_present (residual_of has value))) × (result ≤ 1) }
+fn residual_count(r: Residual) -> u8
+    ensures { (result ≡ bit (is_present (residual_float r))) × (result ≤ 1) }
 {
-    if has == 1 {
-        return 1;
+    match r {
+        Residual::Value(_) => 1,
+        Residual::NoFit => 0,
     }
-    0
 }
 
 // 1 if there are a cosine and a ratio, else 0.
@@ -79,22 +80,22 @@ fn measure_count(m: Measure) -> u8
 }
 
 // Which floats are present: the cosine and the ratio of a measure are so together.
-fn present(has: u8, value: f32, continuation: Measure, cells: Measure) -> u8
-    ensures { result ≡ presence (floats_of (residual_of has value) continuation cells) }
+fn present(residual: Residual, continuation: Measure, cells: Measure) -> u8
+    ensures { result ≡ presence (floats_of (residual_float residual) continuation cells) }
 {
-    residual_count(has, value) + 6 * measure_count(continuation) + 24 * measure_count(cells)
+    residual_count(residual) + 6 * measure_count(continuation) + 24 * measure_count(cells)
 }
 
 // Puts the row that shows these into the rows, from a place on.
-fn put_row(marks: u8, has: u8, value: f32, f: Figures, boundary: u8, rows: &mut [u8], at: usize)
+fn put_row(marks: u8, residual: Residual, f: Figures, boundary: u8, rows: &mut [u8], at: usize)
     requires { at + row_size ≤ length rows.old }
-    ensures { rows.new ≡ sets rows.old at (row_of (record { marks = marks; residual = residual_of has value; figures = f; boundary = boundary })) }
+    ensures { rows.new ≡ sets rows.old at (row_of (record { marks = marks; residual = residual; figures = f; boundary = boundary })) }
 {
     let continuation = f.continuation;
     let cells = f.cells;
     let reason = f.reason;
     let number = edge_shape::reason_number(reason);
-    let floats = present(has, value, continuation, cells);
+    let floats = present(residual, continuation, cells);
     rows[at] = marks;
     rows[at + 1] = number;
     rows[at + 2] = floats;
@@ -103,7 +104,7 @@ fn put_row(marks: u8, has: u8, value: f32, f: Figures, boundary: u8, rows: &mut 
     rows[at + 5] = f.adjacent;
     rows[at + 6] = f.valid;
     rows[at + 7] = 0;
-    put_word(residual_bits(has, value), rows, at + 8);
+    put_word(residual_bits(residual), rows, at + 8);
     put_word(cosine_bits(continuation), rows, at + 12);
     put_word(ratio_bits(continuation), rows, at + 16);
     put_word(cosine_bits(cells), rows, at + 20);
@@ -125,8 +126,7 @@ pub fn write_rows(
     while k < n {
         put_row(
             j.marks[k],
-            j.has[k],
-            j.value[k],
+            j.residuals[k],
             judged::figures::figures_from(counts, measures, k),
             j.boundary[k],
             rows,
