@@ -38,6 +38,7 @@ fn mean(a: f32, b: f32, c: f32, d: f32) -> f32
     (0.0 + a + b + c + d) / 4.0
 }
 
+// A mean is no root, so that it has no remainder.
 fn mean_distance(p: [PlanePoint; 4], x: f32, y: f32) -> f32
     ensures { result ≡ mean_distance p x y }
 {
@@ -45,7 +46,7 @@ fn mean_distance(p: [PlanePoint; 4], x: f32, y: f32) -> f32
     let b = float::norm(p[1].x - x, p[1].y - y);
     let c = float::norm(p[2].x - x, p[2].y - y);
     let d = float::norm(p[3].x - x, p[3].y - y);
-    mean(a, b, c, d)
+    mean(a.value, b.value, c.value, d.value)
 }
 
 fn scale(d: f32) -> f32
