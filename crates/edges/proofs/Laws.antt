@@ -8,30 +8,31 @@ use native.Mathlib.Omega.{arith}
 use lib.ListN.{get_or, set, replicate, length-replicate}
 use lib.Ieee.{Float, nan}
 use borrow.Author.Tests.{lt-ltb, le-ltb}
-use Rattle.folds.specs.Arith.{◌⊖◌, ◌⊘◌, zero_f}
-use Rattle.float.specs.Scalar.{norm_of}
+use Rattle.folds.specs.Arith.{◌⊖◌, ◌⊘◌}
+use Rattle.float.specs.declared.Distance.{Distance}
+use Rattle.float.specs.Remainder.{length_of}
 use Rattle.folds.proofs.Lists.{is-list, list_at}
 use Rattle.folds.proofs.Column.{replicate-at, fill_more}
 use Rattle.view.specs.View.{max_points, View, rank_at}
 use Rattle.edges.specs.declared.Edge.{Edge}
-use Rattle.edges.specs.Edges.{edge_by, edge_at, side, part_of, edge_entry, edges_of, edges_size, edge_place, FilledTo}
+use Rattle.edges.specs.Edges.{edge_by, no_edge, edge_at, StoredEdge, stored_at, side, part_of, edge_entry, edges_of, edges_size, edge_place, FilledTo}
 
 module _ (w : View) where
   -- ---- one edge, where j is the rank at the other end
 
   module _ (way k j : ℕ) (e : j ≡ rank_at w k (side way)) where
-    pub edge_none : w.count ≤ j → ◌≡◌ {A = Edge} (record { len = zero_f; ux = zero_f; uy = zero_f }) (edge_at w (side way) k)
+    pub edge_none : w.count ≤ j → no_edge ≡ edge_at w (side way) k
     unfolding edge_at
     edge_none l = rw (← e, le-ltb j w.count l)
 
-    pub edge_to : {len : Float} → j < w.count → len ≡ norm_of (w.x j ⊖ w.x k) (w.y j ⊖ w.y k)
-        → ◌≡◌ {A = Edge} (record { len = len; ux = (w.x j ⊖ w.x k) ⊘ len; uy = (w.y j ⊖ w.y k) ⊘ len }) (edge_at w (side way) k)
+    pub edge_to : {len : Distance} → j < w.count → len ≡ length_of (w.x j ⊖ w.x k) (w.y j ⊖ w.y k)
+        → ◌≡◌ {A = Edge} (record { len = len; ux = (w.x j ⊖ w.x k) ⊘ len.value; uy = (w.y j ⊖ w.y k) ⊘ len.value }) (edge_at w (side way) k)
     unfolding edge_at edge_by
     edge_to l q = rw (← e, lt-ltb j w.count l, q)
 
   -- ---- the table
 
-  entry-is : (way part k : ℕ) → way < 2 → part < 3 → k < w.count → w.count ≤ max_points → edge_entry w (edge_place way part k) ≡ part_of part (edge_at w (side way) k)
+  entry-is : (way part k : ℕ) → way < 2 → part < 3 → k < w.count → w.count ≤ max_points → edge_entry w (edge_place way part k) ≡ part_of part (stored_at w (side way) k)
   unfolding edge_entry
   entry-is way part k h m l few =
       let a : edge_place way part k / 3 % max_points ≡ k = omega arith in
@@ -44,12 +45,12 @@ module _ (w : View) where
   unfolding edge_entry
   past i h = rw (le-ltb (i / 3 % max_points) w.count h)
 
-  pub edge-part : w.count ≤ max_points → (way part k : ℕ) → way < 2 → part < 3 → k < w.count → get_or (edges_of w) (edge_place way part k) nan ≡ part_of part (edge_at w (side way) k)
+  pub edge-part : w.count ≤ max_points → (way part k : ℕ) → way < 2 → part < 3 → k < w.count → get_or (edges_of w) (edge_place way part k) nan ≡ part_of part (stored_at w (side way) k)
   unfolding edges_of
   edge-part few way part k h m l = list_at edges_size (edge_entry w) (edge_place way part k) nan (omega arith) ∙ entry-is way part k h m l few
 
   -- one edge more: its three parts
-  module _ (way k : ℕ) (h : way < 2) (l : k < w.count) (few : w.count ≤ max_points) {e : Edge} (q : e ≡ edge_at w (side way) k) where
+  module _ (way k : ℕ) (h : way < 2) (l : k < w.count) (few : w.count ≤ max_points) {e : StoredEdge} (q : e ≡ stored_at w (side way) k) where
     part-more : (part : ℕ) {i : ℕ} {t : List Float} → part < 3 → i ≡ edge_place way part k → FilledTo w i t → FilledTo w (i + 1) (set t i (part_of part e))
     part-more part {i} m p f =
         fill_more (replicate edges_size nan) nan (edge_entry w) (part_of part e) (omega (arith, length-replicate {A = Float} edges_size nan))

@@ -7,10 +7,11 @@ ghost use Rattle.offsets.specs.Offsets.{is_near};
 ghost use Rattle.view.specs.View.{max_points, view_at};
 ghost use Rattle.edges.specs.Edges.{edges_size, side, back_side, edge_at, edges_of, edge_place, FilledTo};
 
+use float::{Distance, Remainder};
 use offsets::{NEXT_U, NEXT_V, Offset, PREV_U, PREV_V};
 use view::{Floats, MAX_POINTS, Ranks};
 
-// The edges along u, then those along v: for each of MAX_POINTS ranks the length and the unit vector (x, then y).
+// The edges along u, then those along v: for each of MAX_POINTS ranks the length as f32 and the unit vector (x, then y).
 pub const EDGES_SIZE: usize = 6 * MAX_POINTS;
 
 pub type Edges = [f32; EDGES_SIZE];
@@ -18,7 +19,7 @@ pub type Edges = [f32; EDGES_SIZE];
 // An edge: its length and its unit vector, which means something only where the length is above 0.
 #[derive(Clone, Copy)]
 pub struct Edge {
-    pub len: f32,
+    pub len: Distance,
     pub ux: f32,
     pub uy: f32,
 }
@@ -45,7 +46,10 @@ fn edge_at(ranks: &Ranks, x: &Floats, y: &Floats, n: usize, way: usize, k: usize
     let j = view::rank_at(ranks, k, side_of(way));
     if n <= j {
         return Edge {
-            len: 0.0,
+            len: Distance {
+                value: 0.0,
+                remainder: Remainder::Found(0),
+            },
             ux: 0.0,
             uy: 0.0,
         };
@@ -55,8 +59,8 @@ fn edge_at(ranks: &Ranks, x: &Floats, y: &Floats, n: usize, way: usize, k: usize
     let len = float::norm(dx, dy);
     Edge {
         len,
-        ux: dx / len,
-        uy: dy / len,
+        ux: dx / len.value,
+        uy: dy / len.value,
     }
 }
 
@@ -77,7 +81,7 @@ fn fill_way(ranks: &Ranks, x: &Floats, y: &Floats, n: usize, table: &mut Edges, 
     while k < n {
         let e = edge_at(ranks, x, y, n, way, k);
         let at = place(way, k);
-        table[at] = e.len;
+        table[at] = e.len.value;
         table[at + 1] = e.ux;
         table[at + 2] = e.uy;
         k += 1;

@@ -38,6 +38,7 @@ fn mean(a: f32, b: f32, c: f32, d: f32) -> f32
     (0.0 + a + b + c + d) / 4.0
 }
 
+// A mean is no root, so that it has no remainder.
 fn mean_distance(p: [PlanePoint; 4], x: f32, y: f32) -> f32
     ensures { result ≡ mean_distance p x y }
 {

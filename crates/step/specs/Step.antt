@@ -5,6 +5,8 @@ use Rattle.std.specs.Float.Ieee.{of_bits, lt, add, sub, mul}
 use Rattle.std.specs.Float.Ieee.Scale.{finite}
 use Rattle.float.specs.Constants.{zero, half}
 use Rattle.float.specs.Scalar.{norm_of}
+use Rattle.float.specs.declared.Distance.{Distance}
+use Rattle.float.specs.Remainder.{length_of}
 use Rattle.folds.specs.Arith.{◌⊕◌, ◌⊖◌, ◌⊗◌}
 use Rattle.offsets.specs.declared.Offset.{Offset}
 use Rattle.offsets.specs.Offsets.{next_u, prev_u, next_v, prev_v}
@@ -19,9 +21,9 @@ abbrev pub no_step : Step
 no_step = record { there = false; value = zero }
 
 -- the distance from rank p to rank q
-unfoldable pub spacing : (ℕ → Float) → (ℕ → Float) → ℕ → ℕ → Float
+unfoldable pub spacing : (ℕ → Float) → (ℕ → Float) → ℕ → ℕ → Distance
 unfolding norm_of sub
-spacing x y p q = norm_of (x q ⊖ x p) (y q ⊖ y p)
+spacing x y p q = length_of (x q ⊖ x p) (y q ⊖ y p)
 
 -- The step of rank m along an axis, whose neighbours are at the offsets `before` and `after`: by a central difference where both are
 -- present, by a one-sided one where one is.
@@ -29,8 +31,8 @@ unfoldable pub axis_step : View → Offset → Offset → ℕ → Step
 unfolding spacing mul of_bits
 axis_step w before after m =
     cond (present w m before)
-    (cond (present w m after) (step_of (spacing w.x w.y (rank_at w m before) (rank_at w m after) ⊗ half)) (step_of (spacing w.x w.y (rank_at w m before) m)))
-    (cond (present w m after) (step_of (spacing w.x w.y m (rank_at w m after))) no_step)
+    (cond (present w m after) (step_of ((spacing w.x w.y (rank_at w m before) (rank_at w m after)).value ⊗ half)) (step_of (spacing w.x w.y (rank_at w m before) m).value))
+    (cond (present w m after) (step_of (spacing w.x w.y m (rank_at w m after)).value) no_step)
 
 -- the mean of the steps along both axes, or the only one
 unfoldable pub mean_step : Step → Step → Step

@@ -14,10 +14,11 @@ ghost use Rattle.view.specs.View.{max_points, view_at, Ranked};
 ghost use Rattle.step.specs.Step.{step_of, spacing, axis_step, mean_step, kept_step, local_step, step_at, scale_at};
 ghost use Rattle.step.specs.Deviation.{is_step_outside, deviates};
 
+use float::Distance;
 use offsets::Offset;
 use view::{Floats, MAX_POINTS, Marks, Ranks, rank_at};
 
-// A step, or none, whose value is 0.
+// A step, or none, whose value is 0. Half a distance and a mean of two are no roots, so that a step has no remainder.
 #[derive(Clone, Copy)]
 struct Step {
     there: bool,
@@ -34,7 +35,7 @@ fn step_of(s: f32) -> Step
 }
 
 // The distance from rank p to rank q.
-fn spacing(x: &Floats, y: &Floats, p: usize, q: usize) -> f32
+fn spacing(x: &Floats, y: &Floats, p: usize, q: usize) -> Distance
     requires { (p < max_points) × (q < max_points) }
     ensures { result ≡ spacing (λ (k : ℕ). get_or x.now k nan) (λ (k : ℕ). get_or y.now k nan) p q }
 {
@@ -58,12 +59,12 @@ fn axis_step(
     let r = rank_at(ranks, m, after);
     if l < n {
         if r < n {
-            return step_of(spacing(x, y, l, r) * 0.5);
+            return step_of(spacing(x, y, l, r).value * 0.5);
         }
-        return step_of(spacing(x, y, l, m));
+        return step_of(spacing(x, y, l, m).value);
     }
     if r < n {
-        return step_of(spacing(x, y, m, r));
+        return step_of(spacing(x, y, m, r).value);
     }
     Step {
         there: false,
