@@ -46,8 +46,8 @@ struct FoundBase {
 // A residual, or the finding that no fit exists.
 #[derive(Clone, Copy)]
 pub enum Residual {
-    Value(Distance),
     NoFit,
+    Value(Distance),
 }
 
 // An entry for each point.

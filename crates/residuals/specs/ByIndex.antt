@@ -1,8 +1,7 @@
 -- What a rank, and its index, has of residuals. Assumes nothing.
 use Rattle.std.specs.Prelude.{Bool, true, false, cond, ◌&&◌, ℕ, ltb, Float}
-use Rattle.std.specs.Float.{nan}
 use Rattle.std.specs.Float.Ieee.{lt}
-use Rattle.folds.specs.Arith.{◌⊗◌, zero_f}
+use Rattle.folds.specs.Arith.{◌⊗◌}
 use Rattle.folds.specs.Below.{last}
 use Rattle.folds.specs.Column.{column}
 use Rattle.folds.specs.Marked.{bit}
@@ -15,59 +14,49 @@ use Rattle.local_h.specs.declared.Residual.TheVariants.{Value, NoFit}
 use Rattle.residuals.specs.declared.Residuals.{Residuals}
 
 abbrev pub has_value : Residual → Bool
-has_value (Value x) = true
+has_value (Value d) = true
 has_value NoFit = false
-
--- "Absent is zero"
-abbrev pub value_of : Residual → Float
-value_of (Value x) = x
-value_of NoFit = zero_f
 
 -- "residual over tolerance", where the limit is the tolerance times the scale of the index
 abbrev pub exceeds : Float → Residual → Bool
-exceeds limit (Value x) = lt limit x
+exceeds limit (Value d) = lt limit d.value
 exceeds limit NoFit = false
 
 -- "residual over twice the tolerance", which the source asks only of a residual over the tolerance
 abbrev pub is_high : Float → Residual → Bool
 is_high limit r = exceeds limit r && exceeds (two ⊗ limit) r
 
--- the value of the last rank with rank k's index that has the mark t, or 0
-abbrev pub last_value : View → (ℕ → Bool) → (ℕ → Float) → ℕ → Float
-last_value w t value k = let j = last (λ (j : ℕ). t j && alike w j k) w.count w.count in cond (ltb j w.count) (value j) zero_f
-
-module _ (w : View) (cell : ℕ → Cell) where
+-- r has the residual of each rank
+module _ (w : View) (r : ℕ → Residual) where
   -- the last rank with rank k's index that has a residual, or the count
   unfoldable pub last_fit : ℕ → ℕ
-  last_fit k = last (λ (j : ℕ). has_value (residual_at w cell j) && alike w j k) w.count w.count
+  last_fit k = last (λ (j : ℕ). has_value (r j) && alike w j k) w.count w.count
 
   -- "a residual comes from the last cell, in the order of the rows, having one"
   unfoldable pub index_residual : ℕ → Residual
-  index_residual k = cond (ltb (last_fit k) w.count) (residual_at w cell (last_fit k)) NoFit
+  index_residual k = cond (ltb (last_fit k) w.count) (r (last_fit k)) NoFit
 
-  module _ (scale : ℕ → Float) (tolerance : Float) where
-    abbrev pub over_at : ℕ → Bool
-    over_at k = exceeds (tolerance ⊗ scale k) (residual_at w cell k)
+module _ (w : View) (cell : ℕ → Cell) (scale : ℕ → Float) (tolerance : Float) where
+  abbrev pub over_at : ℕ → Bool
+  over_at k = exceeds (tolerance ⊗ scale k) (residual_at w cell k)
 
-    abbrev pub high_at : ℕ → Bool
-    high_at k = is_high (tolerance ⊗ scale k) (residual_at w cell k)
+  abbrev pub high_at : ℕ → Bool
+  high_at k = is_high (tolerance ⊗ scale k) (residual_at w cell k)
 
-    -- what each rank has
-    unfoldable pub cell_columns : Residuals
-    cell_columns =
-        record {
-          has = column max_points 0 w.count (λ (k : ℕ). bit (has_value (residual_at w cell k)));
-          value = column max_points nan w.count (λ (k : ℕ). value_of (residual_at w cell k));
-          over = column max_points 0 w.count (λ (k : ℕ). bit (over_at k));
-          high = column max_points 0 w.count (λ (k : ℕ). bit (high_at k));
-        }
+  -- what each rank has
+  unfoldable pub cell_columns : Residuals
+  cell_columns =
+      record {
+        values = column max_points NoFit w.count (residual_at w cell);
+        over = column max_points 0 w.count (λ (k : ℕ). bit (over_at k));
+        high = column max_points 0 w.count (λ (k : ℕ). bit (high_at k));
+      }
 
-    -- what the index of each rank has: "a flag from any cell stays"
-    unfoldable pub index_columns : Residuals
-    index_columns =
-        record {
-          has = column max_points 0 w.count (λ (k : ℕ). bit (has_value (index_residual k)));
-          value = column max_points nan w.count (λ (k : ℕ). value_of (index_residual k));
-          over = column max_points 0 w.count (λ (k : ℕ). bit (index_has w over_at k));
-          high = column max_points 0 w.count (λ (k : ℕ). bit (index_has w high_at k));
-        }
+  -- what the index of each rank has: "a flag from any cell stays"
+  unfoldable pub index_columns : Residuals
+  index_columns =
+      record {
+        values = column max_points NoFit w.count (index_residual w (residual_at w cell));
+        over = column max_points 0 w.count (λ (k : ℕ). bit (index_has w over_at k));
+        high = column max_points 0 w.count (λ (k : ℕ). bit (index_has w high_at k));
+      }

@@ -1,41 +1,48 @@
-// The values of indices, from those of their ranks.
+// The residuals of indices, from those of their ranks.
 ghost use Rattle.std.specs.Prelude.{◌≡◌, [], ℕ, ◌<◌, get_or, replicate};
-ghost use Rattle.std.specs.Float.{nan};
-ghost use Rattle.folds.specs.Arith.{zero_f};
 ghost use Rattle.folds.specs.Column.{column};
 ghost use Rattle.folds.specs.Scattered.{Scattered};
-ghost use Rattle.marks.specs.Marks.{is_set};
 ghost use Rattle.view.specs.View.{max_points, view_at, Ranked};
-ghost use Rattle.residuals.specs.ByIndex.{last_value};
+ghost use Rattle.local_h.specs.declared.Residual.TheVariants.{NoFit};
+ghost use Rattle.residuals.specs.ByIndex.{has_value, index_residual};
 
-use view::{Floats, MAX_POINTS, Marks, Ranks};
+use local_h::{Residual, ResidualColumn};
+use view::{MAX_POINTS, Ranks};
 
-// At the place of each index the value of its last rank with a mark, or 0.
-fn last_values(ranks: &Ranks, mark: &Marks, value: &Floats, n: usize) -> Floats
-    requires { Ranked n ranks.now }
-    ensures { Scattered nan (view_at n ranks.now [] []).by_idx (is_set mark.now) (λ k x. get_or value.now k nan) (replicate max_points zero_f) n result }
+fn has_value(r: Residual) -> bool
+    ensures { result ≡ has_value r }
 {
-    let mut out = [0.0; MAX_POINTS];
+    match r {
+        Residual::Value(_) => true,
+        Residual::NoFit => false,
+    }
+}
+
+// At the place of each index the residual of its last rank that has one.
+fn last_values(ranks: &Ranks, values: &ResidualColumn, n: usize) -> ResidualColumn
+    requires { Ranked n ranks.now }
+    ensures { Scattered NoFit (view_at n ranks.now [] []).by_idx (λ k. has_value (get_or values.now k NoFit)) (λ k x. get_or values.now k NoFit) (replicate max_points NoFit) n result }
+{
+    let mut out = [Residual::NoFit; MAX_POINTS];
     let mut i: usize = 0;
     while i < n {
         let k = i;
         i += 1;
-        if mark[k] == 1 {
+        if has_value(values[k]) {
             let m = view::index_of(ranks, k);
-            out[m] = value[k];
+            out[m] = values[k];
         }
     }
     out
 }
 
-// For each rank the value of the last rank with its index that has a mark, or 0.
-pub fn values(ranks: &Ranks, mark: &Marks, value: &Floats, n: usize) -> Floats
+// For each rank the residual of the last rank with its index that has one.
+pub fn values(ranks: &Ranks, values: &ResidualColumn, n: usize) -> ResidualColumn
     requires { Ranked n ranks.now }
-    ensures { result ≡ column max_points nan n (last_value (view_at n ranks.now [] []) (is_set mark.now) (λ (k : ℕ). get_or value.now k nan)) }
+    ensures { result ≡ column max_points NoFit n (index_residual (view_at n ranks.now [] []) (λ (k : ℕ). get_or values.now k NoFit)) }
 {
-    let held = last_values(ranks, mark, value, n);
-    let none: f32 = 0.0 / 0.0;
-    let mut out = [none; MAX_POINTS];
+    let held = last_values(ranks, values, n);
+    let mut out = [Residual::NoFit; MAX_POINTS];
     let mut k: usize = 0;
     while k < n {
         out[k] = held[view::index_of(ranks, k)];

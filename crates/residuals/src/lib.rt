@@ -6,45 +6,26 @@ ghost use Rattle.std.specs.Float.{nan};
 ghost use Rattle.folds.specs.Marked.{bit};
 ghost use Rattle.view.specs.View.{max_points, view_at, Ranked};
 ghost use Rattle.cells.specs.Cell.{cells_at};
-ghost use Rattle.residuals.specs.ByIndex.{has_value, value_of, exceeds, is_high, cell_columns, index_columns};
+ghost use Rattle.residuals.specs.ByIndex.{exceeds, is_high, cell_columns, index_columns};
 
-use local_h::Residual;
+use local_h::{Residual, ResidualColumn};
 use view::{Floats, MAX_POINTS, Marks, Ranks, Words};
 
 mod by_index;
 
-// For each rank: whether there is a residual, and which, or 0; whether it is over the tolerance, and over twice the tolerance.
+// For each rank its residual; whether it is over the tolerance, and over twice the tolerance.
 #[derive(Drop)]
 pub struct Residuals {
-    pub has: Marks,
-    pub value: Floats,
+    pub values: ResidualColumn,
     pub over: Marks,
     pub high: Marks,
-}
-
-fn has_value(r: Residual) -> u8
-    ensures { result ≡ bit (has_value r) }
-{
-    match r {
-        Residual::Value(_) => 1,
-        Residual::NoFit => 0,
-    }
-}
-
-fn value_of(r: Residual) -> f32
-    ensures { result ≡ value_of r }
-{
-    match r {
-        Residual::Value(x) => x,
-        Residual::NoFit => 0.0,
-    }
 }
 
 fn exceeds_limit(limit: f32, r: Residual) -> bool
     ensures { result ≡ exceeds limit r }
 {
     match r {
-        Residual::Value(x) => limit < x,
+        Residual::Value(d) => limit < d.value,
         Residual::NoFit => false,
     }
 }
@@ -71,24 +52,20 @@ fn cell_residuals(
     requires { n ≤ max_points }
     ensures { result ≡ cell_columns (view_at n ranks.now x.now y.now) (cells_at keys.now) (λ (j : ℕ). get_or scale.now j nan) tolerance }
 {
-    let none: f32 = 0.0 / 0.0;
-    let mut has = [0u8; MAX_POINTS];
-    let mut value = [none; MAX_POINTS];
+    let mut values = [Residual::NoFit; MAX_POINTS];
     let mut over = [0u8; MAX_POINTS];
     let mut high = [0u8; MAX_POINTS];
     let mut k = 0;
     while k < n {
         let r = local_h::local_h_residual(ranks, keys, x, y, n, k);
         let limit = tolerance * scale[k];
-        has[k] = has_value(r);
-        value[k] = value_of(r);
+        values[k] = r;
         over[k] = marks::bit_of(exceeds_limit(limit, r));
         high[k] = marks::bit_of(is_high(limit, r));
         k += 1;
     }
     Residuals {
-        has: has,
-        value: value,
+        values: values,
         over: over,
         high: high,
     }
@@ -108,13 +85,11 @@ pub fn index_residuals(
     ensures { result ≡ index_columns (view_at n ranks.now x.now y.now) (cells_at keys.now) (λ (j : ℕ). get_or scale.now j nan) tolerance }
 {
     let cells = cell_residuals(ranks, keys, x, y, scale, n, tolerance);
-    let has = cells.has;
-    let value = cells.value;
+    let values = cells.values;
     let over = cells.over;
     let high = cells.high;
     Residuals {
-        has: marks::by_index(ranks, &has, n),
-        value: by_index::values(ranks, &has, &value, n),
+        values: by_index::values(ranks, &values, n),
         over: marks::by_index(ranks, &over, n),
         high: marks::by_index(ranks, &high, n),
     }
