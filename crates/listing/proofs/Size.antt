@@ -1,7 +1,7 @@
 -- How long a listing is at most. Assumes nothing.
 use mathlib.Core.Path.{◌≡◌, refl}
 use mathlib.Core.Bool.{Bool, true, false, cond, ◌&&◌}
-use mathlib.Core.List.{List, [], ◌++◌}
+use mathlib.Core.List.{List, ◌++◌}
 use lib.Ieee.{Float, binary32, to_bits}
 use Prim.Native.Nat.{ℕ, suc, ◌+◌, ◌-◌, ◌*◌, ◌/◌, ◌%◌, ◌^◌, ◌≤◌, ◌<◌}
 use native.Mathlib.Decide.{dec_lt}
@@ -27,7 +27,7 @@ use Rattle.predict.specs.declared.Prediction.{Prediction}
 use Rattle.predict.specs.declared.Prediction.TheVariants.{NoPair, Pairs}
 use Rattle.marks.specs.Filters.{filter_count, filter_at}
 use Rattle.marks.specs.Byte.{has_mark}
-use Rattle.listing.specs.Listing.{cell_text, mark_text, marks_text, residual_text, shown_text, line_text, line_of, head_text, count_text, tally_text, position_text, prediction_text, fill_text, fill_line, listing_of, line_size, fill_line_size, listing_size}
+use Rattle.listing.specs.Listing.{cell_text, mark_text, marks_text, distance_text, residual_text, shown_text, line_text, line_of, head_text, count_text, tally_text, position_text, prediction_text, fill_text, fill_line, listing_of, line_size, fill_line_size, listing_size}
 use Rattle.text.proofs.Numbers.{decimal-length, hex-length, whole_below, whole_from}
 use Rattle.text.proofs.Stores.{each-length}
 
@@ -68,7 +68,7 @@ float_size : (x : Float) → AtMost 8 (hex 8 (to_bits binary32 x))
 float_size x = record { within = omega (arith, hex-length 8 (to_bits binary32 x)) }
 
 residual-size : (r : Residual) → AtMost 9 (residual_text r)
-unfolding residual_text
+unfolding distance_text
 residual-size NoFit = record { within = omega arith }
 residual-size (Value d) = join (float_size d.value) (either (is_exact d) (known (bytes "=")) (record { within = omega arith }))
 

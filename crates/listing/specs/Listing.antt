@@ -5,6 +5,7 @@ use Rattle.std.specs.Float.Ieee.{to_bits}
 use Rattle.view.specs.View.{max_points}
 use Rattle.cells.specs.Cell.{Cell}
 use Rattle.float.specs.Remainder.{is_exact}
+use Rattle.float.specs.declared.Distance.{Distance}
 use Rattle.local_h.specs.declared.Residual.{Residual}
 use Rattle.local_h.specs.declared.Residual.TheVariants.{Value, NoFit}
 use Rattle.edge_shape.specs.Figures.{reason_number}
@@ -34,15 +35,18 @@ marks_text marks = each (mark_text marks) filter_count
 abbrev pub reason_text : ℕ → List ℕ
 reason_text reason = cond (leb 1 reason && leb reason 3) (digit reason) (bytes "-")
 
--- "residual in eight hexadecimal digits with capitals or a dash"; "NaN is 0x7FC00000"; "the listing puts `=` directly after a residual whose
--- remainder is 0"
-unfoldable pub residual_text : Residual → List ℕ
+-- "NaN is 0x7FC00000"; "the listing puts `=` directly after a residual whose remainder is 0"
+unfoldable pub distance_text : Distance → List ℕ
 unfolding hex to_bits
+distance_text d = hex 8 (to_bits binary32 d.value) ++ cond (is_exact d) (bytes "=") []
+
+-- "residual in eight hexadecimal digits with capitals or a dash"
+abbrev pub residual_text : Residual → List ℕ
 residual_text NoFit = bytes "-"
-residual_text (Value d) = hex 8 (to_bits binary32 d.value) ++ cond (is_exact d) (bytes "=") []
+residual_text (Value d) = distance_text d
 
 unfoldable pub shown_text : ℕ → ℕ → Residual → List ℕ
-unfolding marks_text residual_text
+unfolding marks_text distance_text
 shown_text marks reason residual = marks_text marks ++ bytes " " ++ reason_text reason ++ bytes " " ++ residual_text residual
 
 -- "Per point: u, v, index, marks (VOWC), reason 1 to 3 or a dash, residual in eight hexadecimal digits with capitals or a dash."

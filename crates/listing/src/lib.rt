@@ -64,9 +64,7 @@ fn put_lines(
     let mut k = 0;
     while k < n {
         let number = edge_shape::reason_number(judged::figures::reason_from(counts, k));
-        let next = line::put_line(
-            keys[k], idx[k], j.marks[k], number, j.residuals[k], out, to,
-        );
+        let next = line::put_line(keys[k], idx[k], j.marks[k], number, j.residuals[k], out, to);
         to = next;
         k += 1;
     }

@@ -6,7 +6,7 @@ ghost use Rattle.float.specs.Remainder.{is_exact};
 ghost use Rattle.marks.specs.Filters.{filter_count};
 ghost use Rattle.text.specs.Stored.{Stored};
 ghost use Rattle.text.specs.Text.{bytes, whole};
-ghost use Rattle.listing.specs.Listing.{cell_text, mark_text, marks_text, reason_text, residual_text, shown_text, line_text};
+ghost use Rattle.listing.specs.Listing.{cell_text, mark_text, marks_text, reason_text, distance_text, residual_text, shown_text, line_text};
 
 use float::Distance;
 use local_h::Residual;
@@ -65,7 +65,7 @@ fn put_exact(d: Distance, out: &mut [u8], at: usize) -> usize
 }
 
 fn put_distance(d: Distance, out: &mut [u8], at: usize) -> usize
-    ensures { Stored out.old at (residual_text (Value d)) out.new result }
+    ensures { Stored out.old at (distance_text d) out.new result }
 {
     let a = text::put_hex(8, float::to_bits(d.value), out, at);
     put_exact(d, out, a)

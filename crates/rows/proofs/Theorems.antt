@@ -1,13 +1,13 @@
 -- What a reader may expect of rows. Assumes nothing.
 use mathlib.Core.Path.{◌≡◌, refl, sym, ap, ◌∙◌}
 use mathlib.Core.List.{List, [], ◌∷◌, ◌++◌}
-use mathlib.Core.Option.{Option, some}
+use mathlib.Core.Option.{some}
 use Prim.Native.Nat.{ℕ, zero, suc, ◌+◌, ◌-◌, ◌*◌, ◌/◌, ◌%◌, ◌≤◌, ◌<◌}
 use native.Mathlib.Omega.{arith}
 use native.Mathlib.Nat.{add-zero}
 use lib.ListN.{length, get_or, drop, replicate, length-append, get_or-append}
 use lib.Seq.{get_or-append-add, get_or-drop}
-use lib.Ieee.{Float, nan, binary32, of_bits, to_bits}
+use lib.Ieee.{nan, binary32, of_bits, to_bits}
 use lib.IntN.{pos}
 use Rattle.float.specs.declared.Remainder.TheVariants.{Found}
 use Rattle.local_h.specs.declared.Residual.{Residual}
