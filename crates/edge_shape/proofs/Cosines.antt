@@ -152,7 +152,7 @@ module _ (w : View) (inside : Inside w) where
       let k = ltb-true b w.count e in
       let dx = apart w.x inside.x a b h k in
       let dy = apart w.y inside.y a b h k in
-      record { dx = dx; dy = dy; len = rw e (norm-plain (w.x b ⊖ w.x a) (w.y b ⊖ w.y a) (within-number 15 (w.x b ⊖ w.x a) dx) (within-number 15 (w.y b ⊖ w.y a) dy)) }
+      record { dx = dx; dy = dy; len = rw (T, e) (norm-plain (w.x b ⊖ w.x a) (w.y b ⊖ w.y a) (within-number 15 (w.x b ⊖ w.x a) dx) (within-number 15 (w.y b ⊖ w.y a) dy)) }
 
   pub continuation-number : (before after : Offset) (k : ℕ) → k < w.count → cosine_is_nan (continuation_at w before after k) ≡ false
   continuation-number before after k h =

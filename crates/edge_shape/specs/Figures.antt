@@ -26,10 +26,10 @@ use Rattle.edge_shape.specs.declared.Figures.{Figures}
 
 -- ---- two sides
 
--- the edge from rank a to the point at offset o: the vector and its length
+-- the edge from rank a to the point at offset o: the vector and its length as f32
 unfoldable pub side_at : View → Offset → ℕ → Side
 unfolding edge_at sub
-side_at w o a = record { dx = w.x (rank_at w a o) ⊖ w.x a; dy = w.y (rank_at w a o) ⊖ w.y a; len = (edge_at w o a).len }
+side_at w o a = record { dx = w.x (rank_at w a o) ⊖ w.x a; dy = w.y (rank_at w a o) ⊖ w.y a; len = (edge_at w o a).len.value }
 
 -- The cosine between two sides, clamped to -1 to 1, and the ratio of the longer to the shorter. There is neither where one is at most
 -- f32::EPSILON long.

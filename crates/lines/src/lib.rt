@@ -57,7 +57,7 @@ fn direction(sxx: f32, sxy: f32, syy: f32) -> Vector
 fn line_through(c: Vector, v: Vector) -> Line
     ensures { result ≡ line_through c v }
 {
-    let length = float::max(float::norm(v.x, v.y), float::constants::EPSILON);
+    let length = float::max(float::norm(v.x, v.y).value, float::constants::EPSILON);
     Line {
         cx: c.x,
         cy: c.y,
@@ -66,6 +66,7 @@ fn line_through(c: Vector, v: Vector) -> Line
     }
 }
 
+// The distance of (x, y) from a line takes no root, so that it has no remainder.
 fn distance(line: Line, x: f32, y: f32) -> f32
     ensures { result ≡ distance_of line x y }
 {

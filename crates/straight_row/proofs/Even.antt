@@ -25,8 +25,7 @@ use Rattle.offsets.proofs.Places.{offset_near}
 use Rattle.cells.specs.Cell.{agree}
 use Rattle.cells.proofs.Edges.{agree_same}
 use Rattle.view.specs.View.{View, rank_at, present, degree_at}
-use Rattle.edges.specs.declared.Edge.{Edge}
-use Rattle.edges.specs.Edges.{edge_by, edge_at, no_edge}
+use Rattle.edges.specs.Edges.{edge_by, edge_at, no_edge, StoredEdge, stored_at}
 use Rattle.wrong_label_filters.specs.Judged.{positive_edge, in_window, window_lens, sheet_lens, window_x, window_y, overlong, off_axis, fails, end_of_failing, edge_mark}
 use Rattle.wrong_label_filters.specs.Frontier.{distance, kink, kink_at, last_in_line, end_mark, frontier_mark}
 use Rattle.orientation.specs.Orientation.{vote_at, votes_for, orientation_mark}
@@ -45,23 +44,23 @@ frontier-is : (w : View) (k : ℕ) → frontier_mark w k
 unfolding frontier_mark
 frontier-is w k = refl
 
-edge-is : (w : View) (o : Offset) (k : ℕ) → (edge_at w o k).len ≡ cond (present w k o) (distance w k (rank_at w k o)) zero_f
+edge-is : (w : View) (o : Offset) (k : ℕ) → (stored_at w o k).len ≡ cond (present w k o) (distance w k (rank_at w k o)) zero_f
 unfolding edge_at distance
 edge-is w o k = go (present w k o)
   where
-    go : (b : Bool) → (cond b (edge_by (w.x (rank_at w k o) ⊖ w.x k) (w.y (rank_at w k o) ⊖ w.y k)) no_edge).len ≡ cond b (norm_of (w.x (rank_at w k o) ⊖ w.x k) (w.y (rank_at w k o) ⊖ w.y k)) zero_f
+    go : (b : Bool) → (cond b (edge_by (w.x (rank_at w k o) ⊖ w.x k) (w.y (rank_at w k o) ⊖ w.y k)) no_edge).len.value ≡ cond b (norm_of (w.x (rank_at w k o) ⊖ w.x k) (w.y (rank_at w k o) ⊖ w.y k)) zero_f
     go true = refl
     go false = refl
 
-window-is : (w : View) (E : ℕ → Edge) (k j : ℕ) → in_window w E k j ≡ not (eqb j (place_of own)) && (present w k (offset_of j) && positive_edge w E (rank_at w k (offset_of j)))
+window-is : (w : View) (E : ℕ → StoredEdge) (k j : ℕ) → in_window w E k j ≡ not (eqb j (place_of own)) && (present w k (offset_of j) && positive_edge w E (rank_at w k (offset_of j)))
 unfolding in_window
 window-is w E k j = refl
 
-window-long : (w : View) (E : ℕ → Edge) (k : ℕ) → length (window_lens w E k) ≡ tally (in_window w E k) 25
+window-long : (w : View) (E : ℕ → StoredEdge) (k : ℕ) → length (window_lens w E k) ≡ tally (in_window w E k) 25
 unfolding window_lens
 window-long w E k = listed-length (in_window w E k) (λ j. (E (rank_at w k (offset_of j))).len) 25
 
-fails-is : (w : View) (E : ℕ → Edge) (k : ℕ) → fails w E k ≡ positive_edge w E k
+fails-is : (w : View) (E : ℕ → StoredEdge) (k : ℕ) → fails w E k ≡ positive_edge w E k
     && cond (leb 5 (length (window_lens w E k)))
     (overlong overlong_ratio (window_lens w E k) (E k).len || off_axis (window_x w E k) (window_y w E k) (E k).ux (E k).uy)
     (leb 8 (length (sheet_lens w E)) && overlong global_overlong_ratio (sheet_lens w E) (E k).len)
@@ -72,7 +71,7 @@ overlong-is : (ratio : Float) (lens : List Float) (len : Float) → overlong rat
 unfolding overlong
 overlong-is ratio lens len = refl
 
-end_is : (w : View) (E : ℕ → Edge) (o : Offset) (m : ℕ) → end_of_failing w E o m ≡ some (λ k. (eqb k m || eqb (rank_at w k o) m) && fails w E k) w.count
+end_is : (w : View) (E : ℕ → StoredEdge) (o : Offset) (m : ℕ) → end_of_failing w E o m ≡ some (λ k. (eqb k m || eqb (rank_at w k o) m) && fails w E k) w.count
 unfolding end_of_failing
 end_is w E o m = refl
 
@@ -186,7 +185,7 @@ module _ (w : View) (r : Row w) where
   -- ---- edges
 
   -- a window has four edges at most
-  small-window : (E : ℕ → Edge) (k : ℕ) → k < w.count → length (window_lens w E k) ≤ 4
+  small-window : (E : ℕ → StoredEdge) (k : ℕ) → k < w.count → length (window_lens w E k) ≤ 4
   small-window E k h = omega (arith, window-long w E k, four-along, tally-mono (in_window w E k) along_row 25 in_row)
     where
       in_row : (j : ℕ) → j < 25 → in_window w E k j ≡ true → along_row j ≡ true
@@ -198,8 +197,8 @@ module _ (w : View) (r : Row w) where
           and_both other (agree (offset_of j).dv ±0) (and_left other rest t) (agree_same (offset_of j).dv ±0 (r.beside k (offset_of j) h (offset_near j l) there))
 
   module _ (o : Offset) (even : Even o) where
-    abbrev E : ℕ → Edge
-    E = edge_at w o
+    abbrev E : ℕ → StoredEdge
+    E = stored_at w o
 
     -- an edge of positive length has the length 7
     long-seven : (k : ℕ) → k < w.count → positive_edge w E k ≡ true → (E k).len ≡ seven

@@ -28,8 +28,7 @@ use Rattle.offsets.specs.declared.Offset.{Offset}
 use Rattle.offsets.specs.Offsets.{own, is_near, place_of, offset_of}
 use Rattle.offsets.proofs.Places.{offset_near}
 use Rattle.view.specs.View.{View, max_points, view_at, rank_at, present}
-use Rattle.edges.specs.declared.Edge.{Edge}
-use Rattle.edges.specs.Edges.{edge_at, side, part_of, edges_of, edge_place}
+use Rattle.edges.specs.Edges.{StoredEdge, edge_at, stored_at, side, part_of, edges_of, edge_place}
 use Rattle.edges.proofs.Laws.{edge-part}
 use Rattle.wrong_label_filters.specs.Judged.{positive_edge, in_window, window_lens, sheet_lens, window_x, window_y, overlong, off_axis, fails, end_of_failing, edge_mark}
 use Rattle.wrong_label_filters.specs.Windows.{table_edge, is_under, window_to, with_edge_at, positive_lens, failing_ends}
@@ -47,14 +46,14 @@ over-is : (r : Float) (l : List Float) (x : Float) → overlong r l x ≡ lt (r 
 unfolding overlong
 over-is r l x = refl
 
-module _ (w : View) (E : ℕ → Edge) where
+module _ (w : View) (E : ℕ → StoredEdge) where
   sheet-is : sheet_lens w E ≡ positive_lens E w.count
   unfolding sheet_lens
   sheet-is = refl
 
   module _ (k : ℕ) where
     -- the edge at place i of the 25 round rank k
-    abbrev at : ℕ → Edge
+    abbrev at : ℕ → StoredEdge
     at i = E (rank_at w k (offset_of i))
 
     abbrev sum_x : ℕ → Float
@@ -132,7 +131,7 @@ module _ (w : View) (E : ℕ → Edge) where
         (ap (λ r. leb 8 (tally (positive_edge w E) w.count) && r) (over-is global_overlong_ratio (sheet_lens w E) (E k).len ∙ ap (λ l. lt (global_overlong_ratio ⊗ median_of l) (E k).len) sheet-is))))
 
 -- the positive lengths, read from a column
-pub column-lens : (E : ℕ → Edge) (n : ℕ) (l : List Float) → l ≡ column max_points nan n (λ (k : ℕ). (E k).len) → positives l n ≡ positive_lens E n
+pub column-lens : (E : ℕ → StoredEdge) (n : ℕ) (l : List Float) → l ≡ column max_points nan n (λ (k : ℕ). (E k).len) → positives l n ≡ positive_lens E n
 unfolding positives
 column-lens E n l e =
     let at : (k : ℕ) → k < n → get_or l k nan ≡ (E k).len = λ k h. rw e (column-at max_points nan n (λ (k : ℕ). (E k).len) k h) in
@@ -141,12 +140,12 @@ column-lens E n l e =
 -- ---- what a verdict depends on
 
 -- Two edges whose windows hold the same edges at the same offsets: rank k among the edges E of the one sheet, rank l among F of the other.
-pub record Alike (w v : View) (E F : ℕ → Edge) (k l : ℕ) : Type 0 where
+pub record Alike (w v : View) (E F : ℕ → StoredEdge) (k l : ℕ) : Type 0 where
   pub own-edge : E k ≡ F l
   pub there : (o : Offset) → is_near o ≡ true → present w k o ≡ present v l o
   pub edges : (o : Offset) → is_near o ≡ true → present v l o ≡ true → E (rank_at w k o) ≡ F (rank_at v l o)
 
-module _ (w v : View) (E F : ℕ → Edge) (k l : ℕ) (a : Alike w v E F k l) where
+module _ (w v : View) (E F : ℕ → StoredEdge) (k l : ℕ) (a : Alike w v E F k l) where
   same-window : (j : ℕ) → j < 25 → in_window w E k j ≡ in_window v F l j
   unfolding in_window
   same-window j h =
@@ -167,7 +166,7 @@ module _ (w v : View) (E F : ℕ → Edge) (k l : ℕ) (a : Alike w v E F k l) w
       ∙ listed-ext (in_window w E k) (in_window v F l) (λ i. (E (rank_at w k (offset_of i))).len) (λ i. (F (rank_at v l (offset_of i))).len) 25 same-window (λ i g p. ap (λ e. e.len) (within i g p))
       ∙ sym (lens-are v F l)
 
-  same_sum : (part : Edge → Float) → sum_of (in_window w E k) (λ i. part (E (rank_at w k (offset_of i)))) 25 ≡ sum_of (in_window v F l) (λ i. part (F (rank_at v l (offset_of i)))) 25
+  same_sum : (part : StoredEdge → Float) → sum_of (in_window w E k) (λ i. part (E (rank_at w k (offset_of i)))) 25 ≡ sum_of (in_window v F l) (λ i. part (F (rank_at v l (offset_of i)))) 25
   same_sum part = sum-ext (in_window w E k) (in_window v F l) (λ i. part (E (rank_at w k (offset_of i)))) (λ i. part (F (rank_at v l (offset_of i)))) 25 same-window (λ i g p. ap part (within i g p))
 
   same-x : window_x w E k ≡ window_x v F l
@@ -185,7 +184,7 @@ module _ (w v : View) (E F : ℕ → Edge) (k l : ℕ) (a : Alike w v E F k l) w
   local-verdict h = fails-is w E k ∙ rw (same-lens, same-x, same-y, h, a.own-edge) (sym (fails-is v F l ∙ rw h))
 
 -- edges that agree below the count have the same verdicts
-same-fails : (w : View) (E F : ℕ → Edge) → ((k : ℕ) → k < w.count → E k ≡ F k) → (k : ℕ) → k < w.count → fails w E k ≡ fails w F k
+same-fails : (w : View) (E F : ℕ → StoredEdge) → ((k : ℕ) → k < w.count → E k ≡ F k) → (k : ℕ) → k < w.count → fails w E k ≡ fails w F k
 same-fails w E F same k l =
     same-verdict w w E F k k
     (record { own-edge = same k l; there = λ o h. refl; edges = λ o h p. same (rank_at w k o) (ltb-true (rank_at w k o) w.count p) })
@@ -194,17 +193,17 @@ same-fails w E F same k l =
 -- ---- the marks of a direction
 
 module _ (w : View) (o : Offset) where
-  none : (k : ℕ) → present w k o ≡ false → positive_edge w (edge_at w o) k ≡ false
+  none : (k : ℕ) → present w k o ≡ false → positive_edge w (stored_at w o) k ≡ false
   unfolding edge_at lt of_bits
   none k h = rw h
 
   -- an edge that fails has two ends
-  two-ends : (k : ℕ) → fails w (edge_at w o) k ≡ true → present w k o ≡ true
+  two-ends : (k : ℕ) → fails w (stored_at w o) k ≡ true → present w k o ≡ true
   two-ends k e = there (present w k o) refl
     where
       there : (b : Bool) → present w k o ≡ b → present w k o ≡ true
       there true p = p
-      there false p = absurd (false≢true (sym (fails-is w (edge_at w o) k ∙ rw (none k p)) ∙ e))
+      there false p = absurd (false≢true (sym (fails-is w (stored_at w o) k ∙ rw (none k p)) ∙ e))
 
   turn : (p f e : Bool) → (f ≡ true → p ≡ true) → p && (f && e) ≡ e && f
   turn p true true h = rw (h refl)
@@ -214,14 +213,14 @@ module _ (w : View) (o : Offset) where
   turn false false true h = refl
   turn false false false h = refl
 
-  ends_is : (m : ℕ) → end_of_failing w (edge_at w o) o m ≡ some (λ k. (eqb k m || eqb (rank_at w k o) m) && fails w (edge_at w o) k) w.count
+  ends_is : (m : ℕ) → end_of_failing w (stored_at w o) o m ≡ some (λ k. (eqb k m || eqb (rank_at w k o) m) && fails w (stored_at w o) k) w.count
   unfolding end_of_failing
   ends_is m = refl
 
-  ends-are : (E : ℕ → Edge) → ((k : ℕ) → k < w.count → E k ≡ edge_at w o k) → (m : ℕ) → some (λ k. failing_ends w o (fails w E) k m) w.count ≡ end_of_failing w (edge_at w o) o m
+  ends-are : (E : ℕ → StoredEdge) → ((k : ℕ) → k < w.count → E k ≡ stored_at w o k) → (m : ℕ) → some (λ k. failing_ends w o (fails w E) k m) w.count ≡ end_of_failing w (stored_at w o) o m
   ends-are E same m =
-      some-ext (λ k. failing_ends w o (fails w E) k m) (λ k. (eqb k m || eqb (rank_at w k o) m) && fails w (edge_at w o) k) w.count
-      (λ k l. rw (same-fails w E (edge_at w o) same k l) (turn (present w k o) (fails w (edge_at w o) k) (eqb k m || eqb (rank_at w k o) m) (two-ends k)))
+      some-ext (λ k. failing_ends w o (fails w E) k m) (λ k. (eqb k m || eqb (rank_at w k o) m) && fails w (stored_at w o) k) w.count
+      (λ k l. rw (same-fails w E (stored_at w o) same k l) (turn (present w k o) (fails w (stored_at w o) k) (eqb k m || eqb (rank_at w k o) m) (two-ends k)))
       ∙ sym (ends_is m)
 
   -- nothing from the count on is marked
@@ -233,13 +232,13 @@ module _ (w : View) (o : Offset) where
       go k l (no y) = rw (le-ltb (rank_at w k o) w.count (omega (arith, y)))
 
 -- the table's edges are those of the view
-table_is : (w : View) (way : ℕ) (edges : List Float) → w.count ≤ max_points → way < 2 → edges ≡ edges_of w → (k : ℕ) → k < w.count → table_edge edges way k ≡ edge_at w (side way) k
-table_is w way edges few h e k l = whole (edge_at w (side way) k) (at 0 (omega arith)) (at 1 (omega arith)) (at 2 (omega arith))
+table_is : (w : View) (way : ℕ) (edges : List Float) → w.count ≤ max_points → way < 2 → edges ≡ edges_of w → (k : ℕ) → k < w.count → table_edge edges way k ≡ stored_at w (side way) k
+table_is w way edges few h e k l = whole (stored_at w (side way) k) (at 0 (omega arith)) (at 1 (omega arith)) (at 2 (omega arith))
   where
-    at : (part : ℕ) → part < 3 → get_or edges (edge_place way part k) nan ≡ part_of part (edge_at w (side way) k)
+    at : (part : ℕ) → part < 3 → get_or edges (edge_place way part k) nan ≡ part_of part (stored_at w (side way) k)
     at part p = rw e (edge-part w few way part k h p l)
 
-    whole : {a b c : Float} (d : Edge) → a ≡ d.len → b ≡ d.ux → c ≡ d.uy → record { len = a; ux = b; uy = c } ≡ d
+    whole : {a b c : Float} (d : StoredEdge) → a ≡ d.len → b ≡ d.ux → c ≡ d.uy → record { len = a; ux = b; uy = c } ≡ d
     whole d p q r = rw (p, q, r)
 
 -- ---- the marks that a way's edges give

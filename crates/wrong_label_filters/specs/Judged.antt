@@ -13,11 +13,10 @@ use Rattle.float.specs.Scalar.{norm_of, over30_degrees}
 use Rattle.offsets.specs.declared.Offset.{Offset}
 use Rattle.offsets.specs.Offsets.{own, place_of, offset_of}
 use Rattle.view.specs.View.{View, rank_at, present}
-use Rattle.edges.specs.declared.Edge.{Edge}
-use Rattle.edges.specs.Edges.{edge_at}
+use Rattle.edges.specs.Edges.{StoredEdge, stored_at}
 use Rattle.median.specs.Median.{median_of}
 
-module _ (w : View) (E : ℕ → Edge) where
+module _ (w : View) (E : ℕ → StoredEdge) where
   abbrev pub positive_edge : ℕ → Bool
   positive_edge k = lt zero_f (E k).len
 
@@ -56,7 +55,7 @@ unfoldable pub off_axis : Float → Float → Float → Float → Bool
 unfolding norm_of lt add mul div over30_degrees of_bits
 off_axis sx sy ux uy = let s = norm_of sx sy in lt zero_f s && over30_degrees (ux ⊗ (sx ⊘ s) ⊕ uy ⊗ (sy ⊘ s))
 
-module _ (w : View) (E : ℕ → Edge) where
+module _ (w : View) (E : ℕ → StoredEdge) where
   -- the edge that starts at rank k fails
   unfoldable pub fails : ℕ → Bool
   unfolding lt of_bits window_lens sheet_lens window_x window_y overlong off_axis
@@ -73,4 +72,4 @@ module _ (w : View) (E : ℕ → Edge) where
 
 -- rank m is marked by an edge in the direction o
 abbrev pub edge_mark : View → Offset → ℕ → Bool
-edge_mark w o m = end_of_failing w (edge_at w o) o m
+edge_mark w o m = end_of_failing w (stored_at w o) o m

@@ -10,14 +10,13 @@ use Rattle.median.specs.Median.{median_of}
 use Rattle.offsets.specs.declared.Offset.{Offset}
 use Rattle.offsets.specs.Offsets.{offset_of}
 use Rattle.view.specs.View.{View, max_points, rank_at, present}
-use Rattle.edges.specs.declared.Edge.{Edge}
-use Rattle.edges.specs.Edges.{edge_place}
+use Rattle.edges.specs.Edges.{StoredEdge, edge_place}
 use Rattle.wrong_label_filters.specs.Judged.{in_window}
 use Rattle.wrong_label_filters.specs.declared.judged_edges.Window.{Window}
 use Rattle.wrong_label_filters.specs.declared.judged_edges.Limit.{Limit}
 
 -- the way's edges that a table holds
-abbrev pub table_edge : List Float → ℕ → ℕ → Edge
+abbrev pub table_edge : List Float → ℕ → ℕ → StoredEdge
 table_edge edges way k =
     record {
       len = get_or edges (edge_place way 0 k) nan;
@@ -35,7 +34,7 @@ with_edge t u x y v =
       sy = cond t (v.sy ⊕ y) v.sy;
     }
 
-module _ (w : View) (E : ℕ → Edge) (k : ℕ) (len : Float) where
+module _ (w : View) (E : ℕ → StoredEdge) (k : ℕ) (len : Float) where
   -- 1.5 times the length of the edge at place j is under len
   abbrev pub is_under : ℕ → Bool
   is_under j = lt (overlong_ratio ⊗ (E (rank_at w k (offset_of j))).len) len
@@ -55,11 +54,11 @@ module _ (w : View) (E : ℕ → Edge) (k : ℕ) (len : Float) where
   with_edge_at j v = with_edge (in_window w E k j) (is_under j) (E (rank_at w k (offset_of j))).ux (E (rank_at w k (offset_of j))).uy v
 
 -- the positive lengths of the first n edges
-abbrev pub positive_lens : (ℕ → Edge) → ℕ → List Float
+abbrev pub positive_lens : (ℕ → StoredEdge) → ℕ → List Float
 positive_lens E n = listed (λ i. lt zero_f (E i).len) (λ i. (E i).len) n
 
 -- a limit that is known is 1.6 times the median of the positive lengths
-abbrev pub Limits : (ℕ → Edge) → ℕ → Limit → Type 0
+abbrev pub Limits : (ℕ → StoredEdge) → ℕ → Limit → Type 0
 Limits E n l = l.known ≡ true → l.value ≡ global_overlong_ratio ⊗ median_of (positive_lens E n)
 
 -- what the verdict on rank k's edge is asked with

@@ -3,29 +3,30 @@ ghost use Rattle.std.specs.Prelude.{◌≡◌, true, cond, not, ◌&&◌, ◌||�
 ghost use Rattle.std.specs.Float.{nan};
 ghost use Rattle.folds.specs.Arith.{◌⊖◌};
 ghost use Rattle.folds.specs.Marked.{Marked};
-ghost use Rattle.float.specs.Scalar.{norm_of};
+ghost use Rattle.float.specs.Remainder.{length_of};
 ghost use Rattle.offsets.specs.Offsets.{is_near};
 ghost use Rattle.view.specs.View.{max_points, rows_at, columns_at, view_at, Ranked};
 ghost use Rattle.wrong_label_filters.specs.Frontier.{kink, kink_at, frontier_mark};
 ghost use Rattle.wrong_label_filters.specs.Lasts.{line_start, line_mark, Lasts};
 
+use float::Distance;
 use float::constants::FRONTIER_TOLERANCE;
 use offsets::Offset;
 use view::{Floats, MAX_POINTS, Marks, Places, Ranks};
 
 // The distance from rank a to rank b.
-fn rank_distance(x: &Floats, y: &Floats, a: usize, b: usize) -> f32
+fn rank_distance(x: &Floats, y: &Floats, a: usize, b: usize) -> Distance
     requires { (a < max_points) × (b < max_points) }
-    ensures { result ≡ norm_of (get_or x.now b nan ⊖ get_or x.now a nan) (get_or y.now b nan ⊖ get_or y.now a nan) }
+    ensures { result ≡ length_of (get_or x.now b nan ⊖ get_or x.now a nan) (get_or y.now b nan ⊖ get_or y.now a nan) }
 {
     float::norm(x[b] - x[a], y[b] - y[a])
 }
 
-fn has_kink(e0: f32, e1: f32, e2: f32) -> bool
-    ensures { result ≡ kink e0 e1 e2 }
+fn has_kink(e0: Distance, e1: Distance, e2: Distance) -> bool
+    ensures { result ≡ kink e0.value e1.value e2.value }
 {
-    if 0.0 < e1 {
-        return FRONTIER_TOLERANCE < (e0 - (2.0 * e1 - e2)) / e1;
+    if 0.0 < e1.value {
+        return FRONTIER_TOLERANCE < (e0.value - (2.0 * e1.value - e2.value)) / e1.value;
     }
     false
 }

@@ -107,8 +107,8 @@ fn off_axis(sx: f32, sy: f32, ux: f32, uy: f32) -> bool
     ensures { result ≡ off_axis sx sy ux uy }
 {
     let s = float::norm(sx, sy);
-    if 0.0 < s {
-        return float::over_30_degrees(ux * (sx / s) + uy * (sy / s));
+    if 0.0 < s.value {
+        return float::over_30_degrees(ux * (sx / s.value) + uy * (sy / s.value));
     }
     false
 }

@@ -1,5 +1,5 @@
 use borrow.Author.Tests.{lt-ltb, le-ltb, le-leb, lt-leb}
-use mathlib.Core.Path.{refl}
+use mathlib.Core.Path.{refl, ap}
 use Rattle.wrong_label_filters.proofs.LineEnds.{kink-is}
 use Rattle.wrong_label_filters.proofs.frontier.kink_at.Goals as goal
 
@@ -45,7 +45,7 @@ returns c =
       lt-ltb _ _ c.if-n-c.false,
       ← c.degree_at.ensures,
       le-leb _ _ c.if-degree_at-gt2.false,
-      ← c.rank_distance.ensures,
-      ← c.rank_distance-2.ensures,
-      ← c.rank_distance-3.ensures,
+      ← ap (λ d. d.value) c.rank_distance.ensures,
+      ← ap (λ d. d.value) c.rank_distance-2.ensures,
+      ← ap (λ d. d.value) c.rank_distance-3.ensures,
     ) c.has_kink.ensures
