@@ -43,7 +43,7 @@ module _ (s : Settings) (w : View) (cell : ℕ → Cell) where
       → r ≡ index_columns w cell (λ (j : ℕ). get_or scales j nan) s.local_h_tol_rel
       → deviations ≡ column max_points 0 w.count (λ (m : ℕ). bit (deviates (λ (k : ℕ). get_or steps k nan) w.count s.step_deviation_thresh_rel m))
       → marks ≡ blame_marks w (evidence_by flags r.over r.high deviations)
-      → ◌≡◌ {A = ByRules} (record { marks = marks; has = r.has; value = r.value }) (by_rules_of s w cell)
+      → ◌≡◌ {A = ByRules} (record { marks = marks; residuals = r.values }) (by_rules_of s w cell)
   unfolding steps_of scales_of flags_of residuals_of deviations_of
   rules-are st sc fl re de ma = rw (ma, de, re, fl, sc, st)
 
@@ -56,7 +56,7 @@ module _ (s : Settings) (w : View) (cell : ℕ → Cell) where
   pub all_are : (counts : List ℕ) {r : ByRules} {boundary marks : List ℕ} → r ≡ by_rules_of s w cell
       → ((k : ℕ) → k < w.count → reason_from counts k ≡ (get_or (figures_of s w) k no_figures).reason) → boundary ≡ gate_boundary s.edge_shape w cell
       → marks ≡ column max_points 0 w.count (λ (k : ℕ). bit (is_set r.marks k || is_reason (reason_from counts k)))
-      → ◌≡◌ {A = Measured} (record { marks = marks; has = r.has; value = r.value; boundary = boundary }) (validated_of s w cell)
+      → ◌≡◌ {A = Measured} (record { marks = marks; residuals = r.residuals; boundary = boundary }) (validated_of s w cell)
   unfolding validated_of validate_marks validate_mark boundary_in
   all_are counts e f g h =
       rw (

@@ -19,9 +19,9 @@ pub record Prepared (s : Settings) (n : ℕ) (ranks keys : List ℕ) (xs ys : Li
 
 -- rules 1 to 4
 abbrev pub by_rules_of : Settings → View → (ℕ → Cell) → ByRules
-by_rules_of s w cell = record { marks = blame_marks w (evidence_of s w cell); has = (residuals_of s w cell).has; value = (residuals_of s w cell).value }
+by_rules_of s w cell = record { marks = blame_marks w (evidence_of s w cell); residuals = (residuals_of s w cell).values }
 
 -- with rule 5, and the boundary
 unfoldable pub validated_of : Settings → View → (ℕ → Cell) → Measured
 validated_of s w cell =
-    record { marks = validate_marks s w cell; has = (residuals_of s w cell).has; value = (residuals_of s w cell).value; boundary = boundary_in s w cell }
+    record { marks = validate_marks s w cell; residuals = (residuals_of s w cell).values; boundary = boundary_in s w cell }

@@ -17,15 +17,15 @@ use edge_shape::Reason;
 use edges::Edges;
 use judged::Measured;
 use judged::figures::{FigureCounts, FigureMeasures};
+use local_h::ResidualColumn;
 use sheet_file::{EdgeGate, Settings};
 use view::{Floats, MAX_POINTS, Marks, Ranks, Words};
 
-// What rules 1 to 4 give: the mark of each rank's index, and its residual, if it has one.
+// What rules 1 to 4 give: the mark of each rank's index, and its residual.
 #[derive(Drop)]
 struct ByRules {
     marks: Marks,
-    has: Marks,
-    value: Floats,
+    residuals: ResidualColumn,
 }
 
 // Rules 1 to 4.
@@ -37,13 +37,12 @@ fn by_rules(s: Settings, ranks: &Ranks, keys: &Words, x: &Floats, y: &Floats, n:
     let scales = step::scales(ranks, &steps, n, s.cell_size);
     let flags = lines::line_flags(ranks, x, y, &scales, n, s.line_tol_rel, s.line_min_members);
     let r = residuals::index_residuals(ranks, keys, x, y, &scales, n, s.local_h_tol_rel);
-    let has = r.has;
-    let value = r.value;
+    let residuals = r.values;
     let over = r.over;
     let high = r.high;
     let deviates = step::deviations(&steps, n, s.step_deviation_thresh_rel);
     let marks = blame::marks(ranks, &flags, &over, &high, &deviates, n);
-    ByRules { marks, has, value }
+    ByRules { marks, residuals }
 }
 
 // The edge figures of each rank's index, into empty tables; none without a gate.
@@ -127,12 +126,10 @@ pub fn validate(
     let gate = s.edge_shape;
     let r = by_rules(s, ranks, keys, x, y, n);
     let ruled = r.marks;
-    let has = r.has;
-    let value = r.value;
+    let residuals = r.residuals;
     Measured {
         marks: with_reasons(&ruled, counts, n),
-        has,
-        value,
+        residuals,
         boundary: boundary_by(gate, ranks, keys, n),
     }
 }
