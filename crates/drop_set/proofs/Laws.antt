@@ -86,14 +86,14 @@ module _ (s : Settings) (w : View) where
 
   -- as one step
   measured_by : List ℕ → Measured → Measured
-  measured_by l x = record { marks = l; has = x.has; value = x.value; boundary = x.boundary }
+  measured_by l x = record { marks = l; residuals = x.residuals; boundary = x.boundary }
 
   by_parts : (cell : ℕ → Cell) → measured_by (point_marks s w cell) (validated_of s w cell) ≡ measured_of s w cell
   unfolding measured_of validated_of measured_by
   by_parts cell = refl
 
   pub measured-is : (cell : ℕ → Cell) {v : Measured} {m : List ℕ} → v ≡ validated_of s w cell → m ≡ point_marks s w cell
-      → ◌≡◌ {A = Measured} (record { marks = m; has = v.has; value = v.value; boundary = v.boundary }) (measured_of s w cell)
+      → ◌≡◌ {A = Measured} (record { marks = m; residuals = v.residuals; boundary = v.boundary }) (measured_of s w cell)
   unfolding measured_by
   measured-is cell {v} {m} e f = ap (measured_by m) e ∙ ap (λ (l : List ℕ). measured_by l (validated_of s w cell)) f ∙ by_parts cell
 
@@ -157,7 +157,7 @@ module _ (s : Settings) (w : View) where
   -- ---- both
 
   judged_by : Measured → List Figures → DropSet → Judged
-  judged_by m f d = record { marks = d.marks; components = d.components; rounds = d.rounds; tally = d.tally; has = m.has; value = m.value; figures = f; boundary = m.boundary }
+  judged_by m f d = record { marks = d.marks; components = d.components; rounds = d.rounds; tally = d.tally; residuals = m.residuals; figures = f; boundary = m.boundary }
 
   both-parts : (cell : ℕ → Cell) (strength : List Float) → judged_by (measured_of s w cell) (figures_of s w) (patched_of s w strength (measured_of s w cell).marks) ≡ judged_of s w cell strength
   unfolding judged_of judged_by
@@ -165,7 +165,7 @@ module _ (s : Settings) (w : View) where
 
   pub judged-is : (cell : ℕ → Cell) (strength : List Float) (counts : List ℕ) (measures : List Float) (m : Measured) {d : DropSet} → m ≡ measured_of s w cell → figures_in counts measures ≡ figures_of s w
       → d ≡ patched_of s w strength m.marks
-      → judged_from (record { marks = d.marks; components = d.components; rounds = d.rounds; tally = d.tally; has = m.has; value = m.value; boundary = m.boundary }) counts measures ≡ judged_of s w cell strength
+      → judged_from (record { marks = d.marks; components = d.components; rounds = d.rounds; tally = d.tally; residuals = m.residuals; boundary = m.boundary }) counts measures ≡ judged_of s w cell strength
   unfolding judged_by judged_from
   judged-is cell strength counts measures m e f g =
       ap (judged_by m (figures_in counts measures)) g

@@ -105,7 +105,7 @@ module _ (s : Settings) (w : View) (cell : ℕ → Cell) where
   -- what the filters find that go by the points themselves
   unfoldable pub measured_of : Measured
   unfolding point_marks residuals_of boundary_in
-  measured_of = record { marks = point_marks; has = (residuals_of s w cell).has; value = (residuals_of s w cell).value; boundary = boundary_in s w cell }
+  measured_of = record { marks = point_marks; residuals = (residuals_of s w cell).values; boundary = boundary_in s w cell }
 
   -- and with the others: the judged sheet
   unfoldable pub judged_of : List Float → Judged
@@ -113,4 +113,4 @@ module _ (s : Settings) (w : View) (cell : ℕ → Cell) where
   judged_of strength =
       let m = measured_of in
       let d = patched_of s w strength m.marks in
-      record { marks = d.marks; components = d.components; rounds = d.rounds; tally = d.tally; has = m.has; value = m.value; figures = figures_of s w; boundary = m.boundary }
+      record { marks = d.marks; components = d.components; rounds = d.rounds; tally = d.tally; residuals = m.residuals; figures = figures_of s w; boundary = m.boundary }

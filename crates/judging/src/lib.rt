@@ -47,16 +47,14 @@ pub fn judge_ranked<'a>(
     let d = drop_set::drop_patches(s, ranks, strength, &measured, n);
     let marks = d.marks;
     let tally = d.tally;
-    let has = m.has;
-    let value = m.value;
+    let residuals = m.residuals;
     let boundary = m.boundary;
     Findings {
         marks,
         components: d.components,
         rounds: d.rounds,
         tally,
-        has,
-        value,
+        residuals,
         boundary,
     }
 }
