@@ -14,3 +14,4 @@ pub mod Special
 pub mod Squares
 pub mod Theorems
 pub mod Within
+pub mod Whole

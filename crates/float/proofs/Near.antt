@@ -4,6 +4,7 @@ use mathlib.Core.Bool.{Bool, true, false, not, cond}
 use Prim.Native.Nat.{ℕ, zero, suc, ◌+◌, ◌-◌, ◌*◌, ◌/◌, ◌%◌, ◌^◌, ◌≤◌, ◌<◌}
 use native.Mathlib.Nat.{le_antisymm, le_of_suc-le-suc, lt_of_not-le, le_dest, mul_comm, mul-add, add-mul, pow-succ'}
 use native.Mathlib.Omega.{arith}
+use borrow.Author.Tests.{lt-ltb, le-ltb}
 use lib.Dec.{T, leb, ltb, leb→le, nleb→lt, ltb→lt, nltb→le}
 use Rattle.float.specs.Root.{floor_root, near_root}
 use Rattle.float.specs.Constants.{hidden_bit}
@@ -46,6 +47,17 @@ floor-only n r h f =
 pub floor-lt : (n : ℕ) → n < 4 ^ 24 → floor_root 24 n < 2 ^ 24
 floor-lt n h = lt_of_not-le (λ (g : 2 ^ 24 ≤ floor_root 24 n). omega (arith, (floor_root-is 24 n h).0, square_le {a = 2 ^ 24} {b = floor_root 24 n} g))
 
+-- its square leaves less than two roots, and 2 ^ 25 at most
+pub record Floored (n r : ℕ) : Type 0 where
+  pub small : r < 2 ^ 24
+  pub under : r * r ≤ n
+  pub left : n ≤ r * r + 2 * r
+
+pub floored : (n r : ℕ) → n < 4 ^ 24 → r ≡ floor_root 24 n → Floored n r
+floored n r h e =
+    let f = rw (← e) at (floor_root-is 24 n h) in
+    record { small = rw (← e) at (floor-lt n h); under = f.0; left = omega (arith, f.1, next-square r) }
+
 pub remainder : (n : ℕ) → 0 < n → n < 4 ^ 24 → Remainder n (near_root n)
 unfolding near_root
 remainder n N h = go (floor_root 24 n) (floor_root-is 24 n h)
@@ -59,6 +71,17 @@ remainder n N h = go (floor_root 24 n) (floor_root-is 24 n h)
 
     go : (r : ℕ) → Floor n r → Remainder n (cond (ltb (r * r + r) n) (r + 1) r)
     go r f = at r f (some r f.1) (ltb (r * r + r) n) (ltb→lt (r * r + r) n) (nltb→le (r * r + r) n)
+
+-- the nearest root, from the root r rounded down
+nearest-from : (n r : ℕ) → r ≡ floor_root 24 n → near_root n ≡ cond (ltb (r * r + r) n) (r + 1) r
+unfolding near_root
+nearest-from n r e = rw e
+
+pub near-up : (n r : ℕ) → r ≡ floor_root 24 n → r * r + r < n → near_root n ≡ r + 1
+near-up n r e h = nearest-from n r e ∙ rw (lt-ltb (r * r + r) n h)
+
+pub near-down : (n r : ℕ) → r ≡ floor_root 24 n → n ≤ r * r + r → near_root n ≡ r
+near-down n r e h = nearest-from n r e ∙ rw (le-ltb (r * r + r) n h)
 
 -- and so the whole number s is the nearest
 pub near-of-remainder : (n s : ℕ) → Remainder n s → NearRoot n s

@@ -1,13 +1,15 @@
 // f32 functions that the language does not have: the nearest root, by whole numbers, and the small ones of Rust.
 #![tactic(auto)]
 
-ghost use Rattle.std.specs.Prelude.{◌≡◌, ◌+◌, ◌*◌, ◌/◌, ◌%◌, ◌^◌, ◌≤◌, ◌<◌};
+ghost use Rattle.std.specs.Prelude.{◌≡◌, ◌+◌, ◌*◌, ◌/◌, ◌%◌, ◌^◌, ◌≤◌, ◌<◌, pos};
 ghost use Rattle.std.specs.Float.{binary32};
 ghost use Rattle.std.specs.Float.Ieee.{of_bits, to_bits};
 ghost use Rattle.float.specs.Constants.{infinity_bits};
 ghost use Rattle.float.specs.Root.{floor_root, near_root, root_of};
 ghost use Rattle.float.specs.Scalar.{norm_of, abs_of, magnitude_of, max_of, min_of, clamp_of, over30_degrees};
-ghost use Rattle.float.specs.Remainder.{length_of, is_exact, is_zero, distance_of};
+ghost use Rattle.float.specs.Remainder.{whole_root_of, distance_of, length_of, is_zero, is_exact};
+ghost use Rattle.float.specs.Found.{left_of, distance_at, scaled_root_at};
+ghost use Rattle.float.specs.declared.Remainder.TheVariants.{Found, Neither};
 
 pub mod constants;
 
@@ -72,90 +74,140 @@ fn floor_root(n: u64) -> u64
     r
 }
 
-// The whole number nearest to the root of n.
-fn near_root(n: u64) -> u64
+// The whole number nearest to the root of a number, and that number less its square.
+#[derive(Clone, Copy)]
+struct NearRoot {
+    root: u32,
+    left: i32,
+}
+
+// Of n.
+fn near_root(n: u64) -> NearRoot
     requires { n < 2 ^ 48 }
-    ensures { result ≡ near_root n }
+    ensures { result ≡ record { root = near_root n; left = left_of n } }
 {
     let r = floor_root(n);
-    if r * r + r < n { r + 1 } else { r }
+    let d = n - r * r;
+    if r < d {
+        return NearRoot {
+            root: (r + 1) as u32,
+            left: (d as i32) - (2 * r + 1) as i32,
+        };
+    }
+    NearRoot {
+        root: r as u32,
+        left: d as i32,
+    }
 }
 
-// The bit pattern of the root of m * 2^(w - 175), for a significand m of 24 bits.
-fn root_pattern(m: u32, w: u32) -> u32
+// The root of m * 2^(w - 175), for a significand m of 24 bits, with its remainder.
+fn significand_root(m: u32, w: u32) -> Distance
     requires { (2 ^ 23 ≤ m) × (m < 2 ^ 24) × (w < 280) }
-    ensures { result ≡ (w / 2 + 50) * 2 ^ 23 + near_root (m * 2 ^ (23 + w % 2)) }
+    ensures { result ≡ distance_at (w / 2) (m * 2 ^ (23 + w % 2)) }
 {
     let n = (m as u64) << (23 + w % 2);
-    (w / 2 + 50) * 0x80_0000 + near_root(n) as u32
+    let s = near_root(n);
+    Distance {
+        value: f32::from_bits((w / 2 + 50) * 0x80_0000 + s.root),
+        remainder: Remainder::Found(s.left),
+    }
 }
 
-// The bit pattern of the root of a float that is finite and above 0, from that float's pattern.
-fn root_bits(b: u32) -> u32
+// The root of a float that is finite and above 0, with its remainder, from that float's pattern.
+fn positive_root(b: u32) -> Distance
     requires { (0 < b) × (b < infinity_bits) }
-    ensures { (result < infinity_bits) × (of_bits binary32 result ≡ root_of (of_bits binary32 b)) }
+    ensures { result ≡ distance_of (of_bits binary32 b) }
 {
     if b < 0x80_0000 {
         let shift = u32::leading_zeros(b) - 8;
-        return root_pattern(b << shift, 26 - shift);
+        return significand_root(b << shift, 26 - shift);
     }
-    root_pattern(0x80_0000 + b % 0x80_0000, b / 0x80_0000 + 25)
+    significand_root(0x80_0000 + b % 0x80_0000, b / 0x80_0000 + 25)
 }
 
-// The nearest f32 to the root of x. The roots of -0 and of +infinity are themselves, and that of a negative number is NaN. That of 1 is
-// given at once: four of the nine roots of a fit to the four nearest cells are of 1.
-pub fn sqrt(x: f32) -> f32
-    ensures { result ≡ root_of x }
+// A root that is the number itself and leaves nothing.
+fn own_root(x: f32) -> Distance
+    ensures { result ≡ record { value = x; remainder = Found (pos 0) } }
 {
-    if x != x {
-        return x;
+    Distance {
+        value: x,
+        remainder: Remainder::Found(0),
     }
-    let b = f32::to_bits(x);
-    if b == 0 {
-        return x;
-    }
-    if b == 0x3f80_0000 {
-        return x;
-    }
-    if b < 0x7f80_0000 {
-        return f32::from_bits(root_bits(b));
-    }
-    if b == 0x7f80_0000 {
-        return x;
-    }
-    if b == 0x8000_0000 {
-        return x;
-    }
-    0.0 / 0.0
 }
 
-// The f32 with the bit pattern b; every NaN's pattern gives the NaN.
-pub fn from_bits(b: u32) -> f32
-    ensures { result ≡ of_bits binary32 b }
+// What stands in the place of a root where there is neither root nor remainder by whole numbers.
+fn no_root(x: f32) -> Distance
+    ensures { result ≡ record { value = x; remainder = Neither } }
 {
-    if b % 0x8000_0000 > 0x7f80_0000 {
-        return 0.0 / 0.0;
+    Distance {
+        value: x,
+        remainder: Remainder::Neither,
     }
-    f32::from_bits(b)
 }
 
-// The bit pattern of x, 0x7FC00000 for a NaN.
-pub fn to_bits(x: f32) -> u32
-    ensures { result ≡ to_bits binary32 x }
-{
-    if x != x {
-        return 0x7fc0_0000;
-    }
-    f32::to_bits(x)
-}
-
-// The root of x with its remainder.
+// The nearest f32 to the root of x, with its remainder. The roots of -0 and of +infinity are themselves, and that of a negative number is NaN.
+// That of 1 is given at once: four of the nine roots of a fit to the four nearest cells are of 1.
 pub fn root_distance(x: f32) -> Distance
     ensures { result ≡ distance_of x }
 {
-    Distance {
-        value: sqrt(x),
-        remainder: Remainder::Neither,
+    if x != x {
+        return no_root(x);
+    }
+    let b = f32::to_bits(x);
+    if b == 0 {
+        return own_root(x);
+    }
+    if b == 0x3f80_0000 {
+        return own_root(x);
+    }
+    if b < 0x7f80_0000 {
+        return positive_root(b);
+    }
+    if b == 0x7f80_0000 {
+        return no_root(x);
+    }
+    if b == 0x8000_0000 {
+        return own_root(x);
+    }
+    no_root(0.0 / 0.0)
+}
+
+// The nearest f32 to the root of x.
+pub fn sqrt(x: f32) -> f32
+    ensures { result ≡ root_of x }
+{
+    let d = root_distance(x);
+    d.value
+}
+
+// S and the power from the pattern b of a root without its sign, with the remainder.
+fn scaled_root(b: u32, remainder: i32) -> ScaledRoot
+    requires { b < infinity_bits }
+    ensures { result ≡ scaled_root_at b remainder }
+{
+    if b == 0 {
+        return ScaledRoot {
+            root: 0,
+            remainder,
+            power: 0,
+        };
+    }
+    ScaledRoot {
+        root: 0x80_0000 + b % 0x80_0000,
+        remainder,
+        power: 300 - (b / 0x80_0000 * 2) as i32,
+    }
+}
+
+// The root of x by whole numbers.
+pub fn whole_root(x: f32) -> WholeRoot
+    ensures { result ≡ whole_root_of x }
+{
+    let d = root_distance(x);
+    let b = to_bits(d.value) % 0x8000_0000;
+    match d.remainder {
+        Remainder::Found(z) => WholeRoot::Found(scaled_root(b, z)),
+        Remainder::Neither => WholeRoot::Neither,
     }
 }
 
@@ -180,6 +232,26 @@ pub fn is_exact(d: Distance) -> bool
         Remainder::Found(z) => is_zero(z),
         Remainder::Neither => false,
     }
+}
+
+// The f32 with the bit pattern b; every NaN's pattern gives the NaN.
+pub fn from_bits(b: u32) -> f32
+    ensures { result ≡ of_bits binary32 b }
+{
+    if b % 0x8000_0000 > 0x7f80_0000 {
+        return 0.0 / 0.0;
+    }
+    f32::from_bits(b)
+}
+
+// The bit pattern of x, 0x7FC00000 for a NaN.
+pub fn to_bits(x: f32) -> u32
+    ensures { result ≡ to_bits binary32 x }
+{
+    if x != x {
+        return 0x7fc0_0000;
+    }
+    f32::to_bits(x)
 }
 
 // x with its sign cleared.

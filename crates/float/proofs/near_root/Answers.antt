@@ -1,27 +1,45 @@
-use Prim.Native.Nat.{◌*◌, ◌<◌, ◌^◌}
 use mathlib.Core.Path.{◌≡◌}
-use Prim.Native.Nat.{ℕ}
-use borrow.Author.Tests.{lt-ltb, le-ltb}
+use Prim.Native.Nat.{ℕ, ◌+◌, ◌-◌, ◌*◌, ◌<◌, ◌≤◌, ◌^◌}
 use native.Mathlib.Omega.{arith}
-use Rattle.float.specs.Root.{floor_root, near_root}
-use Rattle.float.proofs.Near.{floor-lt}
-use Rattle.float.proofs.Squares.{product_lt}
+use lib.IntN.{ℤ, pos, ◌-ℤ◌}
+use borrow.Author.Tests.{lt-ltb, le-ltb}
+use Rattle.std.proofs.lemmas.Int.{ints}
+use Rattle.float.specs.Root.{near_root}
+use Rattle.float.specs.Found.{left_of}
+use Rattle.float.specs.declared.NearRoot.{NearRoot}
+use Rattle.float.proofs.Near.{floored, near-up, near-down}
+use Rattle.float.proofs.Squares.{next-square}
 use Rattle.float.proofs.near_root.Goals as goal
 
--- the root is below 2 ^ 24, and so its square is below 2 ^ 48
-small : (n r : ℕ) → n < 2 ^ 48 → r ≡ floor_root 24 n → (r < 2 ^ 24) × (r * r < 2 ^ 48)
-small n r h e = let l = rw (← e) at (floor-lt n h) in (l, product_lt 24 24 l l)
+found : {s s' : ℕ} {z z' : ℤ} → s' ≡ s → z ≡ z' → ◌≡◌ {A = NearRoot} (record { root = s; left = z }) (record { root = s'; left = z' })
+found e f = rw (e, f)
 
-pub overflow_mul-r : goal.overflow_mul-r
-overflow_mul-r c = omega (arith, small _ _ c.requires c.floor_root-r.ensures)
+left-is : (n s : ℕ) → near_root n ≡ s → left_of n ≡ pos n -ℤ pos (s * s)
+left-is n s e = rw e
 
-pub overflow_add-r : goal.overflow_add-r
-overflow_add-r c = omega (arith, small _ _ c.requires c.floor_root-r.ensures)
+pub overflow_mul-d : goal.overflow_mul-d
+overflow_mul-d c = omega (arith, floored _ _ c.requires c.floor_root-r.ensures)
 
-pub returns-then-r-n : goal.returns-then-r-n
-unfolding near_root
-returns-then-r-n c = simp (← c.floor_root-r.ensures, lt-ltb _ _ c.if-r-n.true)
+pub overflow_sub-d : goal.overflow_sub-d
+overflow_sub-d c = (floored _ _ c.requires c.floor_root-r.ensures).under
 
-pub returns-else-r-n : goal.returns-else-r-n
-unfolding near_root
-returns-else-r-n c = simp (← c.floor_root-r.ensures, le-ltb _ _ c.if-r-n.false)
+pub overflow_cast-result-then-r-d : goal.overflow_cast-result-then-r-d
+overflow_cast-result-then-r-d c = record { sfits = omega (arith, floored _ _ c.requires c.floor_root-r.ensures) }
+
+pub overflow_sub-result : goal.overflow_sub-result
+overflow_sub-result c = let f = floored _ _ c.requires c.floor_root-r.ensures in omega (arith, ints, f)
+
+pub returns-then-r-d : goal.returns-then-r-d
+returns-then-r-d c =
+    let f = floored _ _ c.requires c.floor_root-r.ensures in
+    let u = near-up _ _ c.floor_root-r.ensures (omega arith) in
+    found u (omega (arith, ints, f, next-square c.floor_root-r.result, left-is _ _ u))
+
+pub overflow_cast-result-2 : goal.overflow_cast-result-2
+overflow_cast-result-2 c = omega (arith, floored _ _ c.requires c.floor_root-r.ensures)
+
+pub returns : goal.returns
+returns c =
+    let f = floored _ _ c.requires c.floor_root-r.ensures in
+    let u = near-down _ _ c.floor_root-r.ensures (omega arith) in
+    found u (omega (arith, ints, f, left-is _ _ u))
