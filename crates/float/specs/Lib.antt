@@ -2,3 +2,4 @@ pub mod Constants
 pub mod Root
 pub mod Scalar
 pub mod Remainder
+pub mod Theorems
