@@ -3,3 +3,4 @@ pub mod Root
 pub mod Scalar
 pub mod Remainder
 pub mod Found
+pub mod Theorems
