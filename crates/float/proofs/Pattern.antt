@@ -19,7 +19,7 @@ use Rattle.float.specs.Found.{left_of, distance_at}
 use Rattle.float.specs.declared.Remainder.{Remainder}
 use Rattle.float.specs.declared.Remainder.TheVariants as remainder
 use Rattle.float.specs.declared.Distance.{Distance}
-use Rattle.float.specs.Constants.{sign_bit, hidden_bit, infinity_bits}
+use Rattle.float.specs.Constants.{sign_bit, hidden_bit}
 use Rattle.float.proofs.Near.{significand}
 
 pub of_bits_is : (b : ℕ) → of_bits binary32 b ≡ of_fields binary32 (leb sign_bit b) (b % sign_bit / hidden_bit) (b % hidden_bit)

@@ -1,13 +1,13 @@
 -- The root by whole numbers, read off the pattern of the f32 root. Assumes nothing.
 use mathlib.Core.Path.{◌≡◌, refl, sym, ap, ◌∙◌, subst}
-use mathlib.Core.Bool.{Bool, true, false, not, cond}
+use mathlib.Core.Bool.{Bool, true, false, not}
 use Prim.Native.Nat.{ℕ, zero, suc, ◌+◌, ◌*◌, ◌/◌, ◌%◌, ◌^◌, ◌≤◌, ◌<◌}
 use native.Mathlib.Nat.{two-pow-succ}
 use native.Mathlib.Omega.{arith}
 use lib.Dec.{T, eqb, eqb→eq}
 use lib.Pow.{pow_pos}
 use lib.IntN.{ℤ, pos, negsuc, ◌-ℤ◌}
-use lib.Ieee.{Float, nan, inf, fin, binary32, fits, of_bits, to_bits, is_nan}
+use lib.Ieee.{Float, nan, inf, fin, binary32, fits, of_bits, to_bits}
 use lib.Ieee.Bits.{to_bits-of_bits, nan_bits_is}
 use borrow.Author.Tests.{ne_eqb}
 use Rattle.std.proofs.lemmas.Int.{ints}
@@ -116,3 +116,28 @@ neither (inf s) e = refl
 neither (fin s zero y) e = none (subst IsFound e (is_found _))
 neither (fin true (suc m) y) e = refl
 neither (fin false (suc m) y) e = none (subst IsFound e (is_found _))
+
+data IsSome : WholeRoot → Type 0 where
+  some : (r : ScaledRoot) → IsSome (whole.Found r)
+
+none_left : {A : Type 0} → IsSome whole.Neither → A
+none_left f = elim f [ ]
+
+abbrev root-in : WholeRoot → ℕ
+root-in whole.Neither = 0
+root-in (whole.Found s) = s.root
+
+-- S has 24 bits
+pub root_small : (x : Float) (w : WholeRoot) → T (fits binary32 x) → w ≡ whole_root_of x → (r : ScaledRoot) → w ≡ whole.Found r → r.root < 2 ^ 24
+unfolding whole_root_of scaled_root
+root_small x w t e r f = at x (sym e ∙ f) t
+  where
+    no : {A : Type 0} → whole.Neither ≡ whole.Found r → A
+    no q = none_left (subst IsSome (sym q) (some r))
+
+    at : (x : Float) → whole_root_of x ≡ whole.Found r → T (fits binary32 x) → r.root < 2 ^ 24
+    at nan q t = no q
+    at (inf s) q t = no q
+    at (fin s zero y) q t = omega (arith, ap root-in q)
+    at (fin true (suc m) y) q t = no q
+    at (fin false (suc m) y) q t = omega (arith, ap root-in q, (rooted m y t).high)

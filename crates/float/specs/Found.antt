@@ -4,7 +4,6 @@ use Rattle.std.specs.Float.{binary32}
 use Rattle.std.specs.Float.Ieee.{of_bits}
 use Rattle.float.specs.Constants.{hidden_bit}
 use Rattle.float.specs.Root.{near_root}
-use Rattle.float.specs.Remainder.{root_of_zero}
 use Rattle.float.specs.declared.Remainder.TheVariants as remainder
 use Rattle.float.specs.declared.ScaledRoot.{ScaledRoot}
 use Rattle.float.specs.declared.Distance.{Distance}

@@ -4,3 +4,4 @@ pub mod Scalar
 pub mod Remainder
 pub mod Found
 pub mod Theorems
+pub mod Words

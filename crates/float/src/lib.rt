@@ -5,13 +5,15 @@ ghost use Rattle.std.specs.Prelude.{◌≡◌, ◌+◌, ◌*◌, ◌/◌, ◌%�
 ghost use Rattle.std.specs.Float.{binary32};
 ghost use Rattle.std.specs.Float.Ieee.{of_bits, to_bits};
 ghost use Rattle.float.specs.Constants.{infinity_bits};
-ghost use Rattle.float.specs.Root.{floor_root, near_root, root_of};
+ghost use Rattle.float.specs.Root.{near_root, root_of};
 ghost use Rattle.float.specs.Scalar.{norm_of, abs_of, magnitude_of, max_of, min_of, clamp_of, over30_degrees};
 ghost use Rattle.float.specs.Remainder.{whole_root_of, distance_of, length_of, is_zero, is_exact};
 ghost use Rattle.float.specs.Found.{left_of, distance_at, scaled_root_at};
+ghost use Rattle.float.specs.Words.{found_number, words_after};
 ghost use Rattle.float.specs.declared.Remainder.TheVariants.{Found, Neither};
 
 pub mod constants;
+mod roots;
 
 // A root by whole numbers: S, R - S * S, and the power. R is the number times 2^power, and S the whole number nearest to R's root.
 #[derive(Clone, Copy)]
@@ -42,36 +44,41 @@ pub struct Distance {
     pub remainder: Remainder,
 }
 
-// A step of Newton's iteration for the root of n.
-fn newton(n: u64, r: u64) -> u64
-    requires { (n < 2 ^ 48) × (0 < r) × (r < 2 ^ 48) }
-    ensures { result ≡ (r + n / r) / 2 }
+// Near the root of n: within 1 of the nearest whole number, as far as was tried. A line between two roots of the table, and what its square
+// leaves of n times the line's slope.
+fn guess(n: u64) -> u64
+    requires { (2 ^ 46 ≤ n) × (n < 2 ^ 48) }
+    ensures { result < 2 ^ 27 }
 {
-    (r + n / r) / 2
+    let t = n / 0x100_0000_0000;
+    let step = roots::step_at(t);
+    let g = roots::root_at(t) + n / 0x1_0000 % 0x100_0000 * step / 0x100_0000;
+    let d = n.saturating_sub(g * g);
+    g + (d / 0x1_0000 * step + 0x80_0000) / 0x100_0000
 }
 
-// Near the root of n: for n of 47 or 48 bits, off by 0.8 percent at most.
-fn first_guess(n: u64) -> u64
-    requires { n < 2 ^ 48 }
-    ensures { (0x40_0000 ≤ result) × (result ≤ 2 ^ 25) }
+// Down from r to the nearest whole number to the root of n, where r lies above that.
+fn lowered(n: u64, r: u64) -> u64
+    requires { (0 < n) × (n < 2 ^ 48) × (r < 2 ^ 27) }
+    ensures { (result * result + 1 ≤ n + result) × (result < 2 ^ 27) }
 {
-    if n < 0x8000_0000_0000 {
-        return 0x4b_8a26 + n / 0x80_0000 * 27349 / 65536;
+    let mut s = r;
+    while n + s < s * s + 1 {
+        s -= 1;
     }
-    0x6a_d438 + n / 0x100_0000 * 38677 / 65536
+    s
 }
 
-// The root of n, rounded down. A step ends at that root or above it. From the first guess two steps nearly always reach it, so that the
-// loop's branch costs little.
-fn floor_root(n: u64) -> u64
-    requires { n < 2 ^ 48 }
-    ensures { result ≡ floor_root 24 n }
+// Up from r to the nearest whole number to the root of n, where r does not lie above that.
+fn raised(n: u64, r: u64) -> u64
+    requires { (0 < n) × (n < 2 ^ 48) × (r * r + 1 ≤ n + r) × (r < 2 ^ 27) }
+    ensures { result ≡ near_root n }
 {
-    let mut r = newton(n, newton(n, first_guess(n)));
-    while n < r * r {
-        r = newton(n, r);
+    let mut s = r;
+    while s * s + s < n {
+        s += 1;
     }
-    r
+    s
 }
 
 // The whole number nearest to the root of a number, and that number less its square.
@@ -81,23 +88,31 @@ struct NearRoot {
     left: i32,
 }
 
-// Of n.
-fn near_root(n: u64) -> NearRoot
-    requires { n < 2 ^ 48 }
+// With the square q of r.
+fn with_square(n: u64, r: u64, q: u64) -> NearRoot
+    requires { (0 < n) × (n < 2 ^ 48) × (r ≡ near_root n) × (q ≡ r * r) }
     ensures { result ≡ record { root = near_root n; left = left_of n } }
 {
-    let r = floor_root(n);
-    let d = n - r * r;
-    if r < d {
-        return NearRoot {
-            root: (r + 1) as u32,
-            left: (d as i32) - (2 * r + 1) as i32,
-        };
-    }
     NearRoot {
         root: r as u32,
-        left: d as i32,
+        left: ((n as i64) - (q as i64)) as i32,
     }
+}
+
+// Of n. The guess is nearly always the answer.
+fn near_root(n: u64) -> NearRoot
+    requires { (2 ^ 46 ≤ n) × (n < 2 ^ 48) }
+    ensures { result ≡ record { root = near_root n; left = left_of n } }
+{
+    let g = guess(n);
+    let q = g * g;
+    if q < n + g {
+        if n <= q + g {
+            return with_square(n, g, q);
+        }
+    }
+    let r = raised(n, lowered(n, g));
+    with_square(n, r, r * r)
 }
 
 // The root of m * 2^(w - 175), for a significand m of 24 bits, with its remainder.
@@ -208,6 +223,20 @@ pub fn whole_root(x: f32) -> WholeRoot
     match d.remainder {
         Remainder::Found(z) => WholeRoot::Found(scaled_root(b, z)),
         Remainder::Neither => WholeRoot::Neither,
+    }
+}
+
+// S, the power and the remainder of x into three words, and 1; or 0 where there is neither, and the words stay.
+pub fn store_whole_root(x: f32, words: &mut [i32; 3]) -> i32
+    ensures found { result ≡ found_number (whole_root_of x) }
+    ensures words { words.new ≡ words_after (whole_root_of x) words.old }
+{
+    match whole_root(x) {
+        WholeRoot::Neither => 0,
+        WholeRoot::Found(r) => {
+            *words = [r.root as i32, r.power, r.remainder];
+            1
+        }
     }
 }
 

@@ -3,7 +3,6 @@ use mathlib.Core.Path.{◌≡◌, sym, ap, ◌∙◌, subst}
 use mathlib.Core.Bool.{true}
 use Prim.Native.Nat.{ℕ, ◌%◌, ◌<◌}
 use lib.Dec.{T}
-use lib.IntN.{ℤ}
 use lib.Ieee.{Float, binary32, fits, to_bits}
 use mir.Syntax.{w32}
 use mir.Val.{SFits, to_z, of_z}
@@ -12,10 +11,8 @@ use Rattle.float.specs.Constants.{sign_bit, infinity_bits}
 use Rattle.float.specs.Found.{scaled_root_at}
 use Rattle.float.specs.Remainder.{remainder_of, distance_of}
 use Rattle.float.specs.declared.Distance.{Distance}
-use Rattle.float.specs.declared.Remainder.{Remainder}
-use Rattle.float.specs.declared.ScaledRoot.{ScaledRoot}
 use Rattle.float.specs.declared.WholeRoot.TheVariants as whole
-use Rattle.float.proofs.Whole.{Read, root-bits, read, neither}
+use Rattle.float.proofs.Whole.{root-bits, read, neither}
 use Rattle.float.proofs.whole_root.Goals as goal
 
 held : (x : Float) → fits binary32 x ≡ true → T (fits binary32 x)
