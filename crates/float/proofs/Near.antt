@@ -2,7 +2,7 @@
 use mathlib.Core.Path.{◌≡◌, sym, ap, ◌∙◌, subst}
 use mathlib.Core.Bool.{Bool, true, false, not, cond}
 use Prim.Native.Nat.{ℕ, zero, suc, ◌+◌, ◌-◌, ◌*◌, ◌/◌, ◌%◌, ◌^◌, ◌≤◌, ◌<◌}
-use native.Mathlib.Nat.{le_antisymm, le_of_suc-le-suc, lt_of_not-le, le_dest, mul_comm, mul-add, add-mul, pow-succ'}
+use native.Mathlib.Nat.{le_antisymm, le_of_suc-le-suc, lt_of_not-le, le_dest, mul_comm, mul-add, add-mul, mul-le-mul_right, pow-succ'}
 use native.Mathlib.Omega.{arith}
 use lib.Dec.{T, leb, ltb, leb→le, nleb→lt, ltb→lt, nltb→le}
 use Rattle.float.specs.Root.{floor_root, near_root}
@@ -34,18 +34,6 @@ unfolding floor_root
 floor_root-is zero n h = omega arith
 floor_root-is (suc k) n h = digit n (floor_root k (n / 4)) (floor_root-is k (n / 4) (omega (arith, subst (λ (x : ℕ). n < x) (pow-succ' 4 k) h)))
 
-not-above : (n r t : ℕ) → r * r ≤ n → n < (t + 1) * (t + 1) → r ≤ t
-not-above n r t l h = le_of_suc-le-suc (omega (arith, lt_of_not-le (λ (g : t + 1 ≤ r). omega (arith, square_le g))))
-
--- there is only one
-pub floor-only : (n r : ℕ) → n < 4 ^ 24 → Floor n r → r ≡ floor_root 24 n
-floor-only n r h f =
-    let d = floor_root-is 24 n h in
-    le_antisymm (not-above n r (floor_root 24 n) f.0 d.1) (not-above n (floor_root 24 n) r d.0 f.1)
-
-pub floor-lt : (n : ℕ) → n < 4 ^ 24 → floor_root 24 n < 2 ^ 24
-floor-lt n h = lt_of_not-le (λ (g : 2 ^ 24 ≤ floor_root 24 n). omega (arith, (floor_root-is 24 n h).0, square_le {a = 2 ^ 24} {b = floor_root 24 n} g))
-
 pub remainder : (n : ℕ) → 0 < n → n < 4 ^ 24 → Remainder n (near_root n)
 unfolding near_root
 remainder n N h = go (floor_root 24 n) (floor_root-is 24 n h)
@@ -59,6 +47,32 @@ remainder n N h = go (floor_root 24 n) (floor_root-is 24 n h)
 
     go : (r : ℕ) → Floor n r → Remainder n (cond (ltb (r * r + r) n) (r + 1) r)
     go r f = at r f (some r f.1) (ltb (r * r + r) n) (ltb→lt (r * r + r) n) (nltb→le (r * r + r) n)
+
+-- there is only one with such a remainder
+not-past : (n s t : ℕ) → Remainder n s → Remainder n t → s ≤ t
+not-past n s t h k = le_of_suc-le-suc (omega (arith, lt_of_not-le (λ (g : t + 1 ≤ s). past (le_dest g).0 (le_dest g).1)))
+  where
+    past : (d : ℕ) → t + 1 + d ≡ s → ⊥
+    past d e = omega (arith, subst (λ (x : ℕ). x * x + 1 ≤ n + x) (sym e) h.0, k.1, expand)
+      where
+        expand : (t + 1 + d) * (t + 1 + d) ≡ t * t + 2 * t + 1 + 2 * (t * d) + 2 * d + d * d
+        expand = simp (mul-add, add-mul) (omega (arith, mul_comm d t))
+
+pub near-only : (n s : ℕ) → 0 < n → n < 4 ^ 24 → Remainder n s → s ≡ near_root n
+near-only n s N h k = let r = remainder n N h in le_antisymm (not-past n s (near_root n) k r) (not-past n (near_root n) s r k)
+
+-- and it is 2 ^ 24 at most
+pub record Rounded (n s : ℕ) : Type 0 where
+  pub small : s ≤ 2 ^ 24
+  pub square : s * s ≤ 2 ^ 48
+  pub above : s * s + 1 ≤ n + s
+  pub below : n ≤ s * s + s
+
+pub rounded : (n s : ℕ) → 0 < n → n < 4 ^ 24 → s ≡ near_root n → Rounded n s
+rounded n s N h e =
+    let r = rw (← e) at (remainder n N h) in
+    let m : s < 2 ^ 24 + 1 = lt_of_not-le (λ (g : 2 ^ 24 + 1 ≤ s). omega (arith, r.0, mul-le-mul_right s g)) in
+    record { small = omega arith; square = square_le {a = s} {b = 2 ^ 24} (omega arith); above = r.0; below = r.1 }
 
 -- and so the whole number s is the nearest
 pub near-of-remainder : (n s : ℕ) → Remainder n s → NearRoot n s

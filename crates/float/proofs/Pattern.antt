@@ -5,6 +5,7 @@ use Prim.Native.Nat.{ℕ, zero, suc, ◌+◌, ◌-◌, ◌*◌, ◌/◌, ◌%◌
 use native.Mathlib.Nat.{le_antisymm, lt_of_lt_of_le, lt_of_not-le, not-le_of_lt, mod-eq_of_lt, mul-pos, zero-mul, mul_assoc, mul-div_cancel, mul-le-mul_right, mul-lt-mul_of_pos_right, pow-succ', two-pow-succ}
 use native.Mathlib.Omega.{arith}
 use lib.Dec.{T, leb, eqb, leb→le, eqb→eq, not_T}
+use lib.IntN.{ℤ}
 use lib.Pow.{pow_pos, pow_mono, pow-add, shl_lt}
 use lib.Count.{count_leading_zeros, leading_top}
 use lib.Ieee.{Float, nan, inf, fin, binary32, up, down, odd, size, of_fields, of_bits}
@@ -12,8 +13,13 @@ use lib.Ieee.Bits.{is_false, cond_no}
 use lib.Ieee.Fits.{down_pos}
 use lib.Ieee.Digits.{size-lt, size-le}
 use lib.Ieee.Exact.{HasValue, odd_sign}
-use Rattle.float.specs.Root.{digits4, scaled, near_root, root_units, root_of}
-use Rattle.float.specs.Constants.{sign_bit, hidden_bit, infinity_bits}
+use Rattle.float.specs.Root.{digits4, scaled, units, near_root, root_units, root_of}
+use Rattle.float.specs.Remainder.{scaled_root, whole_root_of, remainder_of, distance_of}
+use Rattle.float.specs.Found.{left_of, distance_at}
+use Rattle.float.specs.declared.Remainder.{Remainder}
+use Rattle.float.specs.declared.Remainder.TheVariants as remainder
+use Rattle.float.specs.declared.Distance.{Distance}
+use Rattle.float.specs.Constants.{sign_bit, hidden_bit}
 use Rattle.float.proofs.Near.{significand}
 
 pub of_bits_is : (b : ℕ) → of_bits binary32 b ≡ of_fields binary32 (leb sign_bit b) (b % sign_bit / hidden_bit) (b % hidden_bit)
@@ -62,20 +68,28 @@ normal b k m e l h g =
     digits : hidden_bit + b % hidden_bit ≡ m
     digits = omega arith
 
--- the root of a value a / 2 ^ 149
+-- what g is of a value a / 2 ^ 149, where it is h of an f32 above 0 in units of 2 ^ -150
+module _ {A : Type 0} (g : Float → A) (h : ℕ → A) (same : (m : ℕ) (e : ℤ) → g (fin false (suc m) e) ≡ h (units (suc m) e)) where
+  of-value : (y : Float) (a : ℕ) → 0 < a → HasValue y false a (2 ^ 149) → g y ≡ h (2 * a)
+  of-value nan a A v = absurd v
+  of-value (inf s) a A v = absurd v
+  of-value (fin true m e) a A v = absurd (true-false v.0)
+    where
+      true-false : true ≡ false → ⊥
+      true-false p = let z : ◌≡◌ {A = ℕ} 0 1 = cc in omega arith
+  of-value (fin false zero e) a A v = absurd (none (a * down e) (mul-pos A (down_pos e)) (sym (zero-mul (up e * 2 ^ 149)) ∙ sym (mul_assoc 0 (up e) (2 ^ 149)) ∙ v.1))
+    where
+      none : (x : ℕ) → 0 < x → 0 ≡ x → ⊥
+      none x p q = omega arith
+  of-value (fin false (suc m) e) a A v = same m e ∙ ap (λ (x : ℕ). h (2 * (x / down e))) v.1 ∙ ap (λ (x : ℕ). h (2 * x)) (mul-div_cancel a (down_pos e))
+
 root-of-value : (y : Float) (a : ℕ) → 0 < a → HasValue y false a (2 ^ 149) → root_of y ≡ root_units (2 * a)
 unfolding root_of
-root-of-value nan a A h = absurd h
-root-of-value (inf s) a A h = absurd h
-root-of-value (fin true m e) a A h = absurd (true-false h.0)
-  where
-    true-false : true ≡ false → ⊥
-    true-false p = let z : ◌≡◌ {A = ℕ} 0 1 = cc in omega arith
-root-of-value (fin false zero e) a A h = absurd (none (a * down e) (mul-pos A (down_pos e)) (sym (zero-mul (up e * 2 ^ 149)) ∙ sym (mul_assoc 0 (up e) (2 ^ 149)) ∙ h.1))
-  where
-    none : (x : ℕ) → 0 < x → 0 ≡ x → ⊥
-    none x p q = omega arith
-root-of-value (fin false (suc m) e) a A h = ap (λ (x : ℕ). root_units (2 * (x / down e))) h.1 ∙ ap (λ (x : ℕ). root_units (2 * x)) (mul-div_cancel a (down_pos e))
+root-of-value = of-value root_of root_units (λ m e. refl)
+
+remainder-of-value : (y : Float) (a : ℕ) → 0 < a → HasValue y false a (2 ^ 149) → remainder_of y ≡ remainder.Found (left_of (scaled (2 * a)))
+unfolding remainder_of whole_root_of scaled_root
+remainder-of-value = of-value remainder_of (λ n. remainder.Found (left_of (scaled n))) (λ m e. refl)
 
 -- how many digits
 size_is : (n j : ℕ) → 2 ^ j ≤ n → n < 2 ^ suc j → size n ≡ suc j
@@ -132,16 +146,24 @@ module _ (n m w : ℕ) (l : 2 ^ 23 ≤ m) (h : m < 2 ^ 24) (g : 2 ≤ w) (e : n 
   unfolding root_units
   root-of-significand = ap (λ (r : ℕ). odd 24 false (near_root r) (digits4 n + 50) 149) scaled-is ∙ ap (λ (d : ℕ). odd 24 false (near_root (m * 2 ^ (23 + w % 2))) (d + 50) 149) digits4-is
 
--- The pattern of a root. The value of b is q * 2 ^ k / 2 ^ 149, and m * 2 ^ w / 2 ^ 175 with a significand m of 24 bits.
-pub pattern-of-root : (b r q k m w : ℕ) → of_bits binary32 b ≡ odd 24 false q k 149 → 0 < q → 2 ^ 23 ≤ m → m < 2 ^ 24 → 2 ≤ w → w < 280
-    → 2 * (q * 2 ^ k) * 2 ^ 25 ≡ m * 2 ^ w → r ≡ (w / 2 + 50) * 2 ^ 23 + near_root (m * 2 ^ (23 + w % 2))
-    → (r < infinity_bits) × (of_bits binary32 r ≡ root_of (of_bits binary32 b))
-pattern-of-root b r q k m w e Q l h g f d p =
-    let s = significand m (w % 2) l h (omega arith) in (
-      omega (arith, s),
-      normal r (w / 2 + 50) (near_root (m * 2 ^ (23 + w % 2))) p s.0 s.1 (omega arith)
-          ∙ sym (ap root_of e ∙ root-of-value (odd 24 false q k 149) (q * 2 ^ k) (mul-pos Q (pow_pos k)) (odd_sign 24 false q k 149) ∙ root-of-significand (2 * (q * 2 ^ k)) m w l h g d),
-    )
+-- A root with its remainder. The value of the pattern b is q * 2 ^ k / 2 ^ 149, and m * 2 ^ w / 2 ^ 175 with a significand m of 24 bits.
+pub distance-of-pattern : (b q k m w : ℕ) (d : Distance) → of_bits binary32 b ≡ odd 24 false q k 149 → 0 < q → 2 ^ 23 ≤ m → m < 2 ^ 24 → 2 ≤ w → w < 280
+    → 2 * (q * 2 ^ k) * 2 ^ 25 ≡ m * 2 ^ w → d ≡ distance_at (w / 2) (m * 2 ^ (23 + w % 2))
+    → d ≡ distance_of (of_bits binary32 b)
+distance-of-pattern b q k m w d e Q l h g f t p =
+    let s = significand m (w % 2) l h (omega arith) in
+    let r = m * 2 ^ (23 + w % 2) in
+    let y = odd 24 false q k 149 in
+    let a = q * 2 ^ k in
+    let A : 0 < a = mul-pos Q (pow_pos k) in
+    let v = odd_sign 24 false q k 149 in
+    let root : root_of y ≡ of_bits binary32 ((w / 2 + 50) * hidden_bit + near_root r) =
+    root-of-value y a A v ∙ root-of-significand (2 * a) m w l h g t ∙ sym (normal _ (w / 2 + 50) (near_root r) refl s.0 s.1 (omega arith)) in
+    let rest : remainder_of y ≡ remainder.Found (left_of r) = remainder-of-value y a A v ∙ ap (λ (x : ℕ). remainder.Found (left_of x)) (scaled-is (2 * a) m w l h g t) in
+    p ∙ sym (ap distance_of e ∙ found root rest)
+  where
+    found : {x x' : Float} {z z' : Remainder} → x ≡ x' → z ≡ z' → ◌≡◌ {A = Distance} (record { value = x; remainder = z }) (record { value = x'; remainder = z' })
+    found e f = rw (e, f)
 
 -- The leading zeros z of a significand b in 32 bits, less 8, move it up to 24 bits
 pub record Leading (b z : ℕ) : Type 0 where

@@ -35,6 +35,8 @@ pub record Rooted (x : Float) (n r s : ℕ) : Type 0 where
   -- s has 24 bits
   pub low : 2 ^ 23 ≤ s
   pub high : s < 2 ^ 24
+  -- n has at most 139 digits in base 4
+  pub few : digits4 n ≤ 139
   -- and the root is s, scaled back by the root of that power: s * 2 ^ (d + 50) / 2 ^ 149 for the d digits of n
   pub value : HasValue (root_of x) false (s * 2 ^ (digits4 n + 50)) (2 ^ 149)
   -- which is an f32
@@ -126,6 +128,7 @@ of-significand x n m w given top e g =
       remains = k;
       low = rw i s.0;
       high = high;
+      few = few-digits n top;
       value = value;
       an-f32 = rw e (root-fits n (near_root (scaled n)) top high);
       no-nearer = λ y sign q a f h v.

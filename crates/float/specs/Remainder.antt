@@ -36,9 +36,9 @@ abbrev pub remainder_in : WholeRoot → Remainder
 remainder_in whole.Neither = remainder.Neither
 remainder_in (whole.Found r) = remainder.Found r.remainder
 
--- INTERIM: the code has no remainder yet
 unfoldable pub remainder_of : Float → Remainder
-remainder_of x = remainder.Neither
+unfolding whole_root_of
+remainder_of x = remainder_in (whole_root_of x)
 
 -- "Every distance carries this along": the root of x and its remainder
 abbrev pub distance_of : Float → Distance

@@ -1,15 +1,19 @@
 // f32 functions that the language does not have: the nearest root, by whole numbers, and the small ones of Rust.
 #![tactic(auto)]
 
-ghost use Rattle.std.specs.Prelude.{◌≡◌, ◌+◌, ◌*◌, ◌/◌, ◌%◌, ◌^◌, ◌≤◌, ◌<◌};
+ghost use Rattle.std.specs.Prelude.{◌≡◌, ◌+◌, ◌*◌, ◌/◌, ◌%◌, ◌^◌, ◌≤◌, ◌<◌, pos};
 ghost use Rattle.std.specs.Float.{binary32};
 ghost use Rattle.std.specs.Float.Ieee.{of_bits, to_bits};
 ghost use Rattle.float.specs.Constants.{infinity_bits};
-ghost use Rattle.float.specs.Root.{floor_root, near_root, root_of};
+ghost use Rattle.float.specs.Root.{near_root, root_of};
 ghost use Rattle.float.specs.Scalar.{norm_of, abs_of, magnitude_of, max_of, min_of, clamp_of, over30_degrees};
-ghost use Rattle.float.specs.Remainder.{length_of, is_exact, is_zero, distance_of};
+ghost use Rattle.float.specs.Remainder.{whole_root_of, distance_of, length_of, is_zero, is_exact};
+ghost use Rattle.float.specs.Found.{left_of, distance_at, scaled_root_at};
+ghost use Rattle.float.specs.Words.{found_number, words_after};
+ghost use Rattle.float.specs.declared.Remainder.TheVariants.{Found, Neither};
 
 pub mod constants;
+mod roots;
 
 // A root by whole numbers: S, R - S * S, and the power. R is the number times 2^power, and S the whole number nearest to R's root.
 #[derive(Clone, Copy)]
@@ -40,122 +44,199 @@ pub struct Distance {
     pub remainder: Remainder,
 }
 
-// A step of Newton's iteration for the root of n.
-fn newton(n: u64, r: u64) -> u64
-    requires { (n < 2 ^ 48) × (0 < r) × (r < 2 ^ 48) }
-    ensures { result ≡ (r + n / r) / 2 }
+// Near the root of n: within 1 of the nearest whole number, as far as was tried. A line between two roots of the table, and what its square
+// leaves of n times the line's slope.
+fn guess(n: u64) -> u64
+    requires { (2 ^ 46 ≤ n) × (n < 2 ^ 48) }
+    ensures { result < 2 ^ 27 }
 {
-    (r + n / r) / 2
+    let t = n / 0x100_0000_0000;
+    let step = roots::step_at(t);
+    let g = roots::root_at(t) + n / 0x1_0000 % 0x100_0000 * step / 0x100_0000;
+    let d = n.saturating_sub(g * g);
+    g + (d / 0x1_0000 * step + 0x80_0000) / 0x100_0000
 }
 
-// Near the root of n: for n of 47 or 48 bits, off by 0.8 percent at most.
-fn first_guess(n: u64) -> u64
-    requires { n < 2 ^ 48 }
-    ensures { (0x40_0000 ≤ result) × (result ≤ 2 ^ 25) }
+// Down from r to the nearest whole number to the root of n, where r lies above that.
+fn lowered(n: u64, r: u64) -> u64
+    requires { (0 < n) × (n < 2 ^ 48) × (r < 2 ^ 27) }
+    ensures { (result * result + 1 ≤ n + result) × (result < 2 ^ 27) }
 {
-    if n < 0x8000_0000_0000 {
-        return 0x4b_8a26 + n / 0x80_0000 * 27349 / 65536;
+    let mut s = r;
+    while n + s < s * s + 1 {
+        s -= 1;
     }
-    0x6a_d438 + n / 0x100_0000 * 38677 / 65536
+    s
 }
 
-// The root of n, rounded down. A step ends at that root or above it. From the first guess two steps nearly always reach it, so that the
-// loop's branch costs little.
-fn floor_root(n: u64) -> u64
-    requires { n < 2 ^ 48 }
-    ensures { result ≡ floor_root 24 n }
-{
-    let mut r = newton(n, newton(n, first_guess(n)));
-    while n < r * r {
-        r = newton(n, r);
-    }
-    r
-}
-
-// The whole number nearest to the root of n.
-fn near_root(n: u64) -> u64
-    requires { n < 2 ^ 48 }
+// Up from r to the nearest whole number to the root of n, where r does not lie above that.
+fn raised(n: u64, r: u64) -> u64
+    requires { (0 < n) × (n < 2 ^ 48) × (r * r + 1 ≤ n + r) × (r < 2 ^ 27) }
     ensures { result ≡ near_root n }
 {
-    let r = floor_root(n);
-    if r * r + r < n { r + 1 } else { r }
+    let mut s = r;
+    while s * s + s < n {
+        s += 1;
+    }
+    s
 }
 
-// The bit pattern of the root of m * 2^(w - 175), for a significand m of 24 bits.
-fn root_pattern(m: u32, w: u32) -> u32
+// The whole number nearest to the root of a number, and that number less its square.
+#[derive(Clone, Copy)]
+struct NearRoot {
+    root: u32,
+    left: i32,
+}
+
+// With the square q of r.
+fn with_square(n: u64, r: u64, q: u64) -> NearRoot
+    requires { (0 < n) × (n < 2 ^ 48) × (r ≡ near_root n) × (q ≡ r * r) }
+    ensures { result ≡ record { root = near_root n; left = left_of n } }
+{
+    NearRoot {
+        root: r as u32,
+        left: ((n as i64) - (q as i64)) as i32,
+    }
+}
+
+// Of n. The guess is nearly always the answer.
+fn near_root(n: u64) -> NearRoot
+    requires { (2 ^ 46 ≤ n) × (n < 2 ^ 48) }
+    ensures { result ≡ record { root = near_root n; left = left_of n } }
+{
+    let g = guess(n);
+    let q = g * g;
+    if q < n + g {
+        if n <= q + g {
+            return with_square(n, g, q);
+        }
+    }
+    let r = raised(n, lowered(n, g));
+    with_square(n, r, r * r)
+}
+
+// The root of m * 2^(w - 175), for a significand m of 24 bits, with its remainder.
+fn significand_root(m: u32, w: u32) -> Distance
     requires { (2 ^ 23 ≤ m) × (m < 2 ^ 24) × (w < 280) }
-    ensures { result ≡ (w / 2 + 50) * 2 ^ 23 + near_root (m * 2 ^ (23 + w % 2)) }
+    ensures { result ≡ distance_at (w / 2) (m * 2 ^ (23 + w % 2)) }
 {
     let n = (m as u64) << (23 + w % 2);
-    (w / 2 + 50) * 0x80_0000 + near_root(n) as u32
+    let s = near_root(n);
+    Distance {
+        value: f32::from_bits((w / 2 + 50) * 0x80_0000 + s.root),
+        remainder: Remainder::Found(s.left),
+    }
 }
 
-// The bit pattern of the root of a float that is finite and above 0, from that float's pattern.
-fn root_bits(b: u32) -> u32
+// The root of a float that is finite and above 0, with its remainder, from that float's pattern.
+fn positive_root(b: u32) -> Distance
     requires { (0 < b) × (b < infinity_bits) }
-    ensures { (result < infinity_bits) × (of_bits binary32 result ≡ root_of (of_bits binary32 b)) }
+    ensures { result ≡ distance_of (of_bits binary32 b) }
 {
     if b < 0x80_0000 {
         let shift = u32::leading_zeros(b) - 8;
-        return root_pattern(b << shift, 26 - shift);
+        return significand_root(b << shift, 26 - shift);
     }
-    root_pattern(0x80_0000 + b % 0x80_0000, b / 0x80_0000 + 25)
+    significand_root(0x80_0000 + b % 0x80_0000, b / 0x80_0000 + 25)
 }
 
-// The nearest f32 to the root of x. The roots of -0 and of +infinity are themselves, and that of a negative number is NaN. That of 1 is
-// given at once: four of the nine roots of a fit to the four nearest cells are of 1.
-pub fn sqrt(x: f32) -> f32
-    ensures { result ≡ root_of x }
+// A root that is the number itself and leaves nothing.
+fn own_root(x: f32) -> Distance
+    ensures { result ≡ record { value = x; remainder = Found (pos 0) } }
 {
-    if x != x {
-        return x;
+    Distance {
+        value: x,
+        remainder: Remainder::Found(0),
     }
-    let b = f32::to_bits(x);
-    if b == 0 {
-        return x;
-    }
-    if b == 0x3f80_0000 {
-        return x;
-    }
-    if b < 0x7f80_0000 {
-        return f32::from_bits(root_bits(b));
-    }
-    if b == 0x7f80_0000 {
-        return x;
-    }
-    if b == 0x8000_0000 {
-        return x;
-    }
-    0.0 / 0.0
 }
 
-// The f32 with the bit pattern b; every NaN's pattern gives the NaN.
-pub fn from_bits(b: u32) -> f32
-    ensures { result ≡ of_bits binary32 b }
+// What stands in the place of a root where there is neither root nor remainder by whole numbers.
+fn no_root(x: f32) -> Distance
+    ensures { result ≡ record { value = x; remainder = Neither } }
 {
-    if b % 0x8000_0000 > 0x7f80_0000 {
-        return 0.0 / 0.0;
+    Distance {
+        value: x,
+        remainder: Remainder::Neither,
     }
-    f32::from_bits(b)
 }
 
-// The bit pattern of x, 0x7FC00000 for a NaN.
-pub fn to_bits(x: f32) -> u32
-    ensures { result ≡ to_bits binary32 x }
-{
-    if x != x {
-        return 0x7fc0_0000;
-    }
-    f32::to_bits(x)
-}
-
-// The root of x with its remainder.
+// The nearest f32 to the root of x, with its remainder. The roots of -0 and of +infinity are themselves, and that of a negative number is NaN.
+// That of 1 is given at once: four of the nine roots of a fit to the four nearest cells are of 1.
 pub fn root_distance(x: f32) -> Distance
     ensures { result ≡ distance_of x }
 {
-    Distance {
-        value: sqrt(x),
-        remainder: Remainder::Neither,
+    if x != x {
+        return no_root(x);
+    }
+    let b = f32::to_bits(x);
+    if b == 0 {
+        return own_root(x);
+    }
+    if b == 0x3f80_0000 {
+        return own_root(x);
+    }
+    if b < 0x7f80_0000 {
+        return positive_root(b);
+    }
+    if b == 0x7f80_0000 {
+        return no_root(x);
+    }
+    if b == 0x8000_0000 {
+        return own_root(x);
+    }
+    no_root(0.0 / 0.0)
+}
+
+// The nearest f32 to the root of x.
+pub fn sqrt(x: f32) -> f32
+    ensures { result ≡ root_of x }
+{
+    let d = root_distance(x);
+    d.value
+}
+
+// S and the power from the pattern b of a root without its sign, with the remainder.
+fn scaled_root(b: u32, remainder: i32) -> ScaledRoot
+    requires { b < infinity_bits }
+    ensures { result ≡ scaled_root_at b remainder }
+{
+    if b == 0 {
+        return ScaledRoot {
+            root: 0,
+            remainder,
+            power: 0,
+        };
+    }
+    ScaledRoot {
+        root: 0x80_0000 + b % 0x80_0000,
+        remainder,
+        power: 300 - (b / 0x80_0000 * 2) as i32,
+    }
+}
+
+// The root of x by whole numbers.
+pub fn whole_root(x: f32) -> WholeRoot
+    ensures { result ≡ whole_root_of x }
+{
+    let d = root_distance(x);
+    let b = to_bits(d.value) % 0x8000_0000;
+    match d.remainder {
+        Remainder::Found(z) => WholeRoot::Found(scaled_root(b, z)),
+        Remainder::Neither => WholeRoot::Neither,
+    }
+}
+
+// S, the power and the remainder of x into three words, and 1; or 0 where there is neither, and the words stay.
+pub fn store_whole_root(x: f32, words: &mut [i32; 3]) -> i32
+    ensures found { result ≡ found_number (whole_root_of x) }
+    ensures words { words.new ≡ words_after (whole_root_of x) words.old }
+{
+    match whole_root(x) {
+        WholeRoot::Neither => 0,
+        WholeRoot::Found(r) => {
+            *words = [r.root as i32, r.power, r.remainder];
+            1
+        }
     }
 }
 
@@ -180,6 +261,26 @@ pub fn is_exact(d: Distance) -> bool
         Remainder::Found(z) => is_zero(z),
         Remainder::Neither => false,
     }
+}
+
+// The f32 with the bit pattern b; every NaN's pattern gives the NaN.
+pub fn from_bits(b: u32) -> f32
+    ensures { result ≡ of_bits binary32 b }
+{
+    if b % 0x8000_0000 > 0x7f80_0000 {
+        return 0.0 / 0.0;
+    }
+    f32::from_bits(b)
+}
+
+// The bit pattern of x, 0x7FC00000 for a NaN.
+pub fn to_bits(x: f32) -> u32
+    ensures { result ≡ to_bits binary32 x }
+{
+    if x != x {
+        return 0x7fc0_0000;
+    }
+    f32::to_bits(x)
 }
 
 // x with its sign cleared.

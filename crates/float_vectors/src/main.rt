@@ -1,9 +1,11 @@
-// Reads bit patterns of f32, four bytes each, lowest first. For each it writes a line: the pattern, that of its root, and `over`
-// where a cosine with that pattern is over 30 degrees, else a dash. What it must write was made by `harness vectors float`.
+// Reads bit patterns of f32, four bytes each, lowest first. For each it writes a line: the pattern, that of its root, `over` where a cosine
+// with that pattern is over 30 degrees, else a dash, and S, the power and the remainder of the root, or `neither`. What it must write was made
+// by `harness vectors float`.
 #![tactic(auto)]
 
 ghost use Rattle.std.specs.Prelude.{◌+◌, ◌≤◌, length};
 
+use float::WholeRoot;
 use standard_input::Input;
 
 fn wide(x: u8) -> u32 {
@@ -27,7 +29,17 @@ fn write_line<R: Print>(rt: &R, pattern: u32) {
     } else {
         "-"
     };
-    let _ = println!(rt; "{pattern:08x} {root:08x} {over}");
+    match float::whole_root(x) {
+        WholeRoot::Neither => {
+            let _ = println!(rt; "{pattern:08x} {root:08x} {over} neither");
+        }
+        WholeRoot::Found(r) => {
+            let s = r.root;
+            let power = r.power;
+            let remainder = r.remainder;
+            let _ = println!(rt; "{pattern:08x} {root:08x} {over} {s} {power} {remainder}");
+        }
+    }
 }
 
 fn write_lines<R: Print>(rt: &R, bytes: &[u8]) {

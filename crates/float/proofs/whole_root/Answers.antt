@@ -1,0 +1,44 @@
+use borrow.Author.Rules.{rules}
+use mathlib.Core.Path.{◌≡◌, sym, ap, ◌∙◌, subst}
+use mathlib.Core.Bool.{true}
+use Prim.Native.Nat.{ℕ, ◌%◌, ◌<◌}
+use lib.Dec.{T}
+use lib.Ieee.{Float, binary32, fits, to_bits}
+use mir.Syntax.{w32}
+use mir.Val.{SFits, to_z, of_z}
+use Rattle.std.proofs.lemmas.Int.{to_z-of_z}
+use Rattle.float.specs.Constants.{sign_bit, infinity_bits}
+use Rattle.float.specs.Found.{scaled_root_at}
+use Rattle.float.specs.Remainder.{remainder_of, distance_of}
+use Rattle.float.specs.declared.Distance.{Distance}
+use Rattle.float.specs.declared.WholeRoot.TheVariants as whole
+use Rattle.float.proofs.Whole.{root-bits, read, neither}
+use Rattle.float.proofs.whole_root.Goals as goal
+
+held : (x : Float) → fits binary32 x ≡ true → T (fits binary32 x)
+held x e = subst T (sym e) tt
+
+-- what the distance d of x tells
+rest : (x : Float) {d : Distance} → d ≡ distance_of x → remainder_of x ≡ d.remainder
+rest x e = sym (ap (λ (d : Distance). d.remainder) e)
+
+bits : (x : Float) {d : Distance} {b : ℕ} → d ≡ distance_of x → b ≡ to_bits binary32 d.value → b % sign_bit ≡ root-bits x
+bits x e f = ap (λ (n : ℕ). n % sign_bit) (f ∙ ap (λ (d : Distance). to_bits binary32 d.value) e)
+
+pub scaled_root-requires : goal.scaled_root-requires
+scaled_root-requires c =
+    let x = c.args.x in
+    let e = c.root_distance-d.ensures in
+    subst (λ (b : ℕ). b < infinity_bits) (sym (bits x e c.to_bits-b.ensures)) (read x c.in-Found.z (held x c.well_formed.0.1) (rest x e ∙ c.in-Found.is)).low
+
+pub returns-in-Found : goal.returns-in-Found
+returns-in-Found c =
+    let x = c.args.x in
+    let z = c.in-Found.z in
+    let e = c.root_distance-d.ensures in
+    let f : SFits w32 z = search rules in
+    ap whole.Found (c.scaled_root.ensures ∙ ap (λ (b : ℕ). scaled_root_at b (to_z w32 (of_z w32 z))) (bits x e c.to_bits-b.ensures) ∙ ap (scaled_root_at (root-bits x)) (to_z-of_z w32 z f))
+    ∙ (read x z (held x c.well_formed.0.1) (rest x e ∙ c.in-Found.is)).same
+
+pub returns-in-Neither : goal.returns-in-Neither
+returns-in-Neither c = neither c.args.x (rest c.args.x c.root_distance-d.ensures ∙ c.in-Neither.is)
