@@ -9,6 +9,6 @@ found_number whole.Neither = pos 0
 found_number (whole.Found r) = pos 1
 
 -- S, the power and the remainder; the words stay where there is neither
-abbrev pub words_after : WholeRoot → List ℤ → List ℤ
-words_after whole.Neither words = words
-words_after (whole.Found r) words = pos r.root ∷ r.power ∷ r.remainder ∷ []
+abbrev pub root_words : WholeRoot → List ℤ → List ℤ
+root_words whole.Neither words = words
+root_words (whole.Found r) words = pos r.root ∷ r.power ∷ r.remainder ∷ []

@@ -9,7 +9,7 @@ ghost use Rattle.float.specs.Root.{near_root, root_of};
 ghost use Rattle.float.specs.Scalar.{norm_of, abs_of, magnitude_of, max_of, min_of, clamp_of, over30_degrees};
 ghost use Rattle.float.specs.Remainder.{whole_root_of, distance_of, length_of, is_zero, is_exact};
 ghost use Rattle.float.specs.Found.{left_of, distance_at, scaled_root_at};
-ghost use Rattle.float.specs.Words.{found_number, words_after};
+ghost use Rattle.float.specs.Words.{found_number, root_words};
 ghost use Rattle.float.specs.declared.Remainder.TheVariants.{Found, Neither};
 
 pub mod constants;
@@ -229,7 +229,7 @@ pub fn whole_root(x: f32) -> WholeRoot
 // S, the power and the remainder of x into three words, and 1; or 0 where there is neither, and the words stay.
 pub fn store_whole_root(x: f32, words: &mut [i32; 3]) -> i32
     ensures found { result ≡ found_number (whole_root_of x) }
-    ensures words { words.new ≡ words_after (whole_root_of x) words.old }
+    ensures words { words.new ≡ root_words (whole_root_of x) words.old }
 {
     match whole_root(x) {
         WholeRoot::Neither => 0,

@@ -6,7 +6,7 @@ ghost use Rattle.std.specs.Float.{binary32};
 ghost use Rattle.std.specs.Float.Ieee.{of_bits};
 ghost use Rattle.float.specs.Root.{root_of};
 ghost use Rattle.float.specs.Remainder.{whole_root_of};
-ghost use Rattle.float.specs.Words.{found_number, words_after};
+ghost use Rattle.float.specs.Words.{found_number, root_words};
 ghost use Rattle.float.specs.Scalar.{norm_of, abs_of, max_of, min_of, clamp_of, over30_degrees};
 
 #[unsafe(no_mangle)]
@@ -63,7 +63,7 @@ pub extern "C" fn float_over_30_degrees(c: f32) -> bool
 #[unsafe(no_mangle)]
 pub extern "C" fn float_whole_root(bits: u32, words: &mut [i32; 3]) -> i32
     ensures found { result ≡ found_number (whole_root_of (of_bits binary32 bits)) }
-    ensures words { words.new ≡ words_after (whole_root_of (of_bits binary32 bits)) words.old }
+    ensures words { words.new ≡ root_words (whole_root_of (of_bits binary32 bits)) words.old }
 {
     float::store_whole_root(float::from_bits(bits), words)
 }
