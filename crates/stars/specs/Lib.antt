@@ -1,3 +1,4 @@
 pub mod Stars
 pub mod WeakEnds
 pub mod Listed
+pub mod Roots
