@@ -15,7 +15,7 @@ use lib.Ieee.Digits.{size-lt, size-le}
 use lib.Ieee.Exact.{HasValue, odd_sign}
 use Rattle.float.specs.Root.{digits4, scaled, units, near_root, root_units, root_of}
 use Rattle.float.specs.Remainder.{scaled_root, whole_root_of, remainder_of, distance_of}
-use Rattle.float.specs.Found.{left_of, distance_at}
+use Rattle.float.specs.Found.{remainder_from, distance_at}
 use Rattle.float.specs.declared.Remainder.{Remainder}
 use Rattle.float.specs.declared.Remainder.TheVariants as remainder
 use Rattle.float.specs.declared.Distance.{Distance}
@@ -87,9 +87,9 @@ root-of-value : (y : Float) (a : ℕ) → 0 < a → HasValue y false a (2 ^ 149)
 unfolding root_of
 root-of-value = of-value root_of root_units (λ m e. refl)
 
-remainder-of-value : (y : Float) (a : ℕ) → 0 < a → HasValue y false a (2 ^ 149) → remainder_of y ≡ remainder.Found (left_of (scaled (2 * a)))
+remainder-of-value : (y : Float) (a : ℕ) → 0 < a → HasValue y false a (2 ^ 149) → remainder_of y ≡ remainder.Found (remainder_from (scaled (2 * a)))
 unfolding remainder_of whole_root_of scaled_root
-remainder-of-value = of-value remainder_of (λ n. remainder.Found (left_of (scaled n))) (λ m e. refl)
+remainder-of-value = of-value remainder_of (λ n. remainder.Found (remainder_from (scaled n))) (λ m e. refl)
 
 -- how many digits
 size_is : (n j : ℕ) → 2 ^ j ≤ n → n < 2 ^ suc j → size n ≡ suc j
@@ -159,7 +159,7 @@ distance-of-pattern b q k m w d e Q l h g f t p =
     let v = odd_sign 24 false q k 149 in
     let root : root_of y ≡ of_bits binary32 ((w / 2 + 50) * hidden_bit + near_root r) =
     root-of-value y a A v ∙ root-of-significand (2 * a) m w l h g t ∙ sym (normal _ (w / 2 + 50) (near_root r) refl s.0 s.1 (omega arith)) in
-    let rest : remainder_of y ≡ remainder.Found (left_of r) = remainder-of-value y a A v ∙ ap (λ (x : ℕ). remainder.Found (left_of x)) (scaled-is (2 * a) m w l h g t) in
+    let rest : remainder_of y ≡ remainder.Found (remainder_from r) = remainder-of-value y a A v ∙ ap (λ (x : ℕ). remainder.Found (remainder_from x)) (scaled-is (2 * a) m w l h g t) in
     p ∙ sym (ap distance_of e ∙ found root rest)
   where
     found : {x x' : Float} {z z' : Remainder} → x ≡ x' → z ≡ z' → ◌≡◌ {A = Distance} (record { value = x; remainder = z }) (record { value = x'; remainder = z' })

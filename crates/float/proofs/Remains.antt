@@ -2,14 +2,13 @@
 use mathlib.Core.Path.{◌≡◌, refl, sym, ap, ◌∙◌, subst}
 use mathlib.Core.Bool.{true, false, true≢false}
 use Prim.Native.Nat.{ℕ, zero, suc, ◌+◌, ◌-◌, ◌*◌, ◌^◌, ◌≤◌, ◌<◌}
-use native.Mathlib.Nat.{mul_assoc, mul_comm, mul_left_comm, mul-pos, one-mul, le_refl, le_antisymm, le_of_suc-le-suc, lt_of_not-le, mul-add, mul-le-mul_left, mul-le-mul_right, mul-lt-mul_of_pos_right, pow-succ', eq_of_mul-eq-mul_right}
+use native.Mathlib.Nat.{mul_assoc, mul_comm, mul_left_comm, mul-pos, one-mul, le_refl, le_antisymm, le_of_suc-le-suc, lt_of_not-le, mul-add, mul-le-mul_left, mul-le-mul_right, eq_of_mul-eq-mul_right}
 use native.Mathlib.Decide.{dec_le}
 use native.Mathlib.Omega.{arith}
 use Rattle.std.proofs.lemmas.Int.{ints}
 use lib.Pow.{pow_pos, pow-add}
 use lib.IntN.{ℤ, pos, negsuc, ◌+ℤ◌, ◌-ℤ◌}
-use lib.Ieee.{Float, nan, inf, fin, binary32, up, down, size, of_bits, mul}
-use lib.Ieee.Digits.{size-le, size-lt}
+use lib.Ieee.{Float, nan, inf, fin, binary32, up, down, of_bits, mul}
 use lib.Ieee.Exact.{HasValue}
 use lib.Ieee.Fits.{up_pos, down_pos}
 use Rattle.float.specs.Root.{digits4, scaled, units, near_root, root_of}
@@ -68,30 +67,6 @@ root_back s B A K H D h = first s D K A ∙ ap (λ (y : ℕ). s * y * A) (sym h)
     second : (s h b a : ℕ) → s * (h * b) * a ≡ s * (b * a) * h
     second s h b a = simp (mul_assoc, mul_comm, mul_left_comm)
 
--- ---- the scaled number
-
--- the least number of suc e digits
-digits_low : (n e : ℕ) → digits4 n ≡ suc e → 4 ^ e ≤ n
-unfolding digits4
-digits_low n e h = elim (dec_le (4 ^ e) n) [
-  | yes l ↦ l
-  | no f ↦ absurd (let k : size n ≤ e + e = size-le n (e + e) (subst (λ (y : ℕ). n < y) (four-pow e) (lt_of_not-le f)) in omega arith)
-]
-
-no_digits : (n : ℕ) → digits4 n ≡ 0 → n ≡ 0
-unfolding digits4
-no_digits n h = let k : size n ≡ 0 = omega arith in omega (arith, subst (λ (y : ℕ). n < 2 ^ y) k (size-lt n))
-
-scaled_low : (n r d : ℕ) → digits4 n ≡ d → 0 < r → r * 4 ^ d ≡ n * 4 ^ 24 → 2 ^ 46 ≤ r
-scaled_low n r zero h p e = absurd (omega (arith, e, no_digits n h))
-scaled_low n r (suc d) h p e = elim (dec_le (2 ^ 46) r) [
-  | yes l ↦ l
-  | no f ↦ absurd (omega (arith, e, digits_low n d h, mul-lt-mul_of_pos_right (lt_of_not-le f) (positive d), ap (λ (y : ℕ). r * y) (pow-succ' 4 d), mul_left_comm r 4 (4 ^ d)))
-]
-  where
-    positive : (d : ℕ) → 0 < 4 ^ d
-    positive d = subst (λ (y : ℕ). 0 < y) (sym (four-pow d)) (pow_pos (d + d))
-
 -- a whole root of the scaled number is s
 only : (t s : ℕ) → Remainder (t * t) s → t ≡ s
 only t s k = le_antisymm
@@ -121,12 +96,6 @@ module _ (x : Float) (n : ℕ) (k : Rooted x n (scaled n) (near_root (scaled n))
 
   half : H * 2 ^ digits4 n ≡ D * 2 ^ 99
   half = power_of 99 (digits4 n)
-
-  square : 2 ^ 46 ≤ s * s
-  square = square_le k.low
-
-  low : 2 ^ 46 ≤ r
-  low = scaled_low n r (digits4 n) refl (omega (arith, k.remains, k.high, square)) k.exact
 
   even : pos 198 -ℤ pos (2 * digits4 n) ≡ h +ℤ h
   even = omega (arith, ints)
@@ -170,7 +139,7 @@ module _ (x : Float) (n : ℕ) (k : Rooted x n (scaled n) (near_root (scaled n))
   with_remainder = record {
     scales = rw (even, up_twice h, down_twice h) number;
     even = even;
-    low = low;
+    low = k.large;
     high = omega (arith, k.remains, k.high, square_le {a = s} {b = 2 ^ 24 - 1} (omega (arith, k.high)));
     root_low = k.low;
     root_high = k.high;

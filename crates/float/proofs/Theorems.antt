@@ -26,6 +26,8 @@ pub record Rooted (x : Float) (n r s : ℕ) : Type 0 where
   pub given : HasValue x false n (2 ^ 150)
   -- the scaling is exact, and by an even power of two
   pub exact : r * 4 ^ digits4 n ≡ n * 4 ^ 24
+  -- it is 2 ^ 46 or more, so that its root has 24 bits
+  pub large : 2 ^ 46 ≤ r
   -- s is the whole number nearest to the root of r
   pub nearest : NearRoot r s
   -- no root lies halfway between two whole numbers, so no tie occurs
@@ -123,6 +125,7 @@ of-significand x n m w given top e g =
     record {
       given = given;
       exact = exact;
+      large = omega (arith, i, b);
       nearest = nearest;
       no_tie = λ t h. omega (arith, odd-square t);
       remains = k;

@@ -9,12 +9,12 @@ use Rattle.float.specs.declared.ScaledRoot.{ScaledRoot}
 use Rattle.float.specs.declared.Distance.{Distance}
 
 -- R − S²
-abbrev pub left_of : ℕ → ℤ
-left_of r = pos r -ℤ pos (near_root r * near_root r)
+abbrev pub remainder_from : ℕ → ℤ
+remainder_from r = pos r -ℤ pos (near_root r * near_root r)
 
 -- from the scaled number r of a number with d digits in base 4
 abbrev pub distance_at : ℕ → ℕ → Distance
-distance_at d r = record { value = of_bits binary32 ((d + 50) * hidden_bit + near_root r); remainder = remainder.Found (left_of r) }
+distance_at d r = record { value = of_bits binary32 ((d + 50) * hidden_bit + near_root r); remainder = remainder.Found (remainder_from r) }
 
 -- S and the power from the pattern b of a root, which is 0 or that of a normal number
 abbrev pub scaled_root_at : ℕ → ℤ → ScaledRoot

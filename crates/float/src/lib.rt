@@ -8,7 +8,7 @@ ghost use Rattle.float.specs.Constants.{infinity_bits};
 ghost use Rattle.float.specs.Root.{near_root, root_of};
 ghost use Rattle.float.specs.Scalar.{norm_of, abs_of, magnitude_of, max_of, min_of, clamp_of, over30_degrees};
 ghost use Rattle.float.specs.Remainder.{whole_root_of, distance_of, length_of, is_zero, is_exact};
-ghost use Rattle.float.specs.Found.{left_of, distance_at, scaled_root_at};
+ghost use Rattle.float.specs.Found.{remainder_from, distance_at, scaled_root_at};
 ghost use Rattle.float.specs.Words.{found_number, root_words};
 ghost use Rattle.float.specs.declared.Remainder.TheVariants.{Found, Neither};
 
@@ -44,8 +44,8 @@ pub struct Distance {
     pub remainder: Remainder,
 }
 
-// Near the root of n: within 1 of the nearest whole number, as far as was tried. A line between two roots of the table, and what its square
-// leaves of n times the line's slope.
+// Near the root of n: off by at most 1 from the nearest whole number, by a run over all scaled numbers. A line between two roots of the table,
+// and what its square leaves of n times the line's slope.
 fn guess(n: u64) -> u64
     requires { (2 ^ 46 ≤ n) × (n < 2 ^ 48) }
     ensures { result < 2 ^ 27 }
@@ -83,26 +83,26 @@ fn raised(n: u64, r: u64) -> u64
 
 // The whole number nearest to the root of a number, and that number less its square.
 #[derive(Clone, Copy)]
-struct NearRoot {
+struct NearestRoot {
     root: u32,
-    left: i32,
+    remainder: i32,
 }
 
 // With the square q of r.
-fn with_square(n: u64, r: u64, q: u64) -> NearRoot
+fn with_square(n: u64, r: u64, q: u64) -> NearestRoot
     requires { (0 < n) × (n < 2 ^ 48) × (r ≡ near_root n) × (q ≡ r * r) }
-    ensures { result ≡ record { root = near_root n; left = left_of n } }
+    ensures { result ≡ record { root = near_root n; remainder = remainder_from n } }
 {
-    NearRoot {
+    NearestRoot {
         root: r as u32,
-        left: ((n as i64) - (q as i64)) as i32,
+        remainder: ((n as i64) - (q as i64)) as i32,
     }
 }
 
 // Of n. The guess is nearly always the answer.
-fn near_root(n: u64) -> NearRoot
+fn near_root(n: u64) -> NearestRoot
     requires { (2 ^ 46 ≤ n) × (n < 2 ^ 48) }
-    ensures { result ≡ record { root = near_root n; left = left_of n } }
+    ensures { result ≡ record { root = near_root n; remainder = remainder_from n } }
 {
     let g = guess(n);
     let q = g * g;
@@ -124,7 +124,7 @@ fn significand_root(m: u32, w: u32) -> Distance
     let s = near_root(n);
     Distance {
         value: f32::from_bits((w / 2 + 50) * 0x80_0000 + s.root),
-        remainder: Remainder::Found(s.left),
+        remainder: Remainder::Found(s.remainder),
     }
 }
 

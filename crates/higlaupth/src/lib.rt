@@ -1,8 +1,12 @@
 // The calls for C and Rust programs: over `kept::keep`, over `kept_in_run::keep_in_run` with the two ways in which a run starts, over
-// `sheet_map::draw_sheet`, and over `sheet_fills::fill_sheet`.
+// `sheet_map::draw_sheet`, over `sheet_fills::fill_sheet`, and over `float::store_whole_root`.
 #![tactic(auto)]
 
 ghost use Rattle.std.specs.Prelude.{◌≡◌, ◌++◌, length, take, drop};
+ghost use Rattle.std.specs.Float.{binary32};
+ghost use Rattle.std.specs.Float.Ieee.{of_bits};
+ghost use Rattle.float.specs.Remainder.{whole_root_of};
+ghost use Rattle.float.specs.Words.{found_number, root_words};
 ghost use Rattle.runs.specs.Run.{new_run, run_from};
 ghost use Rattle.kept.specs.Answer.{answer_of, rows_after};
 ghost use Rattle.kept_in_run.specs.InRun.{answer_in_run, rows_in_run};
@@ -153,4 +157,15 @@ pub extern "C" fn higlaupth_fills(file: &[u8], fills: &mut [u8]) -> u64
 {
     let a = sheet_fills::fill_sheet(file, fills);
     fill_number_of(a)
+}
+
+// ---- a root by whole numbers
+
+// For the f32 with these bits: 1, and S, the power and the remainder; or 0, for negatives, infinities and NaN, and nothing is written.
+#[unsafe(no_mangle)]
+pub extern "C" fn higlaupth_root(bits: u32, root: &mut [i32; 3]) -> i32
+    ensures found { result ≡ found_number (whole_root_of (of_bits binary32 bits)) }
+    ensures root { root.new ≡ root_words (whole_root_of (of_bits binary32 bits)) root.old }
+{
+    float::store_whole_root(float::from_bits(bits), root)
 }

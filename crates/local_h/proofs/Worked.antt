@@ -45,7 +45,7 @@ cell k = record { u = pos (get_or (10 ∷ 10 ∷ 9 ∷ 11 ∷ 10 ∷ []) k 0); v
 abbrev five : View
 five = around 5 (whole 1000 ∷ whole 1003 ∷ whole 902 ∷ whole 1099 ∷ whole 1001 ∷ []) (whole 1200 ∷ whole 1097 ∷ whole 1201 ∷ whole 1205 ∷ whole 1298 ∷ [])
 
-pub corner-residual : residual_at five cell 0 ≡ Value (record { value = f32 0x4066_62F0; remainder = remainder.Neither })
+pub corner-residual : residual_at five cell 0 ≡ Value (record { value = f32 0x4066_62F0; remainder = remainder.Found (pos 8609536) })
 unfolding residuals-compute
 corner-residual = refl
 

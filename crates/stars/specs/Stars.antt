@@ -15,7 +15,7 @@ use Rattle.sheet_file.specs.declared.Fraction.TheVariants.{Missing}
 use Rattle.sheet_file.specs.Refusals.{defaults_for}
 use Rattle.local_h.specs.declared.Residual.TheVariants.{NoFit}
 use Rattle.local_h.specs.Residual.{residuals-compute}
-use Rattle.residuals.specs.ByIndex.{last_fit, index_residual, index_columns}
+use Rattle.residuals.specs.ByIndex.{has_value, last_fit, index_residual, index_columns}
 use Rattle.lines.specs.Flags.{flag_count}
 use Rattle.step.specs.Step.{step_at, scale_at}
 use Rattle.step.specs.Deviation.{deviates}
@@ -26,7 +26,6 @@ use Rattle.patches.specs.Patches.{labels_of}
 use Rattle.components.specs.Components.{patch_count, others_of}
 use Rattle.marks.specs.Marks.{index_marks}
 use Rattle.judging.specs.Judging.{judged_for}
-use Rattle.rows.specs.Rows.{is_present, residual_float}
 
 -- What is said of a sheet: the component count, the rounds that removed something and, by rank, the line flags of the index, the vote (0 is
 -- none), whether the index has a residual (1 or 0), and the marks ("bit 0 validate, 1 orientation, 2 wrong label, 3 component", and bit 4
@@ -61,7 +60,7 @@ said_of settings ps =
       rounds = j.rounds;
       flags = list_of (length ps) (λ (k : ℕ). get_or flags (w.by_idx k) 0);
       votes = list_of (length ps) (vote_at w);
-      residuals = list_of (length ps) (λ (k : ℕ). bit (is_present (residual_float (get_or j.residuals k NoFit))));
+      residuals = list_of (length ps) (λ (k : ℕ). bit (has_value (get_or j.residuals k NoFit)));
       marks = list_of (length ps) (λ (k : ℕ). get_or j.marks k 0);
       tally = j.tally;
     }

@@ -1,6 +1,6 @@
 -- Sheets with strengths (document 02, A.5, "Weak ends of a patch"), worked out by hand in the form of the starred sheets: each by computation of
 -- the definitions. Cell size 100, defaults, distinct indices unless said. Assumes nothing.
-use Rattle.std.specs.Prelude.{◌≡◌, refl, List, [], ◌∷◌, ℕ}
+use Rattle.std.specs.Prelude.{refl, List, [], ◌∷◌, ℕ}
 use Rattle.folds.specs.Arith.{f32}
 use Rattle.folds.specs.Lists.{All}
 use Rattle.cells.specs.Points.{Point}

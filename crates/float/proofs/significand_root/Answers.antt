@@ -2,16 +2,16 @@ use mathlib.Core.Path.{◌≡◌, sym, ap, ◌∙◌, subst}
 use Prim.Native.Nat.{ℕ, ◌+◌, ◌*◌, ◌%◌, ◌^◌, ◌≤◌, ◌<◌}
 use native.Mathlib.Omega.{arith}
 use Rattle.float.specs.Root.{near_root}
-use Rattle.float.specs.declared.NearRoot.{NearRoot}
-use Rattle.float.specs.Found.{left_of}
+use Rattle.float.specs.declared.NearestRoot.{NearestRoot}
+use Rattle.float.specs.Found.{remainder_from}
 use Rattle.float.proofs.Near.{shifted, significand}
 use Rattle.float.proofs.Nan.{no-nan-pattern}
 use Rattle.float.proofs.significand_root.Goals as goal
 
 -- the root of the number, which the machine does not cut, has 24 bits
-small : (m p : ℕ) (s : NearRoot) → 2 ^ 23 ≤ m → m < 2 ^ 24 → p < 2 → s ≡ record { root = near_root (m * 2 ^ (23 + p) % 2 ^ 64); left = left_of (m * 2 ^ (23 + p) % 2 ^ 64) } → s.root < 2 ^ 24
+small : (m p : ℕ) (s : NearestRoot) → 2 ^ 23 ≤ m → m < 2 ^ 24 → p < 2 → s ≡ record { root = near_root (m * 2 ^ (23 + p) % 2 ^ 64); remainder = remainder_from (m * 2 ^ (23 + p) % 2 ^ 64) } → s.root < 2 ^ 24
 small m p s l h q e =
-    subst (λ (r : ℕ). r < 2 ^ 24) (sym (ap (λ (t : NearRoot). t.root) e ∙ ap near_root (shifted m p l h q).0)) (significand m p l h q).1
+    subst (λ (r : ℕ). r < 2 ^ 24) (sym (ap (λ (t : NearestRoot). t.root) e ∙ ap near_root (shifted m p l h q).0)) (significand m p l h q).1
 
 pub near_root-s-requires : goal.near_root-s-requires
 near_root-s-requires c = omega (arith, shifted c.args.m (c.args.w % 2) c.requires.0 c.requires.1 (omega arith))

@@ -4,16 +4,16 @@ use native.Mathlib.Omega.{arith}
 use lib.IntN.{ℤ, pos, ◌-ℤ◌}
 use Rattle.std.proofs.lemmas.Int.{ints}
 use Rattle.float.specs.Root.{near_root}
-use Rattle.float.specs.Found.{left_of}
-use Rattle.float.specs.declared.NearRoot.{NearRoot}
+use Rattle.float.specs.Found.{remainder_from}
+use Rattle.float.specs.declared.NearestRoot.{NearestRoot}
 use Rattle.float.proofs.Near.{rounded}
 use Rattle.float.proofs.with_square.Goals as goal
 
-found : {s s' : ℕ} {z z' : ℤ} → s ≡ s' → z ≡ z' → ◌≡◌ {A = NearRoot} (record { root = s; left = z }) (record { root = s'; left = z' })
+found : {s s' : ℕ} {z z' : ℤ} → s ≡ s' → z ≡ z' → ◌≡◌ {A = NearestRoot} (record { root = s; remainder = z }) (record { root = s'; remainder = z' })
 found e f = rw (e, f)
 
-left-is : (n s : ℕ) → s ≡ near_root n → left_of n ≡ pos n -ℤ pos (s * s)
-left-is n s e = rw e
+remainder-is : (n s : ℕ) → s ≡ near_root n → remainder_from n ≡ pos n -ℤ pos (s * s)
+remainder-is n s e = rw e
 
 pub overflow_cast-result : goal.overflow_cast-result
 overflow_cast-result c = omega (arith, rounded c.args.n _ (omega arith) (omega arith) c.requires.2)
@@ -30,4 +30,4 @@ overflow_cast-result-4 c = omega (arith, ints, rounded c.args.n _ (omega arith) 
 pub returns : goal.returns
 returns c =
     let r = rounded c.args.n _ (omega arith) (omega arith) c.requires.2 in
-    found c.requires.2 (omega (arith, ints, r, left-is _ _ c.requires.2))
+    found c.requires.2 (omega (arith, ints, r, remainder-is _ _ c.requires.2))
