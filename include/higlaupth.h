@@ -620,7 +620,8 @@ static inline uint32_t higlaupth_float_bits(float number) {
  * infinity and NaN there is neither root nor remainder: it returns 0 and writes nothing.
  *
  * A residual is the root of dx * dx + dy * dy, where dx and dy are how far the point lies from its
- * prediction, and each product and the sum is an f32. That sum is the number to hand in.
+ * prediction, and each product and the sum is an f32. That sum is the number to hand in. (Where the
+ * machine has an instruction for product and sum in one, -ffp-contract=off keeps them apart.)
  * Example:
  *
  *     higlaupth_whole_root whole;
