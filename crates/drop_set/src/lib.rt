@@ -85,8 +85,7 @@ pub fn measure(
     let mut j = validate::validate(s, ranks, keys, x, y, n, counts);
     let orientation = orientation::lattice_orientation_drops(ranks, x, y, n);
     let wrong = wrong_marks(s, ranks, x, y, &edges, n);
-    let validated = j.marks;
-    let marks = point_marks(&validated, &orientation, &wrong, n);
+    let marks = point_marks(&j.marks, &orientation, &wrong, n);
     j.marks = marks;
     j
 }
@@ -145,11 +144,9 @@ pub fn drop_patches(
     ensures { (xs ys : List Float) → result ≡ patched_of s (view_at n ranks.now xs ys) strength.now marks.now }
 {
     let peeled = leaf_marks(s, ranks, strength, marks, n);
-    let leaf = peeled.marks;
-    let left = marks::marked_by(marks, &leaf, filters::LEAF, n);
+    let left = marks::marked_by(marks, &peeled.marks, filters::LEAF, n);
     let filter = component_marks(s, ranks, &left, n);
-    let mark = filter.marks;
-    let all = marks::marked_by(&left, &mark, filters::COMPONENT, n);
+    let all = marks::marked_by(&left, &filter.marks, filters::COMPONENT, n);
     DropSet {
         marks: all,
         components: filter.components_seen,

@@ -43,8 +43,7 @@ pub fn judge_ranked<'a>(
     let s = t.settings;
     let n = t.count;
     let m = drop_set::measure(s, ranks, keys, x, y, n, counts, measures);
-    let measured = m.marks;
-    let d = drop_set::drop_patches(s, ranks, strength, &measured, n);
+    let d = drop_set::drop_patches(s, ranks, strength, &m.marks, n);
     let marks = d.marks;
     let tally = d.tally;
     let residuals = m.residuals;

@@ -85,12 +85,9 @@ pub fn index_residuals(
     ensures { result ≡ index_columns (view_at n ranks.now x.now y.now) (cells_at keys.now) (λ (j : ℕ). get_or scale.now j nan) tolerance }
 {
     let cells = cell_residuals(ranks, keys, x, y, scale, n, tolerance);
-    let values = cells.values;
-    let over = cells.over;
-    let high = cells.high;
     Residuals {
-        values: by_index::values(ranks, &values, n),
-        over: marks::by_index(ranks, &over, n),
-        high: marks::by_index(ranks, &high, n),
+        values: by_index::values(ranks, &cells.values, n),
+        over: marks::by_index(ranks, &cells.over, n),
+        high: marks::by_index(ranks, &cells.high, n),
     }
 }

@@ -37,11 +37,9 @@ fn by_rules(s: Settings, ranks: &Ranks, keys: &Words, x: &Floats, y: &Floats, n:
     let scales = step::scales(ranks, &steps, n, s.cell_size);
     let flags = lines::line_flags(ranks, x, y, &scales, n, s.line_tol_rel, s.line_min_members);
     let r = residuals::index_residuals(ranks, keys, x, y, &scales, n, s.local_h_tol_rel);
-    let residuals = r.values;
-    let over = r.over;
-    let high = r.high;
     let deviates = step::deviations(&steps, n, s.step_deviation_thresh_rel);
-    let marks = blame::marks(ranks, &flags, &over, &high, &deviates, n);
+    let marks = blame::marks(ranks, &flags, &r.over, &r.high, &deviates, n);
+    let residuals = r.values;
     ByRules { marks, residuals }
 }
 
@@ -125,10 +123,9 @@ pub fn validate(
 {
     let gate = s.edge_shape;
     let r = by_rules(s, ranks, keys, x, y, n);
-    let ruled = r.marks;
     let residuals = r.residuals;
     Measured {
-        marks: with_reasons(&ruled, counts, n),
+        marks: with_reasons(&r.marks, counts, n),
         residuals,
         boundary: boundary_by(gate, ranks, keys, n),
     }
