@@ -9,14 +9,18 @@
  * higlaupth_map writes text: a map of the sheet with one character for each cell, or `refused` and
  * such a number or 10. higlaupth_keep_in_run is the second form of higlaupth_keep: it also adds an
  * accepted sheet to the record of a run, or refuses with 11. Two functions start such a record:
- * higlaupth_run_new and higlaupth_run_from_old_sums.
+ * higlaupth_run_new and higlaupth_run_from_old_sums. One function takes the bits of a number:
+ * higlaupth_root writes its root in whole numbers with the exact remainder, for whoever checks a
+ * residual by hand.
  *
- * The functions are proved: for any bytes, any buffer and any record the number, every byte of the
- * buffer and every number of the record are what docs/SPECIFICATION.md says. The rules for callers
- * below are what the proof takes for granted; README.md says what else is assumed.
+ * The functions are proved: for any bytes, any buffer, any record and any bits of a number, what is
+ * returned, every byte of the buffer and every number of the record or the root are what
+ * docs/SPECIFICATION.md says. The rules for callers below are what the proof takes for granted;
+ * README.md says what else is assumed.
  * Link with libhiglaupth.a (x86-64; `./install PREFIX` builds and installs it). Of the C library
  * it needs the copying, filling and comparing of memory alone (memcpy, memset and their like).
- * C99, and C++ from C++11 on. keep.c, fills.c, map.c and run.c in examples/c are whole programs.
+ * C99, and C++ from C++11 on. keep.c, fills.c, map.c, run.c and root.c in examples/c are whole
+ * programs.
  *
  * The sheet file, little-endian, nothing before, between or after its fields; a field is a
  * one-byte tag, a two-byte length and its data:
@@ -45,10 +49,10 @@ extern "C" {
 
 /* The version of this header and of the library that is installed with it. A change that breaks a
    caller raises the first number, an addition the second, anything else the third. */
-#define HIGLAUPTH_VERSION_MAJOR 4
+#define HIGLAUPTH_VERSION_MAJOR 5
 #define HIGLAUPTH_VERSION_MINOR 0
 #define HIGLAUPTH_VERSION_PATCH 0
-#define HIGLAUPTH_VERSION "4.0.0"
+#define HIGLAUPTH_VERSION "5.0.0"
 
 /* Sizes, in bytes but for the first three. */
 #define HIGLAUPTH_MOST_POINTS 2304  /* a sheet with more is refused */
@@ -216,23 +220,26 @@ enum higlaupth_fill_offset {
  * higlaupth_keep and higlaupth_keep_in_run to rows_len bytes at `rows`, higlaupth_fills to
  * fills_len bytes at `fills`, higlaupth_map to text_len bytes at `text`. Three write the record at
  * `run`: higlaupth_keep_in_run, which reads it too, and higlaupth_run_new and
- * higlaupth_run_from_old_sums, for which its memory may hold anything before.
+ * higlaupth_run_from_old_sums, for which its memory may hold anything before. higlaupth_root alone
+ * writes the root at `into`, whose memory may hold anything before too.
  *
- * What holds of every call, whatever the bytes, the lengths and the numbers of a record:
+ * What holds of every call, whatever the bytes, the lengths, the numbers of a record and the bits:
  * - It ends.
  * - It writes what is said at the function, in a buffer from its start on, and touches nothing
  *   beyond that. `file`, and of it only its file_len bytes, and `old_sums` are only read.
  * - It is reentrant: it keeps nothing between calls, allocates nothing, and does no input or
- *   output. Any number of threads may call at once, each with its own buffer and record; they may
- *   share a file and old sums.
+ *   output. Any number of threads may call at once, each with its own buffer, record and root;
+ *   they may share a file and old sums.
  *
  * What a caller owes:
  * - `file` points to file_len readable bytes, the buffer to as many writable bytes as its length
  *   says. Either pointer may be null if its length is 0. No alignment is asked for.
  * - `run` points to the 48 bytes of a record, readable and writable, `old_sums` to its 20 readable
  *   bytes. Neither is null; both are aligned for uint32_t, as any variable of their types is.
+ * - `into` points to the 12 writable bytes of a root. It is not null and is aligned for int32_t, as
+ *   any variable of its type is.
  * - No two of these overlap, and during the call nobody else writes `file` or `old_sums` or touches
- *   the buffer or the record.
+ *   the buffer, the record or the root.
  * - The floating-point mode is the default one: the SSE control register (MXCSR) rounds to
  *   nearest, keeps subnormals (neither flush-to-zero nor denormals-are-zero) and masks
  *   exceptions. The call neither reads nor changes that register's modes; like any arithmetic it
@@ -582,6 +589,46 @@ void higlaupth_run_from_old_sums(const higlaupth_old_sums *old_sums, higlaupth_r
  */
 uint64_t higlaupth_keep_in_run(const uint8_t *file, size_t file_len, uint8_t *rows, size_t rows_len,
                                higlaupth_run *run);
+
+/*
+ * The root of a number in whole numbers. R is the number times 2^power, where the power is even and
+ * such that R's root lies from 2^23 up to below 2^24; so R is whole. S is the whole number nearest
+ * to R's root: it is R's root exactly where the remainder is 0. S / 2^(power / 2) is the f32
+ * nearest to the number's root. Of 0 and -0 all three numbers are 0.
+ */
+typedef struct {
+    int32_t root;      /* S: from 2^23 up to below 2^24, or 0 */
+    int32_t power;     /* from -80 to 196 */
+    int32_t remainder; /* R - S * S, exactly: from 1 - S to S, or 0 */
+} higlaupth_whole_root;
+
+/*
+ * The bits of a number, as higlaupth_root takes them.
+ * Example:
+ *
+ *     float dx = 1.0f, dy = 2.0f;
+ *     uint32_t square = higlaupth_float_bits(dx * dx + dy * dy);
+ */
+static inline uint32_t higlaupth_float_bits(float number) {
+    uint32_t bits;
+    memcpy(&bits, &number, sizeof bits);
+    return bits;
+}
+
+/*
+ * Writes the root of the number with these bits to `into` and returns 1. For a negative number, an
+ * infinity and NaN there is neither root nor remainder: it returns 0 and writes nothing.
+ *
+ * A residual is the root of dx * dx + dy * dy, where dx and dy are how far the point lies from its
+ * prediction, and each product and the sum is an f32. That sum is the number to hand in. (Where the
+ * machine has an instruction for product and sum in one, -ffp-contract=off keeps them apart.)
+ * Example:
+ *
+ *     higlaupth_whole_root whole;
+ *     if (higlaupth_root(square, &whole))
+ *         printf("S %d power %d remainder %d\n", whole.root, whole.power, whole.remainder);
+ */
+int32_t higlaupth_root(uint32_t bits, higlaupth_whole_root *into);
 
 #ifdef __cplusplus
 }

@@ -2,11 +2,12 @@
  * What include/higlaupth.h says, held against the header's own numbers and texts and against the
  * compiled functions: boundary VERSION FILE MAP, where FILE is the sheet of five points and MAP its
  * map. C99 and C++11. Prints each check that fails; the exit status is 0 only if none does. File,
- * buffer and record of each call lie in heap blocks that end where they do, for valgrind.
+ * buffer, record and root of each call lie in heap blocks that end where they do, for valgrind.
  */
 #define _DEFAULT_SOURCE /* mmap in C99 */
 #include <higlaupth.h>
 
+#include <math.h>
 #include <stdio.h>
 #include <stdlib.h>
 #include <string.h>
@@ -119,6 +120,12 @@ static uint32_t bits(float number) {
     uint32_t word;
     memcpy(&word, &number, sizeof word);
     return word;
+}
+
+static float number_with(uint32_t word) {
+    float number;
+    memcpy(&number, &word, sizeof number);
+    return number;
 }
 
 static uint8_t *write_number(uint8_t *at, uint32_t number, int size) {
@@ -1070,6 +1077,140 @@ static void check_untouched(void) {
     munmap(memory, CLOSED);
 }
 
+/* A root is three int32s in their order. */
+static void check_root_numbers(void) {
+    typedef struct {
+        char before;
+        higlaupth_whole_root whole;
+    } later;
+    CHECK(sizeof(higlaupth_whole_root) == 12 && offsetof(later, whole) == sizeof(int32_t));
+    CHECK(offsetof(higlaupth_whole_root, root) == 0);
+    CHECK(offsetof(higlaupth_whole_root, power) == 4);
+    CHECK(offsetof(higlaupth_whole_root, remainder) == 8);
+    CHECK(higlaupth_float_bits(2) == 0x40000000 && higlaupth_float_bits(-0.0f) == 0x80000000);
+}
+
+/* What the memory of the root holds after a call. */
+static higlaupth_whole_root found;
+
+/* The call on these bits, with painted memory whose place is a multiple of 4 and not of 8, as an
+   int32_t's may be: first it ends where its heap block does, then painted bytes stand after it. */
+static int32_t find_root(uint32_t word) {
+    enum { BESIDE = sizeof(int32_t), END = BESIDE + sizeof found };
+    int32_t returned[2];
+    for (int after_it = 0; after_it < 2; after_it++) {
+        const size_t size = END + (after_it ? BESIDE : 0);
+        uint8_t *block = (uint8_t *)malloc(size);
+        if (!block) abort();
+        memset(block, PAINT, size);
+        returned[after_it] = higlaupth_root(word, (higlaupth_whole_root *)(block + BESIDE));
+        for (size_t k = 0; k < size; k++)
+            if (k < BESIDE || k >= END) CHECK(block[k] == PAINT);
+        CHECK(!after_it || memcmp(block + BESIDE, &found, sizeof found) == 0);
+        memcpy(&found, block + BESIDE, sizeof found);
+        free(block);
+    }
+    CHECK(returned[0] == returned[1]);
+    return returned[0];
+}
+
+static void check_found(uint32_t word, int32_t root, int32_t power, int32_t remainder) {
+    CHECK(find_root(word) == 1);
+    CHECK(found.root == root && found.power == power && found.remainder == remainder);
+}
+
+/* There is neither root nor remainder, and nothing is written. */
+static void check_neither(uint32_t word) {
+    uint8_t paint[sizeof found];
+    memset(paint, PAINT, sizeof paint);
+    CHECK(find_root(word) == 0);
+    CHECK(memcmp(&found, paint, sizeof paint) == 0);
+}
+
+/* Roots that were worked out, and numbers that have none: the first and the last of each kind, and
+   NaNs of either sign with each bit. */
+static void check_given_roots(void) {
+    const struct {
+        uint32_t word;
+        int32_t root, power, remainder;
+    } given[] = {
+        {0, 0, 0, 0},
+        {0x80000000, 0, 0, 0},
+        {0x00000001, 11863283, 196, 4817239},
+        {0x00000002, 8388608, 194, 0},
+        {0x00000003, 10273905, 194, -7682529},
+        {0x007FFFFF, 16777215, 174, -1},
+        {0x00800000, 8388608, 172, 0},
+        {0x3F800000, 8388608, 46, 0},
+        {0x3F800001, 8388608, 46, 8388608},
+        {0x3F800002, 8388609, 46, -1},
+        {0x3FFC114A, 11771814, 46, -11771812},
+        {0x40000000, 11863283, 46, 4817239},
+        {0x40A00000, 9378749, 44, -2582921},
+        {0x41100000, 12582912, 44, 0},
+        {0x41C80000, 10485760, 42, 0},
+        {0x7F7FFFFF, 16777215, -80, 16777215},
+    };
+    const uint32_t neither[] = {0xBF800000, 0x80000001, 0x807FFFFF, 0x80800000, 0xFF7FFFFF,
+                                0x7F800000, 0xFF800000, 0x7FFFFFFF, 0xFFFFFFFF};
+    for (size_t k = 0; k < sizeof given / sizeof *given; k++)
+        check_found(given[k].word, given[k].root, given[k].power, given[k].remainder);
+    for (size_t k = 0; k < sizeof neither / sizeof *neither; k++) check_neither(neither[k]);
+    for (int k = 0; k < 23; k++) {
+        check_neither(0x7F800000 | (uint32_t)1 << k);
+        check_neither(0xFF800000 | (uint32_t)1 << k);
+    }
+}
+
+/* Whatever the bits: whether there is a root, and what is said of it, in whole numbers and by the
+   machine's own root. */
+static void check_root(uint32_t word) {
+    const uint32_t exponent = word >> 23 & 0xFF, fraction = word & 0x7FFFFF;
+    if (exponent == 0 && fraction == 0) {
+        check_found(word, 0, 0, 0);
+        return;
+    }
+    if (word >> 31 || exponent == 0xFF) {
+        check_neither(word);
+        return;
+    }
+    CHECK(find_root(word) == 1);
+    /* The number is whole * 2^(least - 150), and R is whole * 2^moved. */
+    const uint64_t whole = exponent > 0 ? 0x800000 + fraction : fraction;
+    const int least = exponent > 0 ? (int)exponent : 1, moved = least - 150 + found.power;
+    CHECK(found.power % 2 == 0 && found.power >= -80 && found.power <= 196);
+    CHECK(moved >= 0 && moved < 48);
+    if (moved < 0 || moved >= 48) return;
+    const uint64_t scaled = whole << moved;
+    CHECK(scaled >> moved == whole && scaled >> 46 > 0 && scaled >> 48 == 0);
+    const int64_t s = found.root, remainder = found.remainder;
+    CHECK(s >= 1 << 23 && s < 1 << 24);
+    CHECK((int64_t)scaled == s * s + remainder);
+    CHECK(1 - s <= remainder && remainder <= s);
+
+    const float number = number_with(word), root = sqrtf(number);
+    const uint32_t unit = (uint32_t)(127 - found.power / 2); /* the exponent of 2^-(power / 2) */
+    CHECK(higlaupth_float_bits(number) == word);
+    CHECK(bits(root) == bits((float)found.root * number_with(unit << 23)));
+    CHECK((remainder == 0) == ((double)root * (double)root == (double)number));
+}
+
+/* Every 4,093rd pattern of bits, those about each exponent of either sign, and the squares of whole
+   numbers, times a power of four, with those beside them. */
+static void check_roots(void) {
+    for (uint32_t word = 0; word < 0xFFFFFFFF - 4093; word += 4093) check_root(word);
+    for (uint32_t k = 0; k < 512; k++)
+        for (uint32_t n = 0; n < 130; n++) check_root((k << 23) + n - 65);
+    for (int k = 1; k < 4096; k++)
+        for (int fours = -60; fours <= 52; fours += 16) {
+            const uint32_t word = bits(ldexpf((float)(k * k), 2 * fours));
+            check_root(word);
+            CHECK(found.remainder == 0);
+            check_root(word - 1);
+            check_root(word + 1);
+        }
+}
+
 int main(int argc, char **argv) {
     if (argc != 4) return 2;
     check_numbers(argv[1]);
@@ -1097,5 +1238,8 @@ int main(int argc, char **argv) {
     check_limits();
     check_refusals_in_run();
     check_untouched();
+    check_root_numbers();
+    check_given_roots();
+    check_roots();
     return failed;
 }

@@ -22,7 +22,7 @@ static const uint8_t five_points[] = {
 
 /* Reads a file, no further than its answer needs, into HIGLAUPTH_READ_SIZE bytes. Returns its
    length. If it cannot be read, the program ends with status 2. */
-static size_t read_file(FILE *from, const char *name, uint8_t *file) {
+static inline size_t read_file(FILE *from, const char *name, uint8_t *file) {
     size_t length = from ? fread(file, 1, HIGLAUPTH_READ_SIZE, from) : 0;
     if (!from || ferror(from)) {
         perror(name);

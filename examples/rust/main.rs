@@ -1,19 +1,26 @@
 //! Prints what the library finds for each point of a sheet file, or with `--fills` the positions
 //! that it finds for the dropped points, or with `--map` the sheet's map, or with `--run` a line for
-//! each sheet of a run and then the record of the run.
+//! each sheet of a run and then the record of the run; or with `--root` the root of a number in whole
+//! numbers, then R, which is the number times a power of two, beside S * S and their difference,
+//! which is to be the remainder, then the root as f32.
 //!
 //!     ./install PREFIX
 //!     rustc --edition 2021 -O -L PREFIX/lib -l static=higlaupth examples/rust/main.rs -o keep
 //!     ./keep [--fills | --map] [FILE]
 //!     ./keep --run [FILE..]
+//!     ./keep --root [NUMBER | DX DY]
 //!
 //! Without FILE it judges a sheet of five points, for `--fills` one of ten; a run is then one that
 //! started under the old count and goes on with four sheets, of which the last is refused. With
-//! FILEs a run starts now.
+//! FILEs a run starts now. Each argument of `--root` is the eight hexadecimal digits of an f32, as a
+//! listing has them. DX and DY are how far a point lies from its prediction: the number is the sum
+//! of their squares, and the root the residual. Without arguments they are 1 and 2.
 //! Exit status: 0 if the sheet is accepted, 1 if it is refused, 2 if a file cannot be read or the
 //! answer cannot be written; 0 if the record of a run is printed, whether or not sheets were
-//! refused, since they add nothing to it and their lines say so. The numbers, the texts, the forms
-//! of a row, a fill and a record and the rules for callers are those of higlaupth.h.
+//! refused, since they add nothing to it and their lines say so; of `--root` 0 if there is a root, 1
+//! if there is neither root nor remainder or the difference is another, 2 if the arguments are
+//! wrong. The numbers, the texts, the forms of a row, a fill, a record and a root and the rules for
+//! callers are those of higlaupth.h.
 
 use std::fs::File;
 use std::io::{Read, Write};
@@ -96,6 +103,14 @@ struct Run {
     new_sums: NewSums,
 }
 
+/// The root of a number in whole numbers.
+#[repr(C)]
+struct WholeRoot {
+    root: i32,
+    power: i32,
+    remainder: i32,
+}
+
 extern "C" {
     fn higlaupth_keep(file: *const u8, file_len: usize, rows: *mut u8, rows_len: usize) -> u64;
     fn higlaupth_fills(file: *const u8, file_len: usize, fills: *mut u8, fills_len: usize) -> u64;
@@ -109,6 +124,7 @@ extern "C" {
         rows_len: usize,
         run: *mut Run,
     ) -> u64;
+    fn higlaupth_root(bits: u32, into: *mut WholeRoot) -> i32;
 }
 
 /// The counts of an accepted sheet.
@@ -204,6 +220,25 @@ impl Run {
             new.leaf,
             new.component,
         )
+    }
+}
+
+impl WholeRoot {
+    /// The root of a number; none of a negative number, an infinity and NaN.
+    fn of(number: f32) -> Option<WholeRoot> {
+        let mut whole = MaybeUninit::uninit();
+        // SAFETY: the pointer is that of a root's memory, and where the function returns 1 it has
+        // written the whole root.
+        unsafe {
+            let found = higlaupth_root(number.to_bits(), whole.as_mut_ptr());
+            (found == 1).then(|| whole.assume_init())
+        }
+    }
+
+    /// S / 2^(power / 2).
+    fn as_float(&self) -> f32 {
+        let unit = (127 - self.power / 2) as u32; // the exponent's bits
+        self.root as f32 * f32::from_bits(unit << 23)
     }
 }
 
@@ -449,11 +484,67 @@ fn keep_run(paths: impl Iterator<Item = String>) -> Result<u8, String> {
     Ok(0)
 }
 
+/// The number of eight hexadecimal digits.
+fn number(digits: &str) -> Result<f32, String> {
+    if digits.len() != 8 || !digits.bytes().all(|digit| digit.is_ascii_hexdigit()) {
+        return Err(format!("{digits}: eight hexadecimal digits are asked for"));
+    }
+    let bits = u32::from_str_radix(digits, 16).expect("they are hexadecimal");
+    Ok(f32::from_bits(bits))
+}
+
+/// A finite number times 2^power, without its sign.
+fn times_power(number: f32, power: i32) -> i64 {
+    let exponent = (number.to_bits() >> 23 & 0xFF) as i32;
+    let fraction = i64::from(number.to_bits() & 0x7F_FFFF);
+    match (exponent, fraction) {
+        (0, 0) => 0,
+        (0, _) => fraction << (power - 149),
+        _ => (0x80_0000 + fraction) << (exponent - 150 + power),
+    }
+}
+
+/// Prints the root of a number, or of the sum of the squares of two: the exit status, or what
+/// failed.
+fn print_root(arguments: impl Iterator<Item = String>) -> Result<u8, String> {
+    let given: Vec<String> = arguments.collect();
+    let numbers: Result<Vec<f32>, String> = given.iter().map(|digits| number(digits)).collect();
+    let number = match numbers?[..] {
+        [] => 1.0 * 1.0 + 2.0 * 2.0,
+        [number] => number,
+        [dx, dy] => dx * dx + dy * dy,
+        _ => return Err(format!("{}: a third number", given[2])),
+    };
+    let line = format!("number {:08X}\n", number.to_bits());
+    let Some(whole) = WholeRoot::of(number) else {
+        print(&(line + "neither root nor remainder\n"))?;
+        return Ok(1);
+    };
+    let WholeRoot {
+        root,
+        power,
+        remainder,
+    } = whole;
+    let r = times_power(number, power);
+    let square = i64::from(root) * i64::from(root);
+    let difference = r - square;
+    print(&format!(
+        "{line}S {root} power {power} remainder {remainder}\n\
+         R {r} S*S {square} difference {difference}\n\
+         root {:08X}\n",
+        whole.as_float().to_bits()
+    ))?;
+    Ok(u8::from(difference != i64::from(remainder)))
+}
+
 /// Does what the arguments ask for: the exit status, or what failed.
 fn asked() -> Result<u8, String> {
     let mut arguments = std::env::args().skip(1).peekable();
     if arguments.next_if(|first| first == "--run").is_some() {
         return keep_run(arguments);
+    }
+    if arguments.next_if(|first| first == "--root").is_some() {
+        return print_root(arguments);
     }
     let option = arguments.next_if(|first| first == "--map" || first == "--fills");
     let (own, found): (_, fn(&[u8]) -> Result<String, usize>) = match option.as_deref() {
