@@ -77,7 +77,7 @@ harness original                      rows and fills of the original for the she
                                       input
 harness vectors float|sheet_file|run FOLDER
 harness vectors sheet FOLDER [--sheets N] [--seed S] [--most BYTES] [--full N] [--maps N]
-                [--full-lines N] [--peels N] [--fills N]
+                [--full-lines N] [--peels N] [--fills N] [--roots N]
                                       the recorded files of a vector crate, stdin and stdout
 harness roots [--step N]              the machine's root against whole numbers, and remainders
 harness float-check [time]            the static library of float_c against Rust's own functions
@@ -325,6 +325,7 @@ fn vectors(crate_of: &str, folder: &str, args: &[String]) {
                 full_lines: option(args, "--full-lines", recorded.full_lines as u64) as usize,
                 peels: option(args, "--peels", recorded.peels as u64) as usize,
                 fills: option(args, "--fills", recorded.fills as u64) as usize,
+                roots: option(args, "--roots", recorded.roots as u64) as usize,
             })
         }
         _ => fail("vectors takes float, sheet_file, sheet or run, and a folder"),

@@ -122,7 +122,9 @@ fn straight(r: &mut Random) -> Steps {
 
 /// Steps whose squares are subnormal or 0.
 fn smallest(r: &mut Random) -> Steps {
-    let unit = power(r, -77, -62);
+    // The square of 2^-75 is halfway between 0 and the least number.
+    let (least, most) = r.pick(&[(-77, -62), (-76, -75)]);
+    let unit = power(r, least, most);
     let mut step = || match r.below(4) {
         0 => 0.0,
         1 => unit * r.between(0.0, 16.0),
