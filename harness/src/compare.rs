@@ -4,10 +4,11 @@ use crate::angles;
 use crate::bound::Bound;
 use crate::generate::{self, Case, Expected, Kind};
 use crate::library;
-use crate::limits::{fills, map, peel, Met};
+use crate::limits::{self, fills, map, peel, Met};
+use crate::roots;
 use crate::run_original::{Held, Prepared};
 use crate::second::{
-    self, All, Answer, Fault, Fill, InRun, Map, Record, FILTERS, LAST_NUMBER, ROW,
+    self, All, Answer, Distance, Fault, Fill, InRun, Map, Record, FILTERS, LAST_NUMBER, ROW,
 };
 use crate::sheet::{Point, Sheet, Strengths};
 use crate::text;
@@ -134,7 +135,8 @@ pub fn check(case: &Case, all: &All) -> Verdict {
     }
     let library = library::difference_of_all(&case.file, case.buffer, all);
     let library = library.or_else(|| run_difference(case, answer));
-    if let Some(text) = library.or_else(|| map_difference(case, &all.map)) {
+    let own = map_difference(case, &all.map).or_else(|| roots::residual_fault(&all.residuals));
+    if let Some(text) = library.or(own) {
         return Verdict::Different(text);
     }
     if refusal != Expected::Accepted {
@@ -182,6 +184,7 @@ pub struct Report {
     without_fit: usize,
     not_a_number: usize,
     infinite: usize,
+    exact: usize,
     /// Maps drawn, their lines, and maps refused by number.
     maps: usize,
     lines: usize,
@@ -189,6 +192,7 @@ pub struct Report {
     pub met: Met<map::Seen>,
     pub met_by_peels: Met<peel::Seen>,
     pub met_by_fills: Met<fills::Seen>,
+    pub met_by_roots: Met<limits::roots::Seen>,
     /// By pairs.
     fills: [usize; 3],
     /// Sheets with strengths, beside the bound on their rounds.
@@ -217,6 +221,14 @@ impl Report {
         }
         let seen = fills::Seen::new(sheet, rows, fills);
         seen.iter().for_each(|seen| self.met_by_fills.add(seen));
+    }
+
+    fn count_residuals(&mut self, sheet: &Sheet, residuals: &[Option<Distance>]) {
+        let exact = residuals.iter().flatten();
+        self.exact += exact.filter(|one| one.is_exact(Fault::None)).count();
+        let indices: Vec<u32> = sheet.points.iter().map(|p| p.index).collect();
+        let seen = limits::roots::Seen::new(residuals, &indices);
+        seen.iter().for_each(|seen| self.met_by_roots.add(seen));
     }
 
     fn count_sheet(&mut self, sheet: &Sheet, rows: &[u8], rounds: usize) {
@@ -299,6 +311,7 @@ impl Report {
             let sheet = Sheet::from_file(&case.file).unwrap();
             self.count_sheet(&sheet, rows, *rounds);
             self.count_fills(&sheet, rows, fills);
+            self.count_residuals(&sheet, &all.residuals);
             if let Some(text) = self.count_rounds(&sheet, answer) {
                 verdict = Verdict::Different(text);
             }
@@ -323,8 +336,8 @@ impl Report {
         self.bound.print();
         println!("fills of no pair, one, two: {:?}", self.fills);
         println!(
-            "residuals: none {} NaN {} infinite {}",
-            self.without_fit, self.not_a_number, self.infinite
+            "residuals: none {} NaN {} infinite {} exact {}",
+            self.without_fit, self.not_a_number, self.infinite, self.exact
         );
     }
 
@@ -337,6 +350,7 @@ impl Report {
         );
         let met = self.met.each().chain(self.met_by_peels.each());
         let met = met.chain(self.met_by_fills.each());
+        let met = met.chain(self.met_by_roots.each());
         for (name, sheets) in met.filter(|(_, sheets)| *sheets > 0) {
             println!("{sheets:>6} sheets with {name}");
         }

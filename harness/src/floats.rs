@@ -1,17 +1,21 @@
-//! Crate `float` against Rust's own functions, through the static library of `float_c`, and the
-//! machine's root against whole numbers.
+//! Crate `float` against Rust's own functions and, its root with the remainder, against the second
+//! program, through the static library of `float_c`.
 //!
 //! With the feature `float-library`, `libfloat_c.a` is linked from the folder that
 //! HIGLAUPTH_FLOAT_LIBRARY names.
 
 use crate::random::Random;
-use crate::second::root;
+use crate::roots;
+use crate::second::{self, Fault};
 use std::fmt::Debug;
 use std::hint::black_box;
+use std::ops::RangeInclusive;
 use std::time::Instant;
 
 type One = extern "C" fn(f32) -> f32;
 type Two = extern "C" fn(f32, f32) -> f32;
+/// From bits to S, power and remainder, and whether there are such.
+type Whole = extern "C" fn(u32, &mut [i32; 3]) -> i32;
 
 /// The functions of `float_c`.
 struct Functions {
@@ -22,6 +26,7 @@ struct Functions {
     max: Two,
     min: Two,
     over_30_degrees: extern "C" fn(f32) -> bool,
+    whole_root: Whole,
 }
 
 #[cfg(feature = "float-library")]
@@ -34,6 +39,7 @@ fn functions() -> Option<Functions> {
         safe fn float_max(a: f32, b: f32) -> f32;
         safe fn float_min(a: f32, b: f32) -> f32;
         safe fn float_over_30_degrees(c: f32) -> bool;
+        safe fn float_whole_root(bits: u32, root: &mut [i32; 3]) -> i32;
     }
     Some(Functions {
         sqrt: float_sqrt,
@@ -43,6 +49,7 @@ fn functions() -> Option<Functions> {
         max: float_max,
         min: float_min,
         over_30_degrees: float_over_30_degrees,
+        whole_root: float_whole_root,
     })
 }
 
@@ -68,19 +75,19 @@ const SPECIAL: [u32; 12] = [
 ];
 
 /// The same bits, or two NaNs.
-fn same(a: f32, b: f32) -> bool {
+pub fn same(a: f32, b: f32) -> bool {
     a.to_bits() == b.to_bits() || (a.is_nan() && b.is_nan())
 }
 
 /// Counts what was tried and what differs; the first ten that differ are listed.
 #[derive(Default)]
-struct Tried {
+pub struct Tried {
     count: u64,
     differences: u64,
 }
 
 impl Tried {
-    fn add(&mut self, alike: bool, what: impl Fn() -> String) {
+    pub fn add(&mut self, alike: bool, what: impl Fn() -> String) {
         self.count += 1;
         if !alike {
             self.differences += 1;
@@ -90,8 +97,13 @@ impl Tried {
         }
     }
 
+    fn join(&mut self, other: &Tried) {
+        self.count += other.count;
+        self.differences += other.differences;
+    }
+
     /// True if nothing differs.
-    fn print(&self, name: &str, what: &str) -> bool {
+    pub fn print(&self, name: &str, what: &str) -> bool {
         let Tried { count, differences } = self;
         println!("{name}: {what} {count}, differences {differences}");
         *differences == 0
@@ -139,6 +151,48 @@ fn pairs(name: &str, ours: Two, rusts: impl Fn(f32, f32) -> f32) -> bool {
     tried.print(name, "pairs")
 }
 
+/// What is wrong with the root of a number, or with that of the second program, if anything.
+fn root_differs(call: Whole, bits: u32) -> Option<String> {
+    let x = f32::from_bits(bits);
+    let right = second::whole_root(x, Fault::None);
+    // Nothing is written where there is no root.
+    const BEFORE: [i32; 3] = [i32::MIN, 0x0123_4567, -1];
+    let mut written = BEFORE;
+    let returned = call(bits, &mut written);
+    let numbers = right.map_or(BEFORE, |found| found.numbers());
+    if (returned, written) != (i32::from(right.is_some()), numbers) {
+        return Some(format!(
+            "whole_root {bits:08X}: {returned} {written:?}, second program {right:?}"
+        ));
+    }
+    let wrong = roots::wrong(x, right)?;
+    Some(format!("second program {bits:08X}: {right:?}: {wrong}"))
+}
+
+/// The same at all bit patterns, in a thread for each processor.
+fn every_root(call: Whole) -> bool {
+    let threads = std::thread::available_parallelism().map_or(1, |n| n.get() as u64);
+    let end = |k: u64| ((1 << 32) * k / threads) as u32;
+    let part = |range: RangeInclusive<u32>| {
+        let mut tried = Tried::default();
+        for bits in range {
+            let differs = root_differs(call, bits);
+            tried.add(differs.is_none(), || differs.clone().unwrap());
+        }
+        tried
+    };
+    let mut all = Tried::default();
+    std::thread::scope(|scope| {
+        let range = |k| end(k)..=end(k + 1).wrapping_sub(1);
+        let run = |k| scope.spawn(move || part(range(k)));
+        let parts: Vec<_> = (0..threads).map(run).collect();
+        parts
+            .into_iter()
+            .for_each(|part| all.join(&part.join().unwrap()));
+    });
+    all.print("whole_root", "patterns")
+}
+
 /// Nanoseconds a call in a loop of a million, taken in parts of 10,000 calls so that other work on
 /// the machine falls on few of them.
 fn time(name: &str, inputs: &[f32], call: impl Fn(f32, f32) -> f32) {
@@ -162,10 +216,18 @@ fn times(float: &Functions) {
     };
     let lengths = million(|r| r.between(0.0, 16384.0));
     let patterns = million(|r| f32::from_bits(1 + r.below(0x7F7F_FFFF) as u32));
+    let whole_root = |x: f32, _| {
+        let mut found = [0; 3];
+        let returned = (float.whole_root)(x.to_bits(), &mut found);
+        black_box(found);
+        returned as f32
+    };
     time("sqrt, 0 to 16,384", &lengths, |x, _| (float.sqrt)(x));
     time("sqrt, any finite above 0", &patterns, |x, _| {
         (float.sqrt)(x)
     });
+    time("whole_root, 0 to 16,384", &lengths, whole_root);
+    time("whole_root, any finite above 0", &patterns, whole_root);
     time("norm, 0 to 16,384", &lengths, |x, y| (float.norm)(x, y));
     time("abs", &lengths, |x, _| (float.abs)(x));
     time("max", &lengths, |x, y| (float.max)(x, y));
@@ -182,12 +244,13 @@ fn agree(float: &Functions) -> bool {
         every_pattern("abs", float.abs, f32::abs, alike),
         every_pattern("clamp", float.clamp, |x| x.clamp(-1.0, 1.0), alike),
         every_pattern("over_30_degrees", float.over_30_degrees, over, bool::eq),
+        every_root(float.whole_root),
     ];
     all.iter().all(|holds| *holds)
 }
 
-/// Times the functions and, unless only the times are asked for, holds each against Rust's own; true
-/// if all agree.
+/// Times the functions and, unless only the times are asked for, holds each against Rust's own or the
+/// second program's; true if all agree.
 pub fn check(only_times: bool) -> bool {
     let Some(float) = functions() else {
         println!("built without the static library of float_c");
@@ -195,15 +258,4 @@ pub fn check(only_times: bool) -> bool {
     };
     times(&float);
     only_times || agree(&float)
-}
-
-/// Every `step`-th f32: how many there are, and those whose machine root is another.
-pub fn roots(step: usize) -> (u64, u64) {
-    let (mut count, mut otherwise) = (0, 0);
-    for k in (0..=u32::MAX).step_by(step) {
-        let x = f32::from_bits(k);
-        count += 1;
-        otherwise += u64::from(!same(x.sqrt(), root(x)));
-    }
-    (count, otherwise)
 }

@@ -1,6 +1,6 @@
 //! Memory between two pages that may not be touched, and calls on a stack of a given size.
 
-use crate::library::{Call, Run, RunCall};
+use crate::library::{Call, RootCall, Run, RunCall};
 use std::ffi::c_void;
 
 const PAGE: usize = 4096;
@@ -74,11 +74,13 @@ impl Area {
     }
 }
 
-/// A C function, with the record that it takes, if it does.
+/// A C function, with the record that it takes, if it does; or one that takes a number instead of a file and writes
+/// to the buffer, whose length it is not told.
 #[derive(Clone, Copy)]
 pub enum Callee {
     Plain(Call),
     InRun(RunCall, *mut Run),
+    Root(RootCall, u32),
 }
 
 impl Callee {
@@ -94,6 +96,7 @@ impl Callee {
         match self {
             Callee::Plain(f) => f(file, file_len, buffer, buffer_len),
             Callee::InRun(f, run) => f(file, file_len, buffer, buffer_len, run),
+            Callee::Root(f, bits) => u64::from(f(bits, buffer.cast()) as u32),
         }
     }
 }
@@ -131,10 +134,12 @@ impl Stack {
         buffer_len: usize,
     ) -> u64 {
         let top = self.area.at(self.area.size());
-        // A function of four parameters does not look at the register of the fifth.
-        let (f, run) = match callee {
-            Callee::Plain(f) => (f as *const c_void, std::ptr::null_mut()),
-            Callee::InRun(f, run) => (f as *const c_void, run),
+        let (file, length, text) = (file as u64, file_len as u64, buffer as u64);
+        // A function does not look at the registers of parameters that it does not have.
+        let (f, [first, second, third, run]) = match callee {
+            Callee::Plain(f) => (f as *const c_void, [file, length, text, 0]),
+            Callee::InRun(f, run) => (f as *const c_void, [file, length, text, run as u64]),
+            Callee::Root(f, bits) => (f as *const c_void, [u64::from(bits), text, 0, 0]),
         };
         let returned: u64;
         // The stack pointer is kept in r12, which a C function hands back as it found it.
@@ -145,9 +150,9 @@ impl Stack {
             "mov rsp, r12",
             top = in(reg) top,
             f = in(reg) f,
-            in("rdi") file,
-            in("rsi") file_len,
-            in("rdx") buffer,
+            in("rdi") first,
+            in("rsi") second,
+            in("rdx") third,
             in("rcx") buffer_len,
             in("r8") run,
             lateout("rax") returned,
@@ -155,7 +160,11 @@ impl Stack {
             clobber_abi("C"),
         );
         self.note();
-        returned
+        match callee {
+            // A returned number of 32 bits says nothing of the others.
+            Callee::Root(..) => returned & 0xFFFF_FFFF,
+            _ => returned,
+        }
     }
 
     #[cfg(not(target_arch = "x86_64"))]

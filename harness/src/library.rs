@@ -6,12 +6,18 @@
 
 use crate::generate::Start;
 use crate::second::{
-    self, All, Answer, Fault, Fills, InRun, Record, FILL, FILLS_ROOM, NUMBERS, OLD,
+    self, All, Answer, Fault, Fills, InRun, Record, WholeRoot, FILL, FILLS_ROOM, NUMBERS, OLD,
 };
 use crate::sheet::Sheet;
 
 /// A function from a file to a buffer.
 pub type Call = unsafe extern "C" fn(*const u8, usize, *mut u8, usize) -> u64;
+
+/// One from the bits of a number to S, power and remainder of its root.
+pub type RootCall = unsafe extern "C" fn(u32, *mut Root) -> i32;
+
+/// S, power and remainder: 12 bytes.
+pub type Root = [i32; 3];
 
 /// One that takes and hands back the record of a run beside them.
 pub type RunCall = unsafe extern "C" fn(*const u8, usize, *mut u8, usize, *mut Run) -> u64;
@@ -48,8 +54,8 @@ impl From<Run> for Record {
     }
 }
 
-/// The C functions: from a file to its rows, to its map, to its fills, to its rows in a run; and the two
-/// that begin a record.
+/// The C functions: from a file to its rows, to its map, to its fills, to its rows in a run; the two that begin
+/// a record; and from a number to its root.
 #[derive(Clone, Copy)]
 pub struct Calls {
     pub keep: Call,
@@ -58,6 +64,7 @@ pub struct Calls {
     pub keep_in_run: RunCall,
     pub run_new: unsafe extern "C" fn(*mut Run),
     pub run_from_old_sums: unsafe extern "C" fn(*const OldSums, *mut Run),
+    pub root: RootCall,
 }
 
 /// The C functions themselves; none without the library.
@@ -81,6 +88,7 @@ pub fn functions() -> Option<Calls> {
         ) -> u64;
         fn higlaupth_run_new(run: *mut Run);
         fn higlaupth_run_from_old_sums(old_sums: *const OldSums, run: *mut Run);
+        fn higlaupth_root(bits: u32, root: *mut Root) -> i32;
     }
     Some(Calls {
         keep: higlaupth_keep,
@@ -89,6 +97,7 @@ pub fn functions() -> Option<Calls> {
         keep_in_run: higlaupth_keep_in_run,
         run_new: higlaupth_run_new,
         run_from_old_sums: higlaupth_run_from_old_sums,
+        root: higlaupth_root,
     })
 }
 
@@ -164,6 +173,17 @@ pub fn expected_fills(fills: &Fills) -> (u64, Vec<u8>) {
         Ok(filled) => {
             let [points, fills] = [filled.points, filled.fills.len()].map(|n| n as u64);
             ((1 << 32) + (points << 16) + fills, filled.bytes())
+        }
+    }
+}
+
+/// What the library should return for a number's root, and the bytes that it should write.
+pub fn expected_root(found: Option<WholeRoot>) -> (u64, Vec<u8>) {
+    match found {
+        None => (0, Vec::new()),
+        Some(found) => {
+            let numbers = found.numbers().into_iter();
+            (1, numbers.flat_map(i32::to_le_bytes).collect())
         }
     }
 }
@@ -273,6 +293,24 @@ pub fn fills_difference(file: &[u8], all: &All) -> Option<String> {
         let (number, bytes) = expected_fills(&all.fills_in(file, buffer));
         let text = differs(|fills| on(call, file, fills), buffer, (number, &bytes))?;
         Some(format!("library's fills, buffer of {buffer}: {text}"))
+    })
+}
+
+/// What the library's root of a number has otherwise than the second program's: the number returned, one of
+/// the three, or one beside them.
+pub fn root_difference(x: f32, found: Option<WholeRoot>) -> Option<String> {
+    let call = functions()?.root;
+    let mut left = [i32::from_le_bytes([0xA5; 4]); 9];
+    let mut right = left;
+    if let Some(found) = found {
+        right[3..6].copy_from_slice(&found.numbers());
+    }
+    // The library writes the three numbers in the middle alone.
+    let returned = unsafe { call(x.to_bits(), left[3..6].as_mut_ptr().cast()) };
+    let right = (i32::from(found.is_some()), right);
+    ((returned, left) != right).then(|| {
+        let bits = x.to_bits();
+        format!("library's root of {bits:08X}: {returned} {left:?}, expected {right:?}")
     })
 }
 

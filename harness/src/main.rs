@@ -20,6 +20,8 @@ mod peel_reader;
 mod properties;
 mod quick;
 mod random;
+mod residual_reader;
+mod roots;
 #[cfg(not(original_at_hand))]
 #[path = "no_original.rs"]
 mod run_original;
@@ -45,10 +47,11 @@ use std::process::ExitCode;
 
 const USE: &str = "\
 harness quick                         the checks of the gate
-harness compare [--sheets N] [--seed S] [--kind KIND | --maps | --peels | --fills]
+harness compare [--sheets N] [--seed S] [--kind KIND | --maps | --peels | --fills | --roots]
                                       original against second program; --maps: sheets made for
                                       the map; --peels: sheets with strengths; --fills: sheets
-                                      with dropped points
+                                      with dropped points; --roots: sheets about residuals, then
+                                      a hundred times as many numbers and their roots
 harness compare --runs [--runs-of N] [--sheets N] [--seed S]
                                       runs of N sheets each, from records of every kind: library
                                       against second program
@@ -56,12 +59,13 @@ harness compare --worst [--step N] [--cells N] [--sheets N] [--seed S]
                                       the sheets that take longest, --step: of every N-th number of
                                       points too; sheets beside these; the bound on the rounds on
                                       all sheets of blocks of N cells
-harness mutants [--sheets N] [--seed S] [--maps | --runs | --peels | --fills | --worst]
+harness mutants [--sheets N] [--seed S] [--maps | --runs | --peels | --fills | --roots | --worst]
                                       how many sheets show each deliberate fault of the answers,
                                       or of the maps, or how many runs each of the run, or how
                                       many sheets with strengths each of what is made of these, or
                                       how many with dropped points each of the fills, or how many
-                                      arguments each of the sheet that takes longest
+                                      sheets and numbers each of the roots, or how many arguments
+                                      each of the sheet that takes longest
 harness acos [COSINE ..]              what the Rust's acos makes of 30 degrees and of least cosines
 harness generate KIND SEED            a sheet file to standard output
 harness kinds                         the kinds of generated sheets
@@ -73,10 +77,11 @@ harness original                      rows and fills of the original for the she
                                       input
 harness vectors float|sheet_file|run FOLDER
 harness vectors sheet FOLDER [--sheets N] [--seed S] [--most BYTES] [--full N] [--maps N]
-                [--full-lines N] [--peels N] [--fills N]
+                [--full-lines N] [--peels N] [--fills N] [--roots N]
                                       the recorded files of a vector crate, stdin and stdout
-harness roots [--step N]              the machine's root against whole numbers
+harness roots [--step N]              the machine's root against whole numbers, and remainders
 harness float-check [time]            the static library of float_c against Rust's own functions
+                                      and the second program's roots
 harness load [--files N] [--peels N] [--fills N] [--seed S] [--heap] [--threads N] [--wrong K]
                                       the static library under load, at guard pages or in heap blocks;
                                       --peels: files with strengths, --fills: with dropped points,
@@ -186,12 +191,21 @@ fn compare(args: &[String]) -> bool {
         None if has(args, "--maps") => Kind::for_map().to_vec(),
         None if has(args, "--peels") => Kind::for_peels().to_vec(),
         None if has(args, "--fills") => Kind::for_fills().to_vec(),
+        None if has(args, "--roots") => Kind::for_roots().to_vec(),
         None => Kind::first().to_vec(),
     };
     let sheets = option(args, "--sheets", 2300) as usize;
-    let report = compare::run(&kinds, sheets, option(args, "--seed", 0));
+    let seed = option(args, "--seed", 0);
+    let report = compare::run(&kinds, sheets, seed);
     report.print();
-    report.failed == 0
+    report.failed == 0 && (!has(args, "--roots") || compare_numbers(100 * sheets, seed))
+}
+
+/// The roots of special numbers and so many others.
+fn compare_numbers(count: usize, seed: u64) -> bool {
+    let numbers = roots::numbers(count, seed);
+    numbers.print();
+    numbers.failure.is_none()
 }
 
 /// How many cases show each fault of one part; whether all are seen that can be.
@@ -212,6 +226,9 @@ fn mutants(args: &[String]) -> bool {
         shown(&mutants::peels(), sheets, seed)
     } else if has(args, "--fills") {
         shown(&mutants::fills(), sheets, seed)
+    } else if has(args, "--roots") {
+        let listings = shown(&mutants::roots(), sheets, seed);
+        shown(&mutants::numbers(), sheets, seed) && listings
     } else if has(args, "--worst") {
         let bytes = shown(&mutants::worst(), sheets, seed);
         shown(&mutants::worst_rounds(), sheets, seed) && bytes
@@ -308,6 +325,7 @@ fn vectors(crate_of: &str, folder: &str, args: &[String]) {
                 full_lines: option(args, "--full-lines", recorded.full_lines as u64) as usize,
                 peels: option(args, "--peels", recorded.peels as u64) as usize,
                 fills: option(args, "--fills", recorded.fills as u64) as usize,
+                roots: option(args, "--roots", recorded.roots as u64) as usize,
             })
         }
         _ => fail("vectors takes float, sheet_file, sheet or run, and a folder"),
@@ -364,11 +382,7 @@ fn main() -> ExitCode {
         ["vectors", crate_of, folder, ..] => vectors(crate_of, folder, &args),
         ["float-check"] => holds = floats::check(false),
         ["float-check", "time"] => holds = floats::check(true),
-        ["roots", ..] => {
-            let (count, otherwise) = floats::roots(option(&args, "--step", 1).max(1) as usize);
-            println!("{count} floats, {otherwise} with another root");
-            holds = otherwise == 0;
-        }
+        ["roots", ..] => holds = roots::every(option(&args, "--step", 1).max(1) as usize),
         ["load", "faults"] => holds = load::faults(),
         ["load", ..] => holds = load(&args),
         ["bench", ..] if has(&args, "--peels") => {

@@ -1,7 +1,8 @@
 //! Deliberate faults of the second program, and how many sheets or runs show each.
 
 use crate::generate::{self, Case, Kind, Run};
-use crate::second::{self, Answer, Fault, Fills, InRun, Map, ROOM};
+use crate::random::Random;
+use crate::second::{self, Answer, Fault, Fills, InRun, Map, WholeRoot, ROOM};
 
 /// A list of faults, each with what is wrong or with why none can show it.
 type Faults = &'static [(Fault, &'static str)];
@@ -95,6 +96,32 @@ pub fn fills() -> Part<Case, (Answer, Fills)> {
             (answer, second::fills(&case.file, case.buffer, fault))
         },
         hidden: NO_FILLS,
+    }
+}
+
+/// The answer to a file, its listing with it.
+pub fn roots() -> Part<Case, Answer> {
+    Part {
+        faults: Fault::ROOT,
+        case: "sheet",
+        cases: "sheets",
+        nth: |seed, i| generate::nth(Kind::for_roots(), seed, i),
+        name: sheet_name,
+        outcome: |case, fault| second::answer(&case.file, case.buffer, fault),
+        hidden: &[],
+    }
+}
+
+/// The root of a number.
+pub fn numbers() -> Part<u32, Option<WholeRoot>> {
+    Part {
+        faults: Fault::NUMBER,
+        case: "number",
+        cases: "numbers",
+        nth: |seed, i| generate::number(&mut Random::new(seed + i as u64)),
+        name: |bits| format!("{bits:08X}"),
+        outcome: |bits, fault| second::whole_root(f32::from_bits(*bits), fault),
+        hidden: &[],
     }
 }
 

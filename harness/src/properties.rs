@@ -5,6 +5,8 @@ use crate::generate::{self, Case, Expected, Kind};
 use crate::map_reader;
 use crate::peel_reader;
 use crate::random::Random;
+use crate::residual_reader::Read;
+use crate::roots;
 use crate::second::{self, All, Answer, Fault, Fill, Map, ROOM, ROW};
 use crate::sheet::{Rest, Sheet, Strengths};
 use crate::tally_reader;
@@ -441,6 +443,54 @@ pub fn first_unread_fill(sheets: usize, seed: u64) -> (Option<String>, usize) {
                 continue;
             }
             if fill_reader::fault(&sheet, &wrong.listing()).is_none() {
+                let name = format!("{:?} {}: {fault:?}", case.kind, case.seed);
+                return (Some(name), noticed);
+            }
+            noticed += 1;
+        }
+    }
+    (None, noticed)
+}
+
+/// The first of the cases whose residuals are wrong, in themselves or as the listing has them, and what was read.
+pub fn first_residual_failure(
+    kinds: &[(Kind, &str)],
+    sheets: usize,
+    seed: u64,
+) -> (Option<String>, Read) {
+    let mut read = Read::default();
+    for i in 0..sheets {
+        let case = generate::nth(kinds, seed, i);
+        let all = All::new(&case.file, ROOM);
+        let text = roots::residual_fault(&all.residuals);
+        if let Some(text) = text.or_else(|| read.fault(&all.answer.listing())) {
+            let name = format!("{:?} {}: {text}", case.kind, case.seed);
+            return (Some(name), read);
+        }
+    }
+    (None, read)
+}
+
+/// The first case and fault of `=`, of those that its digits alone rule out, that the reader does not notice; and how
+/// many it noticed.
+pub fn first_unread_residual(sheets: usize, seed: u64) -> (Option<String>, usize) {
+    let ruled_out = [
+        Fault::EqualOfInfinite,
+        Fault::EqualOfNan,
+        Fault::EqualNotOfZero,
+        Fault::EqualApart,
+    ];
+    let mut noticed = 0;
+    for i in 0..sheets {
+        let case = generate::nth(Kind::for_roots(), seed, i);
+        let of = |fault| second::answer(&case.file, ROOM, fault).listing();
+        let right = of(Fault::None);
+        for fault in ruled_out {
+            let wrong = of(fault);
+            if wrong == right {
+                continue;
+            }
+            if Read::default().fault(&wrong).is_none() {
                 let name = format!("{:?} {}: {fault:?}", case.kind, case.seed);
                 return (Some(name), noticed);
             }

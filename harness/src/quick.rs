@@ -1,10 +1,10 @@
 //! The checks of the gate.
 
 use crate::compare::{self, Report};
-use crate::floats;
 use crate::generate::{self, Kind};
 use crate::mutants::{self, Part};
 use crate::properties;
+use crate::roots;
 use crate::runs;
 use crate::sheet::Sheet;
 use crate::stars;
@@ -34,18 +34,20 @@ fn comparison(of: &str, report: &Report) -> (String, bool) {
     (format!("{of}: {name}"), report.failed == 0)
 }
 
-/// The sheets of the first kinds, then those made for the map, those with strengths and those with dropped
-/// points, which must meet each limit of theirs.
+/// The sheets of the first kinds, then those made for the map, those with strengths, those with dropped points and
+/// those about roots, which must meet each limit of theirs.
 fn comparisons() -> Vec<(String, bool)> {
     let sheets = compare::run(Kind::first(), 4600, 1);
     let maps = compare::run(Kind::for_map(), 900, 1);
     let peels = compare::run(Kind::for_peels(), 4800, 1);
     let fills = compare::run(Kind::for_fills(), 3600, 1);
+    let roots = compare::run(Kind::for_roots(), 2100, 1);
     let mut checks = vec![
         comparison("sheets of the first kinds", &sheets),
         comparison("sheets made for the map", &maps),
         comparison("sheets with strengths", &peels),
         comparison("sheets with dropped points", &fills),
+        comparison("sheets about roots", &roots),
     ];
     checks.push((
         "sheets that reach the bound on the rounds, of each class".into(),
@@ -53,6 +55,7 @@ fn comparisons() -> Vec<(String, bool)> {
     ));
     let met = maps.met.each().chain(peels.met_by_peels.each());
     let met = met.chain(fills.met_by_fills.each());
+    let met = met.chain(roots.met_by_roots.each());
     checks.extend(met.map(|(name, sheets)| (format!("a sheet with {name}"), sheets > 0)));
     checks
 }
@@ -169,6 +172,33 @@ fn fills() -> Vec<(String, bool)> {
     ]
 }
 
+/// The roots of many numbers, and what a listing shows of those of residuals.
+fn roots() -> Vec<(String, bool)> {
+    let numbers = roots::numbers(300_000, 1);
+    numbers.print();
+    let of = |name: &str, kinds, sheets| {
+        let (failure, read) = properties::first_residual_failure(kinds, sheets, 2);
+        println!("of {sheets} {name}: {read:?}");
+        let holds = failure.is_none() && read.equal > 0;
+        (format!("residuals of {name}: {failure:?}"), holds)
+    };
+    let (unread, noticed) = properties::first_unread_residual(700, 2);
+    println!("{noticed} wrong listings of residuals, which the reader notices");
+    vec![
+        ("roots over whole numbers".into(), roots::every(4099)),
+        (
+            format!("roots of special numbers: {:?}", numbers.failure),
+            numbers.failure.is_none(),
+        ),
+        of("sheets about roots", Kind::for_roots(), 2100),
+        of("sheets of the first kinds", Kind::first(), 810),
+        (
+            format!("the reader notices every `=` that digits rule out: {unread:?}"),
+            unread.is_none() && noticed > 0,
+        ),
+    ]
+}
+
 /// What holds of every sheet and every map.
 fn properties() -> Vec<(String, bool)> {
     let sheets = |kinds| {
@@ -239,14 +269,13 @@ pub fn run() -> bool {
     checks.extend(faults(&mutants::runs()));
     checks.extend(faults(&mutants::peels()));
     checks.extend(faults(&mutants::fills()));
+    checks.extend(faults(&mutants::roots()));
+    checks.extend(faults(&mutants::numbers()));
     checks.extend(faults(&mutants::worst()));
     checks.extend(faults(&mutants::worst_rounds()));
     checks.extend(properties());
     checks.push(("text and back".into(), text_and_back()));
-    checks.push((
-        "roots over whole numbers".into(),
-        floats::roots(4099).1 == 0,
-    ));
+    checks.extend(roots());
     checks.extend(recorded());
     let failed = checks.iter().filter(|(_, holds)| !holds).count();
     for (name, _) in checks.iter().filter(|(_, holds)| !holds) {

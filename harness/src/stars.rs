@@ -1,11 +1,12 @@
 //! The sheets that document 01 names, with what it says of them, one on which the Rust's acos
 //! differs, maps, tallies and calls in a run written out from document 02, A.1 and A.2, sheets
-//! about A.4's limit of points, sheets with A.5's strengths, A.6's sheets that take longest, and A.7's
-//! positions for dropped points.
+//! about A.4's limit of points, sheets with A.5's strengths, A.6's sheets that take longest, A.7's
+//! positions for dropped points, and A.8's roots with their remainders.
 
 mod fills;
 mod peels;
 mod points;
+mod roots;
 mod runs;
 mod worst;
 
@@ -243,6 +244,11 @@ pub fn filled_files() -> Vec<Vec<u8>> {
     fills::files()
 }
 
+/// The files of the sheets about roots.
+pub fn rooted_files() -> Vec<Vec<u8>> {
+    roots::files()
+}
+
 /// The maps written out, each with whether it holds.
 fn maps() -> Vec<(String, bool)> {
     let check = |(name, sheet, lines): &(&str, &str, &[&str])| {
@@ -267,6 +273,7 @@ pub fn checks() -> Vec<(String, bool)> {
     out.extend(peels::checks());
     out.extend(worst::checks());
     out.extend(fills::checks());
+    out.extend(roots::checks());
     out.extend(runs::tallies());
     out.extend(runs::calls());
     let mut also = |name: &str, holds: bool| out.push((name.to_string(), holds));

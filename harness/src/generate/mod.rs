@@ -6,11 +6,13 @@ mod damage;
 mod fills;
 mod pages;
 mod peels;
+mod roots;
 mod runs;
 mod settings;
 mod small;
 mod worst;
 
+pub use roots::{number, SPECIAL};
 pub use runs::{few_indices, run, start, Run, Start, Step, RUN_OF};
 pub use worst::{arguments, REFUSED};
 
@@ -91,6 +93,13 @@ kinds! {
     Many: "fills: many points, to the most of a sheet",
     AllOrNone: "fills: sheets of which everything is dropped, or nothing",
     ShortBuffers: "fills: buffers about 20 and 28 bytes a point, damaged files among them",
+    Triangles: "roots: a corner amid four, off by the sides of a whole triangle or by nothing",
+    BesideSquares: "roots: a corner off by steps whose sum of squares is a square or beside one",
+    Straight: "roots: a corner off along one axis",
+    Smallest: "roots: a corner off by steps whose squares are subnormal or 0",
+    Parallel: "roots: a corner whose neighbours lie on two parallel lines or on one",
+    LastCells: "roots: an index at cells of different residuals",
+    Squares: "roots: boards of even spacing, some points off by whole triangles",
 }
 
 /// What the generator knows of the answer.
@@ -125,6 +134,9 @@ const BEFORE_WORST: usize = 45;
 /// How many there were before those with dropped points.
 const BEFORE_FILLS: usize = 48;
 
+/// How many there were before those about roots.
+const BEFORE_ROOTS: usize = 60;
+
 impl Kind {
     /// The kinds of all sheets.
     pub fn first() -> &'static [(Kind, &'static str)] {
@@ -153,7 +165,12 @@ impl Kind {
 
     /// The kinds with dropped points of every pattern.
     pub fn for_fills() -> &'static [(Kind, &'static str)] {
-        &Kind::ALL[BEFORE_FILLS..]
+        &Kind::ALL[BEFORE_FILLS..BEFORE_ROOTS]
+    }
+
+    /// The kinds with residuals of every kind of root.
+    pub fn for_roots() -> &'static [(Kind, &'static str)] {
+        &Kind::ALL[BEFORE_ROOTS..]
     }
 
     pub fn from_name(name: &str) -> Option<Kind> {
@@ -166,6 +183,9 @@ impl Kind {
 pub fn case(kind: Kind, seed: u64) -> Case {
     let place = kind as u64;
     let mut own = Random::new(seed ^ place << 56);
+    if kind as usize >= BEFORE_ROOTS {
+        return roots::case(kind, &mut own, seed);
+    }
     if kind as usize >= BEFORE_FILLS {
         return fills::case(kind, &mut own, seed);
     }

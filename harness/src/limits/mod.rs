@@ -1,9 +1,10 @@
-//! Which limits of the map some sheets met, which kinds of weak ends and of fills, and which limits of a
-//! run some calls.
+//! Which limits of the map some sheets met, which kinds of weak ends, of fills and of residuals, and which
+//! limits of a run some calls.
 
 pub mod fills;
 pub mod map;
 pub mod peel;
+pub mod roots;
 pub mod run;
 
 /// A limit's name, and whether it is met.

@@ -2,6 +2,7 @@
 
 use super::files::{self, Form, Load, LONGEST_BUFFER};
 use super::{fills, peels};
+use crate::generate::{self, SPECIAL};
 use crate::random::Random;
 use crate::second::{self, FILL, MAX_POINTS, ROW};
 use crate::shapes;
@@ -195,6 +196,14 @@ impl Origin {
                 room.of(FILL * FIXED[which].1)
             }
             _ => files::fills_buffer(r, file),
+        }
+    }
+
+    /// The bits of numbers to take roots of: beside a fixed file the special ones.
+    pub fn numbers_for_roots(self, r: &mut Random) -> Vec<u32> {
+        match self {
+            Origin::Fixed(_) => SPECIAL.to_vec(),
+            _ => (0..16).map(|_| generate::number(r)).collect(),
         }
     }
 }

@@ -1,5 +1,6 @@
 //! Files of all forms through the C boundary: file, buffer and record at the edge of memory that may
-//! not be touched, on a stack of the size that the header asks for. Each goes through every function.
+//! not be touched, on a stack of the size that the header asks for. Each goes through every function that
+//! takes a file, and beside it some numbers through the one that takes a root, on a stack of one page.
 
 mod files;
 mod fills;
@@ -55,7 +56,8 @@ impl One<'_> {
     fn run(mut self) -> [Option<String>; FUNCTIONS] {
         let all = All::new(&self.load.file, self.load.buffer);
         let rows = self.rows(&all.answer);
-        [rows, self.map(&all.map), self.in_run(), self.fills(&all)]
+        let (map, run) = (self.map(&all.map), self.in_run());
+        [rows, map, run, self.fills(&all), self.roots()]
     }
 
     fn rows(&mut self, answer: &Answer) -> Option<String> {
@@ -106,6 +108,21 @@ impl One<'_> {
         let (_, time, wrong) = self.runner.run(&job, &mut self.r);
         self.report.add_fills(&job, self.origin, &fills, time);
         wrong.map(|text| format!("fills: {text}"))
+    }
+
+    /// Of some numbers; what is wrong with the first.
+    fn roots(&mut self) -> Option<String> {
+        let numbers = self.origin.numbers_for_roots(&mut self.r);
+        numbers.into_iter().find_map(|bits| self.root(bits))
+    }
+
+    fn root(&mut self, bits: u32) -> Option<String> {
+        let found = second::whole_root(f32::from_bits(bits), Fault::None);
+        let (number, written) = library::expected_root(found);
+        let job = Job::root(self.load.form, bits, number, &written);
+        let (_, time, wrong) = self.runner.run(&job, &mut self.r);
+        self.report.add_root(&job, self.origin, time);
+        wrong.map(|text| format!("root of {bits:08X}: {text}"))
     }
 }
 

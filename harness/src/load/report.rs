@@ -2,8 +2,7 @@
 
 use super::files::{Form, Load};
 use super::fixed::{Origin, FIXED};
-use super::runner::{Job, FUNCTIONS};
-use crate::header::STACK_SIZE;
+use super::runner::{Job, FUNCTIONS, STACKS};
 use crate::library::{Returned, NO_ROOM};
 use crate::second::{Fills, Map, LAST_NUMBER, MAX_POINTS};
 use std::time::Duration;
@@ -29,7 +28,8 @@ impl Times {
         }
     }
 
-    fn print(&self, name: &str, deepest: Option<usize>) {
+    /// With the deepest use of a stack and its size.
+    fn print(&self, name: &str, deepest: Option<(usize, usize)>) {
         if let Some((form, origin)) = self.longest_at {
             println!(
                 "{name}: longest call {:.0} µs ({form:?}, {origin}); all calls {:.1} s",
@@ -37,8 +37,8 @@ impl Times {
                 self.all.as_secs_f64()
             );
         }
-        if let Some(deepest) = deepest {
-            println!("{name}: deepest stack {deepest} bytes of {STACK_SIZE}");
+        if let Some((deepest, size)) = deepest {
+            println!("{name}: deepest stack {deepest} bytes of {size}");
         }
     }
 }
@@ -82,6 +82,9 @@ pub struct Report {
     not_filled: ByNumber,
     empty_fill_buffers: usize,
     fills: Times,
+    /// Numbers without a root, with one, and with an exact one.
+    roots: [usize; 3],
+    root: Times,
     pub failed: usize,
 }
 
@@ -146,6 +149,13 @@ impl Report {
         self.fills.add(job.form, origin, time);
     }
 
+    /// Counts a call for a root, which the second program found or not.
+    pub fn add_root(&mut self, job: &Job, origin: Origin, time: Duration) {
+        let exact = job.written.ends_with(&[0; 4]);
+        self.roots[job.number as usize + usize::from(exact)] += 1;
+        self.root.add(job.form, origin, time);
+    }
+
     /// How many fixed files there were.
     fn print_fixed(&self) {
         let fixed = FIXED.iter().zip(self.fixed);
@@ -202,6 +212,8 @@ impl Report {
             &self.not_filled[1..],
             self.empty_fill_buffers
         );
+        let [without, with, exact] = self.roots;
+        println!("roots: none {without}, not exact {with}, exact {exact}");
     }
 
     pub fn print(&self, deepest: Option<[usize; FUNCTIONS]>, whole: Duration) {
@@ -213,9 +225,10 @@ impl Report {
             ("map", &self.map),
             ("run", &self.run),
             ("fills", &self.fills),
+            ("root", &self.root),
         ];
         for (k, (name, times)) in calls.into_iter().enumerate() {
-            times.print(name, deepest.map(|deepest| deepest[k]));
+            times.print(name, deepest.map(|deepest| (deepest[k], STACKS[k])));
         }
         println!("the run {:.0} s", whole.as_secs_f64());
     }

@@ -5,7 +5,7 @@ use super::LIMIT;
 use crate::clock::processor;
 use crate::guarded::{Area, Callee, Stack};
 use crate::header::STACK_SIZE;
-use crate::library::{Calls, Returned, Run, MAP_SIZE, NO_ROOM};
+use crate::library::{Calls, Returned, Root, Run, MAP_SIZE, NO_ROOM};
 use crate::random::Random;
 use crate::second::{Record, FULL, MAX_POINTS, NUMBERS, ORDER};
 use std::ops::Range;
@@ -25,10 +25,14 @@ pub enum Function {
     Map,
     KeepInRun,
     Fills,
+    Root,
 }
 
 /// How many there are.
-pub const FUNCTIONS: usize = 4;
+pub const FUNCTIONS: usize = 5;
+
+/// The stack that each runs on: of the size that the header asks for, and for a root of one page.
+pub const STACKS: [usize; FUNCTIONS] = [STACK_SIZE, STACK_SIZE, STACK_SIZE, STACK_SIZE, 4096];
 
 /// A call with what it should return, write, and leave as its record.
 pub struct Job<'a> {
@@ -40,6 +44,8 @@ pub struct Job<'a> {
     pub written: &'a [u8],
     /// The record before and after, of the call that takes one; else no matter what.
     pub records: [Record; 2],
+    /// The number, of the call that takes one instead of a file.
+    pub bits: u32,
 }
 
 impl<'a> Job<'a> {
@@ -59,6 +65,21 @@ impl<'a> Job<'a> {
             number,
             written,
             records,
+            bits: 0,
+        }
+    }
+
+    /// The call on a number, while a file of some form is under way.
+    pub fn root(form: Form, bits: u32, number: u64, written: &'a [u8]) -> Job<'a> {
+        Job {
+            function: Function::Root,
+            form,
+            file: &[],
+            buffer: size_of::<Root>(),
+            number,
+            written,
+            records: [Record::new(); 2],
+            bits,
         }
     }
 }
@@ -103,6 +124,7 @@ fn possible(function: Function, returned: u64) -> bool {
         Function::Map => returned <= MAP_SIZE as u64 || returned == NO_ROOM,
         Function::KeepInRun => of_sheet || returned == u64::from(FULL),
         Function::Fills => of_sheet && returned >> 48 == 0,
+        Function::Root => returned <= 1,
     }
 }
 
@@ -134,12 +156,13 @@ fn record_bytes(record: &Record) -> Vec<u8> {
     words.iter().flat_map(|word| word.to_le_bytes()).collect()
 }
 
-fn callee(calls: &Calls, function: Function, run: *mut Run) -> Callee {
-    match function {
+fn callee(calls: &Calls, job: &Job, run: *mut Run) -> Callee {
+    match job.function {
         Function::Keep => Callee::Plain(calls.keep),
         Function::Map => Callee::Plain(calls.map),
         Function::KeepInRun => Callee::InRun(calls.keep_in_run, run),
         Function::Fills => Callee::Plain(calls.fills),
+        Function::Root => Callee::Root(calls.root, job.bits),
     }
 }
 
@@ -182,7 +205,7 @@ fn in_heap(calls: &Calls, job: &Job, paint: &[u8]) -> Outcome {
     let file = job.file.to_vec().into_boxed_slice();
     let mut buffer = paint[..job.buffer].to_vec().into_boxed_slice();
     let mut record = Box::new(Run::from(job.records[0]));
-    let callee = callee(calls, job.function, &mut *record);
+    let callee = callee(calls, job, &mut *record);
     let start = processor();
     // The blocks are ours and apart.
     let returned =
@@ -257,7 +280,7 @@ impl Guarded {
             file: Area::new(LONGEST_FILE),
             buffer: Area::new(LONGEST_BUFFER),
             record: Area::new(RECORD),
-            stacks: [(); FUNCTIONS].map(|()| Stack::new(STACK_SIZE)),
+            stacks: STACKS.map(Stack::new),
             longest: Default::default(),
         }
     }
@@ -275,7 +298,7 @@ impl Guarded {
         let once = |places: &mut Guarded| {
             put(&mut places.record, record.begin, &before);
             let run = places.record.at(record.begin).cast();
-            let callee = callee(calls, job.function, run);
+            let callee = callee(calls, job, run);
             let stack = &mut places.stacks[job.function as usize];
             let start = processor();
             // The areas are ours and apart.

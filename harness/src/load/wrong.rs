@@ -2,7 +2,7 @@
 
 use crate::clock::processor;
 use crate::guarded::Callee;
-use crate::library::{self, Calls, Returned, Run, NO_ROOM};
+use crate::library::{self, Calls, Returned, Root, Run, NO_ROOM};
 use crate::second::{self, Fault, FILL, MAX_POINTS};
 use crate::sheet::MOST_RECORDS;
 use std::hint::black_box;
@@ -113,6 +113,28 @@ const FILLS: [&str; 21] = [
     "fills: refuses with 1 a tag 4 of another length",
 ];
 
+/// Faults of the call for a root, likewise.
+const ROOT: [&str; 18] = [
+    "root: takes 400 KB more of the stack",
+    "root: writes a byte beyond the three numbers",
+    "root: writes a byte before the three numbers",
+    "root: writes on neither",
+    "root: writes a zero on neither",
+    "root: writes nothing",
+    "root: writes S alone",
+    "root: writes two numbers alone",
+    "root: returns 0 where there is a root",
+    "root: returns 1 where there is none",
+    "root: returns 2",
+    "root: returns S",
+    "root: hands back the remainder before the power",
+    "root: hands back the power first",
+    "root: hands back a remainder that is one too large",
+    "root: hands back S less one, with its remainder",
+    "root: hands back the numbers of the call before",
+    "root: takes 10 ms more than the limit",
+];
+
 /// A fault of the second program with what is wrong.
 type OfSecond = (Fault, &'static str);
 
@@ -148,19 +170,24 @@ pub fn faults() -> impl Iterator<Item = String> {
         .chain(run_of_second().map(text("run")))
         .chain(FILLS.into_iter().map(String::from))
         .chain(fills_of_second().map(text("fills")))
+        .chain(ROOT.into_iter().map(String::from))
+        .chain(Fault::NUMBER.iter().map(text("root")))
 }
 
 /// The fault that a call has, counted from 0.
 static CHOSEN: AtomicUsize = AtomicUsize::new(0);
 static BEFORE: AtomicUsize = AtomicUsize::new(1);
 static RECORD_BEFORE: Mutex<Option<Run>> = Mutex::new(None);
+static ROOT_BEFORE: Mutex<Root> = Mutex::new([0; 3]);
 
 /// The library's functions, one of them with a fault.
 pub fn calls(right: Calls, fault: usize) -> Calls {
     let of_map = KEEP.len();
     let of_run = of_map + MAP.len();
     let of_fills = of_run + RUN.len() + run_of_second().count();
+    let of_root = of_fills + FILLS.len() + fills_of_second().count();
     let (first, wrong) = match fault {
+        _ if fault >= of_root => (of_root, Calls { root, ..right }),
         _ if fault >= of_fills => (of_fills, Calls { fills, ..right }),
         _ if fault >= of_run => (
             of_run,
@@ -420,6 +447,51 @@ unsafe extern "C" fn fills(file: *const u8, file_len: usize, out: *mut u8, out_l
         18 => linger(),
         19 if points == MAX_POINTS => return 2,
         20 if returned == 12 => return 1,
+        _ => {}
+    }
+    returned
+}
+
+/// The call for a root as the second program makes it with a fault of its own.
+unsafe fn root_by_second(fault: Fault, bits: u32, out: *mut Root) -> i32 {
+    let found = second::whole_root(f32::from_bits(bits), fault);
+    if let Some(found) = found {
+        out.write(found.numbers());
+    }
+    i32::from(found.is_some())
+}
+
+/// The library's function for a root, with the chosen fault.
+unsafe extern "C" fn root(bits: u32, out: *mut Root) -> i32 {
+    if let Some(fault) = second_fault(ROOT.len(), Fault::NUMBER.iter(), 0) {
+        return root_by_second(fault, bits, out);
+    }
+    let callee = Callee::Root(library::functions().unwrap().root, bits);
+    let bytes = out.cast::<u8>();
+    let chosen = CHOSEN.load(Ordering::Relaxed);
+    if chosen == 0 {
+        return deep(callee, std::ptr::null(), 0, bytes, 0) as i32;
+    }
+    let before = bytes_at(bytes, size_of::<Root>());
+    let returned = callee.call(std::ptr::null(), 0, bytes, 0) as i32;
+    let found = returned == 1;
+    let [s, power, remainder] = out.read();
+    match chosen {
+        1 => flip(bytes.wrapping_add(size_of::<Root>())),
+        2 => flip(bytes.wrapping_sub(1)),
+        3 if !found => flip(bytes.add(5)),
+        4 if !found => out.write([0; 3]),
+        5..8 => put(bytes.add(4 * (chosen - 5)), &before[4 * (chosen - 5)..]),
+        8 => return 0,
+        9 => return 1,
+        10 if found => return 2,
+        11 if found => return s,
+        12 if found => out.write([s, remainder, power]),
+        13 if found => out.write([power, s, remainder]),
+        14 if found => out.write([s, power, remainder + 1]),
+        15 if found && s > 0 => out.write([s - 1, power, remainder + 2 * s - 1]),
+        16 if found => *out = std::mem::replace(&mut *ROOT_BEFORE.lock().unwrap(), out.read()),
+        17 => linger(),
         _ => {}
     }
     returned

@@ -4,6 +4,7 @@ use super::board::Board;
 use super::fault::Fault;
 use super::fit;
 use super::plane::Vector;
+use super::root::Distance;
 
 /// The 24 cells within 2, "nearest first, then smaller dv, then smaller du", as (du, dv).
 pub fn offsets(fault: Fault) -> Vec<(i32, i32)> {
@@ -73,7 +74,7 @@ fn as_vector((u, v): (i32, i32)) -> Vector {
 }
 
 /// The residual of the cell at rank k from its base; none without a fit.
-pub fn residual(board: &Board, k: usize, base: &[usize], fault: Fault) -> Option<f32> {
+pub fn residual(board: &Board, k: usize, base: &[usize], fault: Fault) -> Option<Distance> {
     let four: [usize; 4] = base.try_into().ok()?;
     let cells = four.map(|b| as_vector(board.cell(b)));
     let positions = four.map(|b| board.at(b));

@@ -8,7 +8,10 @@ macro_rules! faults {
         $($of_run:ident: $wrong:literal,)* ;
         $($of_peel:ident: $peeled:literal,)* ;
         $($of_worst:ident: $written:literal,)* ;
-        $($of_fill:ident: $filled:literal,)*
+        $($of_fill:ident: $filled:literal,)* ;
+        $($of_root:ident: $rooted:literal,)* ;
+        $($of_equal:ident: $shown:literal,)* ;
+        $($of_number:ident: $handed:literal,)*
     ) => {
         #[derive(Clone, Copy, Debug, PartialEq, Eq)]
         pub enum Fault {
@@ -23,6 +26,9 @@ macro_rules! faults {
             $($of_peel,)*
             $($of_worst,)*
             $($of_fill,)*
+            $($of_root,)*
+            $($of_equal,)*
+            $($of_number,)*
         }
 
         impl Fault {
@@ -50,6 +56,18 @@ macro_rules! faults {
 
             /// Every deliberate fault of the fills, those of their listing and of their call last.
             pub const FILL: &'static [(Fault, &'static str)] = &[$((Fault::$of_fill, $filled),)*];
+
+            /// Every deliberate fault of the roots that a listing shows, those of `=` last.
+            pub const ROOT: &'static [(Fault, &'static str)] = &[
+                $((Fault::$of_root, $rooted),)*
+                $((Fault::$of_equal, $shown),)*
+            ];
+
+            /// Every deliberate fault of the root of a number: those that a listing shows too, then its own.
+            pub const NUMBER: &'static [(Fault, &'static str)] = &[
+                $((Fault::$of_root, $rooted),)*
+                $((Fault::$of_number, $handed),)*
+            ];
 
             /// a above b; under the fault `wrong` also where they are equal.
             pub fn above(self, a: f32, b: f32, wrong: Fault) -> bool {
@@ -291,4 +309,34 @@ faults! {
     FillRoomOfRows: "the call asks for 28 bytes a point",
     FillBufferShort: "the call takes a buffer one byte too short",
     FillRoomOfFills: "the call asks for 20 bytes a fill",
+    // Those of the roots.
+    ;
+    RootUnscaled: "the remainder is that of the number's own digits, unscaled",
+    RootRoundedDown: "S is rounded down",
+    // Those of `=`.
+    ;
+    EqualOfInfinite: "an infinite residual has `=`",
+    EqualOfNan: "a residual that is NaN has `=`",
+    EqualNotOfZero: "a residual of 0 has no `=`",
+    EqualByProduct: "a residual r has `=` where r r, rounded, is the number whose root it is",
+    EqualByValue: "a residual has `=` by the value alone, where its square is an f32",
+    EqualOfSum: "the remainder is that of the sum of squares before it is rounded",
+    EqualOfFirstCell: "a repeated index has the `=` of its first cell",
+    EqualOfAll: "every finite residual has `=`",
+    EqualOfNone: "no residual has `=`",
+    EqualApart: "a space stands before `=`",
+    // Those of a number's root alone.
+    ;
+    RootRoundedUp: "S is rounded up",
+    RootOddPower: "the power is odd where the number's own exponent is",
+    RootPowerTurned: "the power has the other sign",
+    RootPowerHalved: "half of the power is handed back",
+    RootSubnormal: "a subnormal number is read as a normal one",
+    RemainderTurned: "the remainder is S² less R",
+    RemainderUnsigned: "the remainder has no sign",
+    ZeroNeither: "zero has neither",
+    MinusZeroNeither: "-0 has neither",
+    NegativeFound: "a negative number has the root of its magnitude",
+    InfinityFound: "infinity has a root",
+    NanFound: "NaN has a root",
 }

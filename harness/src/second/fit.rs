@@ -2,6 +2,7 @@
 
 use super::fault::Fault;
 use super::plane::Vector;
+use super::root::Distance;
 
 type Three = [[f32; 3]; 3];
 
@@ -158,9 +159,9 @@ pub fn residual(
     cell: Vector,
     position: Vector,
     fault: Fault,
-) -> Option<f32> {
+) -> Option<Distance> {
     let map = homography(cells, positions, fault)?;
     let [x, y, w] = apply(&map, cell, fault);
     let predicted = Vector { x: x / w, y: y / w };
-    Some(predicted.minus(position).length())
+    Some(predicted.minus(position).distance(fault))
 }

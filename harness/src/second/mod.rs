@@ -27,7 +27,7 @@ pub use file::{FILL, FILLS_ROOM, LAST_NUMBER, MAX_POINTS, ORDER, ROOM, ROW};
 pub use fills::Fill;
 pub use filters::FILTERS;
 pub use plane::over_30_degrees;
-pub use root::root;
+pub use root::{root, whole_root, Distance, WholeRoot};
 pub use run::{keep_in_run, InRun, Record, FULL, MOST_SHEETS, NUMBERS, OLD, SUMMED, SUM_LIMIT};
 pub use tally::Tally;
 pub use worst::{worst, worst_of};
@@ -35,7 +35,7 @@ pub use worst::{worst, worst_of};
 use board::Board;
 use file::Buffer;
 use peel::Peeled;
-use rows::{Counts, End};
+use rows::{Counts, End, Points};
 
 /// The answer to a file and a buffer's length.
 #[derive(Clone, Debug, PartialEq)]
@@ -106,6 +106,8 @@ struct Judged {
     board: Board,
     counts: Counts,
     rows: Vec<u8>,
+    /// For each rank that of its index.
+    residuals: Vec<Option<Distance>>,
     tally: Tally,
     fills: Vec<Fill>,
 }
@@ -135,6 +137,8 @@ impl Judged {
         }
         let tally = Tally::new(&board, &rows, fault);
         let fills = fills::fills(&board, &rows, fills::SQUARE, fault);
+        let homes = board.home.iter();
+        let residuals = homes.map(|home| findings.residual[*home]).collect();
         let counts = Counts {
             points: board.len(),
             components: patch.components,
@@ -144,12 +148,18 @@ impl Judged {
             board,
             counts,
             rows,
+            residuals,
             tally,
             fills,
         }
     }
 
     fn answer(&self, fault: Fault) -> Answer {
+        let points = Points {
+            board: &self.board,
+            rows: &self.rows,
+            residuals: &self.residuals,
+        };
         let end = End {
             tally: &self.tally,
             fills: &self.fills,
@@ -161,7 +171,7 @@ impl Judged {
             rows: self.rows.clone(),
             tally: self.tally,
             fills: self.fills.clone(),
-            listing: rows::listing(&self.board, &self.rows, self.counts, &end, fault),
+            listing: rows::listing(&points, self.counts, &end, fault),
         }
     }
 
@@ -292,6 +302,8 @@ pub struct All {
     pub map: Map,
     /// With room for all fills.
     pub fills: Fills,
+    /// Of each point of an accepted sheet that of its index, if there is one.
+    pub residuals: Vec<Option<Distance>>,
 }
 
 impl All {
@@ -304,6 +316,7 @@ impl All {
                 answer: Answer::Refused(refusal(Buffer::for_rows(buffer)).unwrap_or(number)),
                 map: Err(number),
                 fills: Err(number),
+                residuals: Vec::new(),
             },
             Ok(sheet) => {
                 let judged = Judged::new(sheet, fault);
@@ -315,6 +328,7 @@ impl All {
                     answer,
                     map: judged.map(fault),
                     fills: Ok(judged.filled()),
+                    residuals: judged.residuals,
                 }
             }
         }

@@ -1,6 +1,7 @@
 //! Positions of the plane and the f32 formulas on them, each operation rounded once.
 
 use super::fault::Fault;
+use super::root::Distance;
 
 #[derive(Clone, Copy, Debug, PartialEq)]
 pub struct Vector {
@@ -40,6 +41,19 @@ impl Vector {
 
     pub fn length(self) -> f32 {
         self.dot(self).sqrt()
+    }
+
+    /// The length with its remainder: that of x² + y² as rounded.
+    pub fn distance(self, fault: Fault) -> Distance {
+        let found = Distance::of(self.dot(self), fault);
+        if fault != Fault::EqualOfSum || found.remainder.is_none() {
+            return found;
+        }
+        let [x, y, value] = [self.x, self.y, found.value].map(f64::from);
+        Distance {
+            remainder: Some(i32::from(x * x + y * y != value * value)),
+            ..found
+        }
     }
 }
 

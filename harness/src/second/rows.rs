@@ -6,6 +6,7 @@ use super::fault::Fault;
 use super::file::ROW;
 use super::fills::{self, Fill};
 use super::filters::{Filter, FILTERS};
+use super::root::Distance;
 use super::tally::Tally;
 use super::validate::Findings;
 use std::fmt::Write;
@@ -60,7 +61,8 @@ pub fn rows(board: &Board, findings: &Findings, marks: &Marks, fault: Fault) -> 
             .figures
             .as_ref()
             .map_or(Figures::default(), |f| f[home]);
-        out.extend(row(byte, &figures, findings.residual[home]));
+        let residual = findings.residual[home].map(|residual| residual.value);
+        out.extend(row(byte, &figures, residual));
     }
     out
 }
@@ -119,19 +121,38 @@ impl End<'_> {
     }
 }
 
+/// The residual of a row, if it has one, and "`=` directly after a residual whose remainder is 0".
+fn residual_text(row: &[u8], residual: &Option<Distance>, fault: Fault) -> String {
+    let digits = match row[2] & 1 {
+        0 => return "-".to_string(),
+        _ => format!("{:08X}", u32::from_le_bytes(row[8..12].try_into().unwrap())),
+    };
+    match residual.is_some_and(|residual| residual.is_exact(fault)) {
+        true if fault == Fault::EqualApart => digits + " =",
+        true => digits + "=",
+        false => digits,
+    }
+}
+
+/// What the listing shows of a sheet's points.
+pub struct Points<'a> {
+    pub board: &'a Board,
+    pub rows: &'a [u8],
+    /// For each rank that of its index.
+    pub residuals: &'a [Option<Distance>],
+}
+
 /// What the program `sheet` prints for an accepted file.
-pub fn listing(board: &Board, rows: &[u8], counts: Counts, end: &End, fault: Fault) -> String {
+pub fn listing(points: &Points, counts: Counts, end: &End, fault: Fault) -> String {
     let mut out = counts.line(fault);
-    for (p, row) in board.points.iter().zip(rows.chunks(ROW)) {
+    let rows = points.rows.chunks(ROW).zip(points.residuals);
+    for (p, (row, residual)) in points.board.points.iter().zip(rows) {
         let marks = letters(row[0], fault);
         let reason = match row[1] {
             0 => "-".to_string(),
             number => number.to_string(),
         };
-        let residual = match row[2] & 1 {
-            0 => "-".to_string(),
-            _ => format!("{:08X}", u32::from_le_bytes(row[8..12].try_into().unwrap())),
-        };
+        let residual = residual_text(row, residual, fault);
         writeln!(
             out,
             "{} {} {} {marks} {reason} {residual}",

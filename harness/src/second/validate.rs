@@ -7,19 +7,32 @@ use super::fault::Fault;
 use super::file::Sheet;
 use super::lines;
 use super::plane::median;
+use super::root::Distance;
 
 /// What validate finds out, each held at the home of its index.
 pub struct Findings {
     pub marked: Vec<bool>,
-    pub residual: Vec<Option<f32>>,
+    pub residual: Vec<Option<Distance>>,
     pub figures: Option<Vec<Figures>>,
 }
 
 /// Residuals over the tolerance and over twice it, at each home.
 struct Residuals {
-    held: Vec<Option<f32>>,
+    held: Vec<Option<Distance>>,
     over: Vec<bool>,
     far_over: Vec<bool>,
+}
+
+/// What an index has after a cell with a residual: that cell's, with its remainder, in the place of an earlier one's.
+fn held(earlier: Option<Distance>, residual: Distance, fault: Fault) -> Distance {
+    match (fault, earlier) {
+        (Fault::ResidualOfFirstCell, Some(earlier)) => earlier,
+        (Fault::EqualOfFirstCell, Some(Distance { remainder, .. })) => Distance {
+            remainder,
+            ..residual
+        },
+        _ => residual,
+    }
 }
 
 /// "A residual comes from the last cell, in the order of the rows, having one, while a flag
@@ -42,9 +55,8 @@ fn residuals(
             continue;
         };
         let home = board.home[k];
-        if fault != Fault::ResidualOfFirstCell || out.held[home].is_none() {
-            out.held[home] = Some(residual);
-        }
+        out.held[home] = Some(held(out.held[home], residual, fault));
+        let residual = residual.value;
         let limit = tolerance * scale[k];
         let twice = if fault == Fault::Rule2AtOnce {
             limit

@@ -368,7 +368,9 @@ fn first_given(numbers: &[u32]) -> bool {
     let points = if numbers.contains(&2) { 2305 } else { 6 };
     let (file, buffer) = spoilt(weighed(long(points)), numbers);
     let mut of_map = numbers.iter().filter(|number| **number != 3);
-    let All { answer, map, fills } = All::new(&file, buffer);
+    let All {
+        answer, map, fills, ..
+    } = All::new(&file, buffer);
     let without_room = of_map.next().map(|number| *number as u8);
     answer == Answer::Refused(numbers[0] as u8)
         && map.err() == without_room

@@ -1,8 +1,8 @@
-//! Bit patterns of f32 and what `float_vectors` must write of each: the pattern, its root, and
-//! whether a cosine with that pattern is over 30 degrees.
+//! Bit patterns of f32 and what `float_vectors` must write of each: the pattern, its root, whether a cosine
+//! with that pattern is over 30 degrees, and S, power and remainder of its root or that it has neither.
 //!
-//! The root is the machine's, and 4c² is exact in f64: nothing is shared with crate `float` or the
-//! second program.
+//! The root is the machine's, and 4c², the scaled number and S² are exact in f64: nothing is shared with
+//! crate `float` or the second program.
 
 use super::{next, Vectors};
 use std::collections::HashSet;
@@ -99,6 +99,27 @@ fn root(bits: u32) -> u32 {
     }
 }
 
+/// S, power and remainder in decimal, or `neither`. The root of a whole number below 2^48 lies more than 2^-27 from any
+/// s + 1/2, and f64 has it to 2^-29, so it is rounded to the nearest s.
+fn whole_root(bits: u32) -> String {
+    let x = f64::from(f32::from_bits(bits));
+    if x == 0.0 {
+        return "0 0 0".into();
+    }
+    if !(x > 0.0 && x.is_finite()) {
+        return "neither".into();
+    }
+    let (mut scaled, mut power) = (x, 0);
+    while scaled < 2f64.powi(46) {
+        (scaled, power) = (4.0 * scaled, power + 2);
+    }
+    while scaled >= 2f64.powi(48) {
+        (scaled, power) = (scaled / 4.0, power - 2);
+    }
+    let root = scaled.sqrt().round();
+    format!("{root} {power} {}", scaled - root * root)
+}
+
 pub fn float() -> Vectors {
     let (mut stdin, mut stdout) = (Vec::new(), String::new());
     for bits in patterns() {
@@ -109,7 +130,8 @@ pub fn float() -> Vectors {
             "-"
         };
         stdin.extend(bits.to_le_bytes());
-        writeln!(stdout, "{bits:08x} {:08x} {over}", root(bits)).unwrap();
+        let (root, whole) = (root(bits), whole_root(bits));
+        writeln!(stdout, "{bits:08x} {root:08x} {over} {whole}").unwrap();
     }
     Vectors {
         stdin,

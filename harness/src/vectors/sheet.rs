@@ -84,6 +84,8 @@ pub struct Choice {
     pub peels: usize,
     /// Cases with dropped points, of at most `most` bytes of file each.
     pub fills: usize,
+    /// Cases about roots, likewise.
+    pub roots: usize,
 }
 
 impl Choice {
@@ -97,6 +99,7 @@ impl Choice {
         full_lines: 4,
         peels: 120,
         fills: 60,
+        roots: 140,
     };
 }
 
@@ -113,7 +116,8 @@ fn named(files: Vec<Vec<u8>>) -> impl Iterator<Item = Vec<u8>> {
     })
 }
 
-/// Document 01's sheets, maps and weak ends written out by hand, generated ones, and those with dropped points.
+/// Document 01's sheets, maps and weak ends written out by hand, generated ones, those with dropped points, and those
+/// about roots.
 pub fn sheet(choice: &Choice) -> Vectors {
     let (seed, most) = (choice.seed, choice.most);
     let of = |kinds: &'static [_]| (0..).map(move |i| generate::nth(kinds, seed, i));
@@ -128,6 +132,7 @@ pub fn sheet(choice: &Choice) -> Vectors {
         .filter(|case| case.file.len() >= 20 * (MAX_POINTS - 100));
     let peels = of(Kind::for_peels()).filter(|case| case.file.len() <= most);
     let fills = of(Kind::for_fills()).filter(|case| case.file.len() <= most);
+    let roots = of(Kind::for_roots()).filter(|case| case.file.len() <= most);
     let mut cases: Vec<Vec<u8>> = named(stars::files()).collect();
     cases.extend(first(small, choice.sheets));
     cases.extend(first(large, choice.full));
@@ -136,6 +141,8 @@ pub fn sheet(choice: &Choice) -> Vectors {
     cases.extend(first(peels, choice.peels));
     cases.extend(first(fills, choice.fills));
     cases.extend(named(stars::filled_files()));
+    cases.extend(first(roots, choice.roots));
+    cases.extend(named(stars::rooted_files()));
     let mut stdin = Vec::new();
     put(&mut stdin, &[cases.len()]);
     stdin.extend(cases.concat());
