@@ -9,7 +9,6 @@ use crate::roots;
 use crate::second::{self, Fault};
 use std::fmt::Debug;
 use std::hint::black_box;
-use std::ops::RangeInclusive;
 use std::time::Instant;
 
 type One = extern "C" fn(f32) -> f32;
@@ -81,13 +80,13 @@ pub fn same(a: f32, b: f32) -> bool {
 
 /// Counts what was tried and what differs; the first ten that differ are listed.
 #[derive(Default)]
-pub struct Tried {
+struct Tried {
     count: u64,
     differences: u64,
 }
 
 impl Tried {
-    pub fn add(&mut self, alike: bool, what: impl Fn() -> String) {
+    fn add(&mut self, alike: bool, what: impl Fn() -> String) {
         self.count += 1;
         if !alike {
             self.differences += 1;
@@ -103,29 +102,47 @@ impl Tried {
     }
 
     /// True if nothing differs.
-    pub fn print(&self, name: &str, what: &str) -> bool {
+    fn print(&self, name: &str, what: &str) -> bool {
         let Tried { count, differences } = self;
         println!("{name}: {what} {count}, differences {differences}");
         *differences == 0
     }
 }
 
+/// Every `step`-th bit pattern, in a thread for each processor; true if nothing differs.
+pub fn every_bits(name: &str, step: usize, differs: impl Fn(u32) -> Option<String> + Sync) -> bool {
+    let threads = std::thread::available_parallelism().map_or(1, usize::from);
+    let part = &|first: usize| {
+        let mut tried = Tried::default();
+        for bits in (first as u32..=u32::MAX).step_by(threads * step) {
+            let text = differs(bits);
+            tried.add(text.is_none(), || text.clone().unwrap());
+        }
+        tried
+    };
+    let mut all = Tried::default();
+    std::thread::scope(|scope| {
+        let parts: Vec<_> = (0..threads)
+            .map(|k| scope.spawn(move || part(k * step)))
+            .collect();
+        let parts = parts.into_iter().map(|part| part.join().unwrap());
+        parts.for_each(|part| all.join(&part));
+    });
+    all.print(name, "patterns")
+}
+
 /// Both functions at all 2^32 bit patterns.
 fn every_pattern<T: Debug>(
     name: &str,
     ours: extern "C" fn(f32) -> T,
-    rusts: impl Fn(f32) -> T,
-    alike: impl Fn(&T, &T) -> bool,
+    rusts: impl Fn(f32) -> T + Sync,
+    alike: impl Fn(&T, &T) -> bool + Sync,
 ) -> bool {
-    let mut tried = Tried::default();
-    for bits in 0..=u32::MAX {
+    every_bits(name, 1, |bits| {
         let x = f32::from_bits(bits);
         let (a, b) = (ours(x), rusts(x));
-        tried.add(alike(&a, &b), || {
-            format!("{name} {bits:08X}: {a:?}, Rust {b:?}")
-        });
-    }
-    tried.print(name, "patterns")
+        (!alike(&a, &b)).then(|| format!("{name} {bits:08X}: {a:?}, Rust {b:?}"))
+    })
 }
 
 /// Both functions at every pair of special values, and at ten million pairs of any bit patterns.
@@ -167,30 +184,6 @@ fn root_differs(call: Whole, bits: u32) -> Option<String> {
     }
     let wrong = roots::wrong(x, right)?;
     Some(format!("second program {bits:08X}: {right:?}: {wrong}"))
-}
-
-/// The same at all bit patterns, in a thread for each processor.
-fn every_root(call: Whole) -> bool {
-    let threads = std::thread::available_parallelism().map_or(1, |n| n.get() as u64);
-    let end = |k: u64| ((1 << 32) * k / threads) as u32;
-    let part = |range: RangeInclusive<u32>| {
-        let mut tried = Tried::default();
-        for bits in range {
-            let differs = root_differs(call, bits);
-            tried.add(differs.is_none(), || differs.clone().unwrap());
-        }
-        tried
-    };
-    let mut all = Tried::default();
-    std::thread::scope(|scope| {
-        let range = |k| end(k)..=end(k + 1).wrapping_sub(1);
-        let run = |k| scope.spawn(move || part(range(k)));
-        let parts: Vec<_> = (0..threads).map(run).collect();
-        parts
-            .into_iter()
-            .for_each(|part| all.join(&part.join().unwrap()));
-    });
-    all.print("whole_root", "patterns")
 }
 
 /// Nanoseconds a call in a loop of a million, taken in parts of 10,000 calls so that other work on
@@ -244,7 +237,7 @@ fn agree(float: &Functions) -> bool {
         every_pattern("abs", float.abs, f32::abs, alike),
         every_pattern("clamp", float.clamp, |x| x.clamp(-1.0, 1.0), alike),
         every_pattern("over_30_degrees", float.over_30_degrees, over, bool::eq),
-        every_root(float.whole_root),
+        every_bits("whole_root", 1, |bits| root_differs(float.whole_root, bits)),
     ];
     all.iter().all(|holds| *holds)
 }

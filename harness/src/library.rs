@@ -300,18 +300,19 @@ pub fn fills_difference(file: &[u8], all: &All) -> Option<String> {
 /// the three, or one beside them.
 pub fn root_difference(x: f32, found: Option<WholeRoot>) -> Option<String> {
     let call = functions()?.root;
-    let mut left = [i32::from_le_bytes([0xA5; 4]); 9];
-    let mut right = left;
-    if let Some(found) = found {
-        right[3..6].copy_from_slice(&found.numbers());
-    }
+    const BEFORE: Root = [i32::from_le_bytes([0xA5; 4]); 3];
+    let mut left = [BEFORE; 3];
     // The library writes the three numbers in the middle alone.
-    let returned = unsafe { call(x.to_bits(), left[3..6].as_mut_ptr().cast()) };
-    let right = (i32::from(found.is_some()), right);
-    ((returned, left) != right).then(|| {
-        let bits = x.to_bits();
-        format!("library's root of {bits:08X}: {returned} {left:?}, expected {right:?}")
-    })
+    let returned = unsafe { call(x.to_bits(), &mut left[1]) };
+    let right = found.map_or(BEFORE, |found| found.numbers());
+    let text = |what: String| Some(format!("library's root of {:08X}: {what}", x.to_bits()));
+    if (returned, left[1]) != (i32::from(found.is_some()), right) {
+        return text(format!("{returned} {:?}, not {found:?}", left[1]));
+    }
+    if left[0] != BEFORE || left[2] != BEFORE {
+        return text("a number beside the three".into());
+    }
+    None
 }
 
 /// The first place where the library's rows, map or fills differ from the second program's.

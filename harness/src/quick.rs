@@ -224,6 +224,7 @@ fn properties() -> Vec<(String, bool)> {
         sheets(Kind::first()),
         sheets(Kind::for_peels()),
         sheets(Kind::for_fills()),
+        sheets(Kind::for_roots()),
         reader,
     ];
     let all = [

@@ -1,7 +1,7 @@
 //! Roots with their remainders: the second program's beside the machine's root and 128-bit whole numbers, and the
 //! library's beside the second program's; of numbers, and of the sums of squares behind a sheet's residuals.
 
-use crate::floats::{same, Tried};
+use crate::floats::{every_bits, same};
 use crate::generate;
 use crate::library;
 use crate::random::Random;
@@ -62,15 +62,12 @@ pub fn residual_fault(residuals: &[Option<Distance>]) -> Option<String> {
 
 /// Every `step`-th f32: whether its root is the machine's, and all that it should be.
 pub fn every(step: usize) -> bool {
-    let mut tried = Tried::default();
-    for bits in (0..=u32::MAX).step_by(step) {
+    every_bits("roots", step, |bits| {
         let x = f32::from_bits(bits);
         let root = same(x.sqrt(), second::root(x, Fault::None));
         let text = (!root).then(|| format!("{bits:08X}: another root"));
-        let text = text.or_else(|| fault(x));
-        tried.add(text.is_none(), || text.clone().unwrap());
-    }
-    tried.print("roots", "floats")
+        text.or_else(|| fault(x))
+    })
 }
 
 /// How many numbers there were, those with a root, and those of them whose root is exact; and what was wrong first.

@@ -309,10 +309,10 @@ faults! {
     FillRoomOfRows: "the call asks for 28 bytes a point",
     FillBufferShort: "the call takes a buffer one byte too short",
     FillRoomOfFills: "the call asks for 20 bytes a fill",
-    // Those of the roots.
+    // Those of the roots. The remainder of the second is 0 where it should be: the residual's own digits show it.
     ;
     RootUnscaled: "the remainder is that of the number's own digits, unscaled",
-    RootRoundedDown: "S is rounded down",
+    RootRoundedDown: "S is rounded down, and the root with it",
     // Those of `=`.
     ;
     EqualOfInfinite: "an infinite residual has `=`",
@@ -327,7 +327,7 @@ faults! {
     EqualApart: "a space stands before `=`",
     // Those of a number's root alone.
     ;
-    RootRoundedUp: "S is rounded up",
+    RootRoundedUp: "S is rounded up, and the root with it",
     RootOddPower: "the power is odd where the number's own exponent is",
     RootPowerTurned: "the power has the other sign",
     RootPowerHalved: "half of the power is handed back",

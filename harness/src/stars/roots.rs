@@ -15,8 +15,8 @@ struct Worked {
 }
 
 /// What begins most of these sheets: nothing marks a point, and the four neighbours of the corner at (0,0), two cells
-/// away, place it at the origin, since cells and positions are each other's multiples by 8. They have no fourth
-/// neighbour themselves.
+/// away, place it at the origin, since each position is eight times its cell. The neighbours have three neighbours
+/// themselves, so no residual.
 macro_rules! amid {
     ($corner:literal) => {
         concat!(
@@ -27,7 +27,7 @@ macro_rules! amid {
 }
 
 const SHEETS: &[Worked] = &[
-    // 9 + 16 = 25. The root of 25 is 5, and 5 = 5 · 2^21 / 2^21 is exact.
+    // 9 + 16 = 25, the square of 5.
     Worked {
         name: "3 and 4 off: 5, exact",
         sheet: amid!("0 0 5 3 4"),
@@ -72,7 +72,7 @@ const SHEETS: &[Worked] = &[
         sheet: amid!("0 0 5 0x1A000000 0"),
         residuals: &["-", "-", "00000000=", "-", "-"],
     },
-    // 9 · 2^-152 is more than half of the least f32, 2^-149, whose root is that of 2 times 2^-75.
+    // The square, 9 · 2^-152, is rounded to 2^-149, whose root is that of 2 times 2^-75.
     Worked {
         name: "3 · 2^-76 off: the least square, not exact",
         sheet: amid!("0 0 5 0x1A400000 0"),
@@ -83,8 +83,8 @@ const SHEETS: &[Worked] = &[
         sheet: amid!("0 0 5 0x1A800000 0"),
         residuals: &["-", "-", "1A800000=", "-", "-"],
     },
-    // Left and right neighbour lie on one line, upper and lower one on a parallel one: no place is on both. The
-    // predicted position is infinite, and it would be 0/0 if the line went through the origin.
+    // Left and right neighbour lie on one line, upper and lower one on a parallel one. No place is on both: x and y
+    // are each divided by 0. Of the second sheet y is 0 over 0.
     Worked {
         name: "neighbours on two parallel lines: infinite, none",
         sheet: "settings 16 9 65535 9 0 0 0 0\n0 1 1 0 0\n2 1 2 10 0\n1 0 3 0 10\n1 2 4 10 10\n1 1 5 5 5",
@@ -105,7 +105,7 @@ const SHEETS: &[Worked] = &[
             "40892490", "42700022",
         ],
     },
-    // About (16,0), which its second cell is placed near, the index is 13 and 4 off: the root of 185.
+    // Its second cell is placed near (16,0), 13 and 4 off: about the root of 185.
     Worked {
         name: "a repeated index: exact at its first cell, not at its last",
         sheet: amid!(
