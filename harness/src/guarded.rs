@@ -99,6 +99,23 @@ impl Callee {
             Callee::Root(f, bits) => u64::from(f(bits, buffer.cast()) as u32),
         }
     }
+
+    /// Where it stands, with its first three parameters and its fifth. A function does not look at the registers of
+    /// parameters that it does not have.
+    #[cfg(target_arch = "x86_64")]
+    fn registers(
+        self,
+        file: *const u8,
+        file_len: usize,
+        buffer: *mut u8,
+    ) -> (*const c_void, [u64; 4]) {
+        let (file, length, buffer) = (file as u64, file_len as u64, buffer as u64);
+        match self {
+            Callee::Plain(f) => (f as *const c_void, [file, length, buffer, 0]),
+            Callee::InRun(f, run) => (f as *const c_void, [file, length, buffer, run as u64]),
+            Callee::Root(f, bits) => (f as *const c_void, [u64::from(bits), buffer, 0, 0]),
+        }
+    }
 }
 
 /// A painted stack with a guard page below it.
@@ -134,13 +151,7 @@ impl Stack {
         buffer_len: usize,
     ) -> u64 {
         let top = self.area.at(self.area.size());
-        let (file, length, text) = (file as u64, file_len as u64, buffer as u64);
-        // A function does not look at the registers of parameters that it does not have.
-        let (f, [first, second, third, run]) = match callee {
-            Callee::Plain(f) => (f as *const c_void, [file, length, text, 0]),
-            Callee::InRun(f, run) => (f as *const c_void, [file, length, text, run as u64]),
-            Callee::Root(f, bits) => (f as *const c_void, [u64::from(bits), text, 0, 0]),
-        };
+        let (f, [first, second, third, run]) = callee.registers(file, file_len, buffer);
         let returned: u64;
         // The stack pointer is kept in r12, which a C function hands back as it found it.
         std::arch::asm!(
