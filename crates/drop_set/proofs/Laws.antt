@@ -23,6 +23,8 @@ use Rattle.marks.specs.Byte.{Marking, marked_by, marked_by_all}
 use Rattle.marks.specs.Tally.{counts_of}
 use Rattle.marks.proofs.Guards.{set_is}
 use Rattle.marks.proofs.Byte.{by-same, Agree, all_same}
+use Rattle.local_h.specs.declared.Residual.{Residual}
+use Rattle.residuals.specs.ByIndex.{residuals_of}
 use Rattle.edge_shape.specs.Figures.{no_figures}
 use Rattle.edge_shape.specs.declared.Figures.{Figures}
 use Rattle.validate.specs.Validate.{gate_figures, figures_of, validate_mark, validate_marks}
@@ -86,14 +88,14 @@ module _ (s : Settings) (w : View) where
 
   -- as one step
   measured_by : List ℕ → Measured → Measured
-  measured_by l x = record { marks = l; residuals = x.residuals; boundary = x.boundary }
+  measured_by l x = record { marks = l; boundary = x.boundary }
 
   by_parts : (cell : ℕ → Cell) → measured_by (point_marks s w cell) (validated_of s w cell) ≡ measured_of s w cell
   unfolding measured_of validated_of measured_by
   by_parts cell = refl
 
   pub measured-is : (cell : ℕ → Cell) {v : Measured} {m : List ℕ} → v ≡ validated_of s w cell → m ≡ point_marks s w cell
-      → ◌≡◌ {A = Measured} (record { marks = m; residuals = v.residuals; boundary = v.boundary }) (measured_of s w cell)
+      → ◌≡◌ {A = Measured} (record { marks = m; boundary = v.boundary }) (measured_of s w cell)
   unfolding measured_by
   measured-is cell {v} {m} e f = ap (measured_by m) e ∙ ap (λ (l : List ℕ). measured_by l (validated_of s w cell)) f ∙ by_parts cell
 
@@ -156,21 +158,22 @@ module _ (s : Settings) (w : View) where
 
   -- ---- both
 
-  judged_by : Measured → List Figures → DropSet → Judged
-  judged_by m f d = record { marks = d.marks; components = d.components; rounds = d.rounds; tally = d.tally; residuals = m.residuals; figures = f; boundary = m.boundary }
+  judged_by : Measured → List Residual → List Figures → DropSet → Judged
+  judged_by m r f d = record { marks = d.marks; components = d.components; rounds = d.rounds; tally = d.tally; residuals = r; figures = f; boundary = m.boundary }
 
-  both-parts : (cell : ℕ → Cell) (strength : List Float) → judged_by (measured_of s w cell) (figures_of s w) (patched_of s w strength (measured_of s w cell).marks) ≡ judged_of s w cell strength
+  both-parts : (cell : ℕ → Cell) (strength : List Float) → judged_by (measured_of s w cell) (residuals_of w cell) (figures_of s w) (patched_of s w strength (measured_of s w cell).marks) ≡ judged_of s w cell strength
   unfolding judged_of judged_by
   both-parts cell strength = refl
 
-  pub judged-is : (cell : ℕ → Cell) (strength : List Float) (counts : List ℕ) (measures : List Float) (m : Measured) {d : DropSet} → m ≡ measured_of s w cell → figures_in counts measures ≡ figures_of s w
+  pub judged-is : (cell : ℕ → Cell) (strength : List Float) (counts : List ℕ) (measures : List Float) (m : Measured) {r : List Residual} {d : DropSet} → m ≡ measured_of s w cell → r ≡ residuals_of w cell → figures_in counts measures ≡ figures_of s w
       → d ≡ patched_of s w strength m.marks
-      → judged_from (record { marks = d.marks; components = d.components; rounds = d.rounds; tally = d.tally; residuals = m.residuals; boundary = m.boundary }) counts measures ≡ judged_of s w cell strength
+      → judged_from (record { marks = d.marks; components = d.components; rounds = d.rounds; tally = d.tally; residuals = r; boundary = m.boundary }) counts measures ≡ judged_of s w cell strength
   unfolding judged_by judged_from
-  judged-is cell strength counts measures m e f g =
-      ap (judged_by m (figures_in counts measures)) g
-      ∙ ap (λ (x : List Figures). judged_by m x (patched_of s w strength m.marks)) f
-      ∙ ap (λ (x : Measured). judged_by x (figures_of s w) (patched_of s w strength x.marks)) e
+  judged-is cell strength counts measures m {r} e h f g =
+      ap (judged_by m r (figures_in counts measures)) g
+      ∙ ap (λ (x : List Figures). judged_by m r x (patched_of s w strength m.marks)) f
+      ∙ ap (λ (x : List Residual). judged_by m x (figures_of s w) (patched_of s w strength m.marks)) h
+      ∙ ap (λ (x : Measured). judged_by x (residuals_of w cell) (figures_of s w) (patched_of s w strength x.marks)) e
       ∙ both-parts cell strength
 
 -- there are at most as many patches as points

@@ -14,7 +14,8 @@ use Rattle.marks.specs.Filters.{validate, orientation, wrong, leaf, component}
 use Rattle.marks.specs.Marks.{is_set}
 use Rattle.marks.specs.Byte.{Marking, marked_by, marked_by_all}
 use Rattle.marks.specs.Tally.{counts_of}
-use Rattle.validate.specs.Validate.{validate_mark, residuals_of, figures_of, boundary_in}
+use Rattle.residuals.specs.ByIndex.{residuals_of}
+use Rattle.validate.specs.Validate.{validate_mark, figures_of, boundary_in}
 use Rattle.orientation.specs.Orientation.{orientation_mark}
 use Rattle.wrong_label_filters.specs.WrongLabel.{wrong_label_mark}
 use Rattle.strengths.specs.Weak.{weak_of}
@@ -104,13 +105,13 @@ module _ (s : Settings) (w : View) (cell : ℕ → Cell) where
 
   -- what the filters find that go by the points themselves
   unfoldable pub measured_of : Measured
-  unfolding point_marks residuals_of boundary_in
-  measured_of = record { marks = point_marks; residuals = (residuals_of s w cell).values; boundary = boundary_in s w cell }
+  unfolding point_marks boundary_in
+  measured_of = record { marks = point_marks; boundary = boundary_in s w cell }
 
   -- and with the others: the judged sheet
   unfoldable pub judged_of : List Float → Judged
-  unfolding measured_of patched_of figures_of
+  unfolding measured_of patched_of residuals_of figures_of
   judged_of strength =
       let m = measured_of in
       let d = patched_of s w strength m.marks in
-      record { marks = d.marks; components = d.components; rounds = d.rounds; tally = d.tally; residuals = m.residuals; figures = figures_of s w; boundary = m.boundary }
+      record { marks = d.marks; components = d.components; rounds = d.rounds; tally = d.tally; residuals = residuals_of w cell; figures = figures_of s w; boundary = m.boundary }

@@ -1,7 +1,7 @@
 // The filters of a sheet, in two steps: those that go by the points themselves, and those that go by what these leave. See specs/Filters.antt.
 #![tactic(auto)]
 
-ghost use Rattle.std.specs.Prelude.{◌≡◌, List, [], ◌∷◌, ℕ, ◌≤◌, Float};
+ghost use Rattle.std.specs.Prelude.{◌≡◌, List, [], ◌∷◌, ℕ, ◌≤◌, replicate, Float};
 ghost use Rattle.folds.specs.Column.{column};
 ghost use Rattle.folds.specs.Marked.{bit};
 ghost use Rattle.view.specs.View.{view_at, max_points, Ranked};
@@ -10,6 +10,8 @@ ghost use Rattle.marks.specs.Filters.{validate as Validate, orientation as Orien
 ghost use Rattle.marks.specs.Marks.{is_set};
 ghost use Rattle.marks.specs.Byte.{marked_by_all};
 ghost use Rattle.wrong_label_filters.specs.EdgesReady.{EdgesReady};
+ghost use Rattle.local_h.specs.declared.Residual.TheVariants.{NoFit};
+ghost use Rattle.residuals.specs.ByIndex.{residuals_of};
 ghost use Rattle.judged.specs.Columns.{Blank, figures_in};
 ghost use Rattle.validate.specs.Validate.{figures_of};
 ghost use Rattle.drop_set.specs.Given.{Celled, Weighed, Joined};
@@ -17,8 +19,9 @@ ghost use Rattle.drop_set.specs.Filters.{by_points, wrong_mark, no_leaves, peel_
 
 use components::ComponentFilter;
 use edges::{EDGES_SIZE, Edges};
-use judged::Measured;
 use judged::figures::{FigureCounts, FigureMeasures};
+use judged::{Measured, Terms};
+use local_h::ResidualColumn;
 use marks::{Tally, filters};
 use peel::Peeled;
 use sheet_file::{Fraction, Settings};
@@ -62,27 +65,30 @@ fn point_marks(validate: &Marks, orientation: &Marks, wrong: &Marks, n: usize) -
     marks::marked_by(&second, wrong, filters::WRONG, n)
 }
 
-// What the filters find that go by the points themselves, the edge figures into empty tables.
+// What the filters find that go by the points themselves, the edge figures into empty tables and the residuals into a column that has none.
 pub fn measure(
-    s: Settings,
+    t: Terms,
     ranks: &Ranks,
     keys: &Words,
     x: &Floats,
     y: &Floats,
-    n: usize,
     counts: &mut FigureCounts,
     measures: &mut FigureMeasures,
+    residuals: &mut ResidualColumn,
 ) -> Measured
-    requires { Celled n ranks.now keys.now x.now y.now × Blank counts.old measures.old }
-    ensures findings { result ≡ measured_of s (view_at n ranks.now x.now y.now) (cells_at keys.now) }
-    ensures figures { figures_in counts.new measures.new ≡ figures_of s (view_at n ranks.now x.now y.now) }
+    requires { Celled t.count ranks.now keys.now x.now y.now × Blank counts.old measures.old × (residuals.old ≡ replicate max_points NoFit) }
+    ensures findings { result ≡ measured_of t.settings (view_at t.count ranks.now x.now y.now) (cells_at keys.now) }
+    ensures residuals { residuals.new ≡ residuals_of (view_at t.count ranks.now x.now y.now) (cells_at keys.now) }
+    ensures figures { figures_in counts.new measures.new ≡ figures_of t.settings (view_at t.count ranks.now x.now y.now) }
 {
+    let s = t.settings;
+    let n = t.count;
     let none = edges::no_edge();
     let mut edges = [none; EDGES_SIZE];
     edges::fill(ranks, x, y, n, &mut edges);
     let gate = s.edge_shape;
     validate::edge_figures(gate, ranks, x, y, &edges, n, counts, measures);
-    let mut j = validate::validate(s, ranks, keys, x, y, n, counts);
+    let mut j = validate::validate(s, ranks, keys, x, y, n, counts, residuals);
     let orientation = orientation::lattice_orientation_drops(ranks, x, y, n);
     let wrong = wrong_marks(s, ranks, x, y, &edges, n);
     let validated = j.marks;

@@ -12,19 +12,12 @@ ghost use Rattle.drop_set.specs.Filters.{sides_of, judged_of};
 ghost use Rattle.drop_set.specs.Given.{Celled, Weighed};
 ghost use Rattle.judging.specs.Judging.{Arrays, judged_by};
 
-use judged::Findings;
 use judged::figures::{FigureCounts, FigureMeasures};
+use judged::{Findings, Terms};
+use local_h::Residual;
 use predict::Fills;
 use ruling::Sheet;
-use sheet_file::Settings;
-use view::{Floats, Marks, RANKS_SIZE, Ranks, Words};
-
-// The settings of a sheet, and how many points it has.
-#[derive(Clone, Copy)]
-pub struct Terms {
-    pub settings: Settings,
-    pub count: usize,
-}
+use view::{Floats, MAX_POINTS, Marks, RANKS_SIZE, Ranks, Words};
 
 // The judged sheet of points in cell order with their table of ranks, its edge figures into empty tables.
 pub fn judge_ranked<'a>(
@@ -42,12 +35,12 @@ pub fn judge_ranked<'a>(
 {
     let s = t.settings;
     let n = t.count;
-    let m = drop_set::measure(s, ranks, keys, x, y, n, counts, measures);
+    let mut residuals = [Residual::NoFit; MAX_POINTS];
+    let m = drop_set::measure(t, ranks, keys, x, y, counts, measures, &mut residuals);
     let measured = m.marks;
     let d = drop_set::drop_patches(s, ranks, strength, &measured, n);
     let marks = d.marks;
     let tally = d.tally;
-    let residuals = m.residuals;
     let boundary = m.boundary;
     Findings {
         marks,

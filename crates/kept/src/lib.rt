@@ -6,8 +6,8 @@ ghost use Rattle.ruling.specs.Ruling.{ruling_of};
 ghost use Rattle.ruling.specs.Sheet.{Ruled};
 ghost use Rattle.kept.specs.Answer.{answer_of, kept_of, rows_after};
 
+use judged::Terms;
 use judged::figures::{FIGURE_COUNTS_SIZE, FIGURE_MEASURES_SIZE};
-use judging::Terms;
 use marks::{COUNTS, Tally};
 use ruling::Sheet;
 

@@ -1,27 +1,30 @@
 -- From the residuals of ranks to those of their indices. Assumes nothing.
 use mathlib.Core.Bool.{Bool, true, false, cond, ◌&&◌}
-use mathlib.Core.List.{List}
+use mathlib.Core.List.{List, ◌++◌}
 use mathlib.Core.Path.{◌≡◌, refl, ap, ◌∙◌}
-use Prim.Native.Nat.{ℕ, zero, suc, ◌≤◌, ◌<◌}
+use Prim.Native.Nat.{ℕ, zero, suc, ◌-◌, ◌≤◌, ◌<◌}
 use native.Mathlib.Omega.{arith}
 use lib.Dec.{ltb}
 use lib.ListN.{get_or, replicate, length-replicate, get_or-replicate}
+use lib.Seq.{drop-append_seam}
 use lib.Ieee.{Float}
 use borrow.Author.Tests.{lt-ltb, le-ltb, ltb-true}
 use Rattle.folds.specs.Below.{fold, turn, last}
 use Rattle.folds.proofs.Below.{last-ext, and-swap}
-use Rattle.folds.specs.Column.{column}
+use Rattle.folds.specs.Lists.{list_of}
+use Rattle.folds.proofs.Lists.{length-list}
+use Rattle.folds.specs.Column.{column, overlaid}
 use Rattle.folds.proofs.Column.{column-at, column-ext}
 use Rattle.folds.specs.Scattered.{Scattered, counts}
 use Rattle.view.specs.View.{View, max_points, alike}
-use Rattle.cells.specs.Cell.{Cell}
 use Rattle.marks.specs.Marks.{index_marks}
 use Rattle.marks.proofs.Guards.{index-marks}
+use Rattle.cells.specs.Cell.{Cell}
+use Rattle.local_h.specs.Residual.{residual_at}
 use Rattle.local_h.specs.declared.Residual.{Residual}
 use Rattle.local_h.specs.declared.Residual.TheVariants.{NoFit}
-use Rattle.local_h.specs.Residual.{residual_at}
-use Rattle.residuals.specs.declared.Residuals.{Residuals}
-use Rattle.residuals.specs.ByIndex.{has_value, last_fit, index_residual, over_at, high_at, cell_columns, index_columns}
+use Rattle.residuals.specs.declared.Flags.{Flags}
+use Rattle.residuals.specs.ByIndex.{has_value, last_fit, index_residual, residuals_of, over_at, high_at, rank_flags, index_flags}
 
 -- of values stored over each other the last stays
 fold-value : (p : ℕ → Bool) (f : ℕ → Residual) (d : Residual) (e n : ℕ) → n ≤ e → fold (turn p (λ k x. f k)) d n ≡ cond (ltb (last p e n) e) (f (last p e n)) d
@@ -32,6 +35,11 @@ fold-value p f d e (suc n) h = go (p n) (fold-value p f d e n (omega arith))
     go : (b : Bool) → fold (turn p (λ k x. f k)) d n ≡ cond (ltb (last p e n) e) (f (last p e n)) d → cond b (f n) (fold (turn p (λ k x. f k)) d n) ≡ cond (ltb (cond b n (last p e n)) e) (f (cond b n (last p e n))) d
     go true r = rw (lt-ltb n e (omega arith))
     go false r = r
+
+-- a column written over another
+column-over : (n : ℕ) (f g : ℕ → Residual) → overlaid n f (column max_points NoFit n g) ≡ column max_points NoFit n f
+unfolding overlaid column
+column-over n f g = ap (λ (l : List Residual). list_of n f ++ l) (rw (length-list n g) at (drop-append_seam (list_of n g) (replicate (max_points - n) NoFit)))
 
 module _ (w : View) where
   -- what is read for rank k at the place of its index
@@ -54,18 +62,18 @@ module _ (w : View) where
       go j true d = e j (ltb-true j w.count d)
       go j false d = refl
 
-  -- the three columns of the indices, from those of the ranks
-  module _ (cell : ℕ → Cell) (scale : ℕ → Float) (tolerance : Float) where
-    pub gathered : {cells : Residuals} {values : List Residual} {over high : List ℕ} → cells ≡ cell_columns w cell scale tolerance
-        → values ≡ column max_points NoFit w.count (index_residual w (λ (k : ℕ). get_or cells.values k NoFit))
-        → over ≡ index_marks w cells.over
-        → high ≡ index_marks w cells.high
-        → ◌≡◌ {A = Residuals} (record { values = values; over = over; high = high }) (index_columns w cell scale tolerance)
-    unfolding cell_columns index_columns
-    gathered {cells} e b c d =
-        let at : (k : ℕ) → k < w.count → get_or cells.values k NoFit ≡ residual_at w cell k = λ k l. rw e (column-at max_points NoFit w.count (residual_at w cell) k l) in
-        rw (
-          b ∙ column-ext max_points NoFit w.count _ _ (λ k l. residual-ext (λ (j : ℕ). get_or cells.values j NoFit) (residual_at w cell) at k),
-          c ∙ index-marks w (over_at w cell scale tolerance) cells.over (ap (λ (r : Residuals). r.over) e),
-          d ∙ index-marks w (high_at w cell scale tolerance) cells.high (ap (λ (r : Residuals). r.high) e),
-        )
+  module _ (cell : ℕ → Cell) where
+    -- the residuals of the indices, written over those of the ranks
+    pub residuals-are : {cells values : List Residual} → cells ≡ column max_points NoFit w.count (residual_at w cell) → values ≡ overlaid w.count (index_residual w (λ (k : ℕ). get_or cells k NoFit)) cells → values ≡ residuals_of w cell
+    unfolding residuals_of
+    residuals-are {cells} e f =
+        f ∙ rw e (column-over w.count _ (residual_at w cell))
+        ∙ column-ext max_points NoFit w.count _ _ (λ k h. residual-ext (λ (j : ℕ). get_or cells j NoFit) (residual_at w cell) (λ j l. rw e (column-at max_points NoFit w.count (residual_at w cell) j l)) k)
+
+  -- the flags of the indices, from those of the ranks
+  module _ (r : ℕ → Residual) where
+    pub flags-are : (scale : ℕ → Float) (tolerance : Float) {cells : Flags} {over high : List ℕ} → cells ≡ rank_flags r scale tolerance w.count → over ≡ index_marks w cells.over → high ≡ index_marks w cells.high
+        → ◌≡◌ {A = Flags} (record { over = over; high = high }) (index_flags r scale tolerance w)
+    unfolding rank_flags index_flags
+    flags-are scale tolerance {cells} e c d =
+        rw (c ∙ index-marks w (over_at r scale tolerance) cells.over (ap (λ (f : Flags). f.over) e), d ∙ index-marks w (high_at r scale tolerance) cells.high (ap (λ (f : Flags). f.high) e))

@@ -1,5 +1,5 @@
 -- What a rank, and its index, has of residuals. Assumes nothing.
-use Rattle.std.specs.Prelude.{Bool, true, false, cond, ◌&&◌, ℕ, ltb, Float}
+use Rattle.std.specs.Prelude.{Bool, true, false, cond, ◌&&◌, List, ℕ, ltb, Float}
 use Rattle.std.specs.Float.Ieee.{lt}
 use Rattle.folds.specs.Arith.{◌⊗◌}
 use Rattle.folds.specs.Below.{last}
@@ -11,7 +11,7 @@ use Rattle.cells.specs.Cell.{Cell}
 use Rattle.local_h.specs.Residual.{residual_at}
 use Rattle.local_h.specs.declared.Residual.{Residual}
 use Rattle.local_h.specs.declared.Residual.TheVariants.{Value, NoFit}
-use Rattle.residuals.specs.declared.Residuals.{Residuals}
+use Rattle.residuals.specs.declared.Flags.{Flags}
 
 abbrev pub has_value : Residual → Bool
 has_value (Value d) = true
@@ -36,27 +36,25 @@ module _ (w : View) (r : ℕ → Residual) where
   unfoldable pub index_residual : ℕ → Residual
   index_residual k = cond (ltb (last_fit k) w.count) (r (last_fit k)) NoFit
 
-module _ (w : View) (cell : ℕ → Cell) (scale : ℕ → Float) (tolerance : Float) where
+-- the residual of each rank's index
+unfoldable pub residuals_of : View → (ℕ → Cell) → List Residual
+residuals_of w cell = column max_points NoFit w.count (index_residual w (residual_at w cell))
+
+module _ (r : ℕ → Residual) (scale : ℕ → Float) (tolerance : Float) where
   abbrev pub over_at : ℕ → Bool
-  over_at k = exceeds (tolerance ⊗ scale k) (residual_at w cell k)
+  over_at k = exceeds (tolerance ⊗ scale k) (r k)
 
   abbrev pub high_at : ℕ → Bool
-  high_at k = is_high (tolerance ⊗ scale k) (residual_at w cell k)
+  high_at k = is_high (tolerance ⊗ scale k) (r k)
 
-  -- what each rank has
-  unfoldable pub cell_columns : Residuals
-  cell_columns =
-      record {
-        values = column max_points NoFit w.count (residual_at w cell);
-        over = column max_points 0 w.count (λ (k : ℕ). bit (over_at k));
-        high = column max_points 0 w.count (λ (k : ℕ). bit (high_at k));
-      }
+  -- the flags of each of n ranks
+  unfoldable pub rank_flags : ℕ → Flags
+  rank_flags n = record { over = column max_points 0 n (λ (k : ℕ). bit (over_at k)); high = column max_points 0 n (λ (k : ℕ). bit (high_at k)) }
 
-  -- what the index of each rank has: "a flag from any cell stays"
-  unfoldable pub index_columns : Residuals
-  index_columns =
+  -- those of the index of each rank: "a flag from any cell stays"
+  unfoldable pub index_flags : View → Flags
+  index_flags w =
       record {
-        values = column max_points NoFit w.count (index_residual w (residual_at w cell));
         over = column max_points 0 w.count (λ (k : ℕ). bit (index_has w over_at k));
         high = column max_points 0 w.count (λ (k : ℕ). bit (index_has w high_at k));
       }

@@ -1,6 +1,6 @@
 // The residuals of indices, from those of their ranks.
-ghost use Rattle.std.specs.Prelude.{◌≡◌, [], ℕ, ◌<◌, get_or, replicate};
-ghost use Rattle.folds.specs.Column.{column};
+ghost use Rattle.std.specs.Prelude.{◌≡◌, [], ℕ, ◌<◌, get_or};
+ghost use Rattle.folds.specs.Column.{overlaid};
 ghost use Rattle.folds.specs.Scattered.{Scattered};
 ghost use Rattle.view.specs.View.{max_points, view_at, Ranked};
 ghost use Rattle.local_h.specs.declared.Residual.TheVariants.{NoFit};
@@ -18,35 +18,32 @@ fn has_value(r: Residual) -> bool
     }
 }
 
-// At the place of each index the residual of its last rank that has one.
-fn last_values(ranks: &Ranks, values: &ResidualColumn, n: usize) -> ResidualColumn
+// Puts at the place of each index the residual of its last rank that has one.
+fn put_last(ranks: &Ranks, values: &ResidualColumn, n: usize, held: &mut ResidualColumn)
     requires { Ranked n ranks.now }
-    ensures { Scattered NoFit (view_at n ranks.now [] []).by_idx (λ k. has_value (get_or values.now k NoFit)) (λ k x. get_or values.now k NoFit) (replicate max_points NoFit) n result }
+    ensures { Scattered NoFit (view_at n ranks.now [] []).by_idx (λ k. has_value (get_or values.now k NoFit)) (λ k x. get_or values.now k NoFit) held.old n held.new }
 {
-    let mut out = [Residual::NoFit; MAX_POINTS];
     let mut i: usize = 0;
     while i < n {
         let k = i;
         i += 1;
         if has_value(values[k]) {
             let m = view::index_of(ranks, k);
-            out[m] = values[k];
+            held[m] = values[k];
         }
     }
-    out
 }
 
-// For each rank the residual of the last rank with its index that has one.
-pub fn values(ranks: &Ranks, values: &ResidualColumn, n: usize) -> ResidualColumn
+// Gives each rank the residual of the last rank with its index that has one.
+pub fn gather(ranks: &Ranks, n: usize, values: &mut ResidualColumn)
     requires { Ranked n ranks.now }
-    ensures { result ≡ column max_points NoFit n (index_residual (view_at n ranks.now [] []) (λ (k : ℕ). get_or values.now k NoFit)) }
+    ensures { values.new ≡ overlaid n (index_residual (view_at n ranks.now [] []) (λ (k : ℕ). get_or values.old k NoFit)) values.old }
 {
-    let held = last_values(ranks, values, n);
-    let mut out = [Residual::NoFit; MAX_POINTS];
+    let mut held = [Residual::NoFit; MAX_POINTS];
+    put_last(ranks, values, n, &mut held);
     let mut k: usize = 0;
     while k < n {
-        out[k] = held[view::index_of(ranks, k)];
+        values[k] = held[view::index_of(ranks, k)];
         k += 1;
     }
-    out
 }

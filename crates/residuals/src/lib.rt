@@ -1,22 +1,23 @@
 // The residuals of indices: "a residual comes from the last cell, in the order of the rows, having one", and a flag from any cell stays.
 #![tactic(auto)]
 
-ghost use Rattle.std.specs.Prelude.{◌≡◌, ℕ, ◌≤◌, get_or};
+ghost use Rattle.std.specs.Prelude.{◌≡◌, ℕ, ◌≤◌, get_or, replicate};
 ghost use Rattle.std.specs.Float.{nan};
-ghost use Rattle.folds.specs.Marked.{bit};
+ghost use Rattle.folds.specs.Column.{column};
 ghost use Rattle.view.specs.View.{max_points, view_at, Ranked};
 ghost use Rattle.cells.specs.Cell.{cells_at};
-ghost use Rattle.residuals.specs.ByIndex.{exceeds, is_high, cell_columns, index_columns};
+ghost use Rattle.local_h.specs.Residual.{residual_at};
+ghost use Rattle.local_h.specs.declared.Residual.TheVariants.{NoFit};
+ghost use Rattle.residuals.specs.ByIndex.{exceeds, is_high, residuals_of, rank_flags, index_flags};
 
 use local_h::{Residual, ResidualColumn};
 use view::{Floats, MAX_POINTS, Marks, Ranks, Words};
 
 mod by_index;
 
-// For each rank its residual; whether it is over the tolerance, and over twice the tolerance.
+// For each rank: whether a residual is over the tolerance, and over twice the tolerance.
 #[derive(Drop)]
-pub struct Residuals {
-    pub values: ResidualColumn,
+pub struct Flags {
     pub over: Marks,
     pub high: Marks,
 }
@@ -39,7 +40,7 @@ fn is_high(limit: f32, r: Residual) -> bool
     false
 }
 
-// The residual of each rank, and its flags: the tolerance times the scale of the rank's index is the limit.
+// The residual of each rank, into a column that has none, and its flags: the tolerance times the scale of the rank's index is the limit.
 fn cell_residuals(
     ranks: &Ranks,
     keys: &Words,
@@ -48,11 +49,12 @@ fn cell_residuals(
     scale: &Floats,
     n: usize,
     tolerance: f32,
-) -> Residuals
-    requires { n ≤ max_points }
-    ensures { result ≡ cell_columns (view_at n ranks.now x.now y.now) (cells_at keys.now) (λ (j : ℕ). get_or scale.now j nan) tolerance }
+    values: &mut ResidualColumn,
+) -> Flags
+    requires { (n ≤ max_points) × (values.old ≡ replicate max_points NoFit) }
+    ensures residuals { values.new ≡ column max_points NoFit n (residual_at (view_at n ranks.now x.now y.now) (cells_at keys.now)) }
+    ensures flags { result ≡ rank_flags (residual_at (view_at n ranks.now x.now y.now) (cells_at keys.now)) (λ (j : ℕ). get_or scale.now j nan) tolerance n }
 {
-    let mut values = [Residual::NoFit; MAX_POINTS];
     let mut over = [0u8; MAX_POINTS];
     let mut high = [0u8; MAX_POINTS];
     let mut k = 0;
@@ -64,14 +66,14 @@ fn cell_residuals(
         high[k] = marks::bit_of(is_high(limit, r));
         k += 1;
     }
-    Residuals {
-        values: values,
+    Flags {
         over: over,
         high: high,
     }
 }
 
-// For each rank what its index has: the residual of the index's last cell that has one, and the flags of any of its cells.
+// For each rank what its index has: the residual of the index's last cell that has one, into a column that has none, and the flags of any of
+// its cells.
 pub fn index_residuals(
     ranks: &Ranks,
     keys: &Words,
@@ -80,16 +82,17 @@ pub fn index_residuals(
     scale: &Floats,
     n: usize,
     tolerance: f32,
-) -> Residuals
-    requires { Ranked n ranks.now }
-    ensures { result ≡ index_columns (view_at n ranks.now x.now y.now) (cells_at keys.now) (λ (j : ℕ). get_or scale.now j nan) tolerance }
+    values: &mut ResidualColumn,
+) -> Flags
+    requires { Ranked n ranks.now × (values.old ≡ replicate max_points NoFit) }
+    ensures residuals { values.new ≡ residuals_of (view_at n ranks.now x.now y.now) (cells_at keys.now) }
+    ensures flags { result ≡ index_flags (residual_at (view_at n ranks.now x.now y.now) (cells_at keys.now)) (λ (j : ℕ). get_or scale.now j nan) tolerance (view_at n ranks.now x.now y.now) }
 {
-    let cells = cell_residuals(ranks, keys, x, y, scale, n, tolerance);
-    let values = cells.values;
+    let cells = cell_residuals(ranks, keys, x, y, scale, n, tolerance, values);
     let over = cells.over;
     let high = cells.high;
-    Residuals {
-        values: by_index::values(ranks, &values, n),
+    by_index::gather(ranks, n, values);
+    Flags {
         over: marks::by_index(ranks, &over, n),
         high: marks::by_index(ranks, &high, n),
     }

@@ -13,8 +13,8 @@ ghost use Rattle.text.specs.Stored.{Stored};
 ghost use Rattle.sheet_fills.specs.Bytes.{signed_bytes, prediction_bytes, bytes_for, fills_bytes};
 ghost use Rattle.sheet_fills.specs.Answer.{as_rows, fill_ruling, fill_answer_of, fills_after};
 
+use judged::Terms;
 use judged::figures::{FIGURE_COUNTS_SIZE, FIGURE_MEASURES_SIZE};
-use judging::Terms;
 use predict::{Fills, PredictedPosition, Prediction};
 use ruling::{ROWS_SIZE, Sheet};
 use view::{MAX_POINTS, Marks, RANKS_SIZE, Words};

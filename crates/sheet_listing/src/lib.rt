@@ -4,8 +4,8 @@
 ghost use Rattle.text.specs.Answer.{Shows};
 ghost use Rattle.sheet_listing.specs.Text.{text_of};
 
+use judged::Terms;
 use judged::figures::{FIGURE_COUNTS_SIZE, FIGURE_MEASURES_SIZE};
-use judging::Terms;
 use ruling::ROWS_SIZE;
 use text::Written;
 use view::RANKS_SIZE;

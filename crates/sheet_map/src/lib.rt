@@ -6,8 +6,8 @@ ghost use Rattle.text.specs.Answer.{Shows};
 ghost use Rattle.sheet_map.specs.Text.{map_text_of};
 ghost use Rattle.sheet_map.specs.Table.{drawn_by};
 
+use judged::Terms;
 use judged::figures::{FIGURE_COUNTS_SIZE, FIGURE_MEASURES_SIZE};
-use judging::Terms;
 use map_lines::spans;
 use map_lines::spans::Axis;
 use ruling::ROWS_SIZE;

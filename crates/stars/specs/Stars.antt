@@ -15,12 +15,12 @@ use Rattle.sheet_file.specs.declared.Fraction.TheVariants.{Missing}
 use Rattle.sheet_file.specs.Refusals.{defaults_for}
 use Rattle.local_h.specs.declared.Residual.TheVariants.{NoFit}
 use Rattle.local_h.specs.Residual.{residuals-compute}
-use Rattle.residuals.specs.ByIndex.{has_value, last_fit, index_residual, index_columns}
+use Rattle.residuals.specs.ByIndex.{has_value, last_fit, index_residual, residuals_of, index_flags}
 use Rattle.lines.specs.Flags.{flag_count}
 use Rattle.step.specs.Step.{step_at, scale_at}
 use Rattle.step.specs.Deviation.{deviates}
 use Rattle.blame.specs.Marks.{is_marked}
-use Rattle.validate.specs.Validate.{steps_of, scales_of, flags_of, residuals_of, deviations_of, figures_of}
+use Rattle.validate.specs.Validate.{steps_of, scales_of, flags_of, residual_flags_of, deviations_of, figures_of}
 use Rattle.orientation.specs.Orientation.{vote_at}
 use Rattle.patches.specs.Patches.{labels_of}
 use Rattle.components.specs.Components.{patch_count, others_of}
@@ -42,7 +42,7 @@ pub record Said : Type 0 where
 
 -- This name on an `unfolding` line opens every definition that a judged sheet computes by.
 unfoldable pub rules-compute : Bool
-unfolding view_of cells_of defaults_for residuals-compute last_fit index_residual index_columns flag_count step_at scale_at deviates is_marked steps_of scales_of flags_of residuals_of deviations_of figures_of labels_of patch_count others_of index_marks judged_for sort number_for
+unfolding view_of cells_of defaults_for residuals-compute last_fit index_residual residuals_of index_flags flag_count step_at scale_at deviates is_marked steps_of scales_of flags_of residual_flags_of deviations_of figures_of labels_of patch_count others_of index_marks judged_for sort number_for
 rules-compute = true
 
 -- "Cell size 100, defaults"

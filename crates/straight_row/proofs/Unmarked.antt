@@ -28,11 +28,12 @@ use Rattle.marks.specs.Filters.{validate, orientation, wrong}
 use Rattle.marks.specs.Byte.{with_mark, marked_by}
 use Rattle.step.specs.Step.{scale_at}
 use Rattle.lines.specs.Flags.{LineRule, is_flagged, flag_count, flags_at, line_number}
-use Rattle.residuals.specs.ByIndex.{over_at, index_columns}
+use Rattle.local_h.specs.Residual.{residual_at}
+use Rattle.residuals.specs.ByIndex.{over_at, index_flags}
 use Rattle.blame.specs.Marks.{Evidence, rule1, rule2, rule3, rule4, is_visited, blamed, is_marked}
 use Rattle.edge_shape.specs.Figures.{no_figures}
 use Rattle.edge_shape.specs.declared.Figures.{Figures}
-use Rattle.validate.specs.Validate.{index_step, scales_of, index_scale, flags_of, residuals_of, evidence_of, figures_of, is_reason, has_reason, validate_mark}
+use Rattle.validate.specs.Validate.{index_step, scales_of, index_scale, flags_of, residual_flags_of, evidence_of, figures_of, is_reason, has_reason, validate_mark}
 use Rattle.orientation.specs.Orientation.{orientation_mark}
 use Rattle.wrong_label_filters.specs.Judged.{edge_mark}
 use Rattle.close_pairs.specs.Close.{close_mark}
@@ -128,11 +129,11 @@ module _ (s : Settings) (w : View) (cell : ℕ → Cell) (p : Plain s) (r : Row 
   unfolding figures_of
   no-reason = rw p.ungated (column-has (λ (f : Figures). is_reason f.reason ≡ false) no_figures w.count (λ (k : ℕ). no_figures) refl (λ k h. refl))
 
-  none_over : (m : ℕ) → get_or (residuals_of s w cell).over m 0 ≡ 0
-  unfolding residuals_of index_columns
+  none_over : (m : ℕ) → get_or (residual_flags_of s w cell).over m 0 ≡ 0
+  unfolding residual_flags_of index_flags
   none_over =
-      zeros w.count (λ (k : ℕ). bit (index_has w (over_at w cell (index_scale s w) s.local_h_tol_rel) k))
-      (λ k h. ap bit (some-no (λ (j : ℕ). over_at w cell (index_scale s w) s.local_h_tol_rel j && alike w j k) w.count (λ j l. rw (no-residual w r j l cell))))
+      zeros w.count (λ (k : ℕ). bit (index_has w (over_at (residual_at w cell) (index_scale s w) s.local_h_tol_rel) k))
+      (λ k h. ap bit (some-no (λ (j : ℕ). over_at (residual_at w cell) (index_scale s w) s.local_h_tol_rel j && alike w j k) w.count (λ j l. rw (no-residual w r j l cell))))
 
   pub no-validate : (k : ℕ) → validate_mark s w cell k ≡ false
   unfolding validate_mark

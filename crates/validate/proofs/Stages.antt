@@ -20,31 +20,31 @@ use Rattle.sheet_file.specs.declared.EdgeGate.TheVariants.{Off, On}
 use Rattle.step.specs.Step.{step_at, scale_at}
 use Rattle.step.specs.Deviation.{deviates}
 use Rattle.lines.specs.Flags.{flags_at}
-use Rattle.residuals.specs.ByIndex.{index_columns}
-use Rattle.residuals.specs.declared.Residuals.{Residuals}
+use Rattle.local_h.specs.Residual.{residual_at}
+use Rattle.residuals.specs.ByIndex.{index_flags}
+use Rattle.residuals.specs.declared.Flags.{Flags}
 use Rattle.blame.specs.Marks.{evidence_by, is_marked, blame_marks}
 use Rattle.edge_shape.specs.Figures.{no_figures, index_figures}
 use Rattle.edge_shape.specs.declared.Figures.{Figures}
 use Rattle.edge_shape.specs.declared.Reason.{Reason}
 use Rattle.patches.specs.Boxes.{boundary_of}
-use Rattle.validate.specs.declared.ByRules.{ByRules}
 use Rattle.judged.specs.declared.Measured.{Measured}
 use Rattle.judged.specs.Columns.{Blank, reason_from, figures_in}
 use Rattle.judged.proofs.Columns.{blank-in}
-use Rattle.validate.specs.Validate.{steps_of, scales_of, flags_of, residuals_of, deviations_of, evidence_of, gate_figures, gate_boundary, figures_of, boundary_in, is_reason, validate_mark, validate_marks}
-use Rattle.validate.specs.Parts.{by_rules_of, validated_of}
+use Rattle.validate.specs.Validate.{steps_of, scales_of, flags_of, residual_flags_of, deviations_of, evidence_of, gate_figures, gate_boundary, figures_of, boundary_in, is_reason, validate_mark, validate_marks}
+use Rattle.validate.specs.Parts.{validated_of}
 
 module _ (s : Settings) (w : View) (cell : ℕ → Cell) where
   -- rules 1 to 4
-  pub rules-are : {steps scales : List Float} {flags deviations marks : List ℕ} {r : Residuals}
+  pub rules-are : {steps scales : List Float} {flags deviations marks : List ℕ} {r : Flags}
       → steps ≡ column max_points nan w.count (step_at w s.use_step_aware)
       → scales ≡ column max_points nan w.count (scale_at w (λ (m : ℕ). get_or steps m nan) s.cell_size)
       → flags ≡ column max_points 0 w.count (flags_at w (λ (k : ℕ). get_or scales k nan) s.line_tol_rel s.line_min_members)
-      → r ≡ index_columns w cell (λ (j : ℕ). get_or scales j nan) s.local_h_tol_rel
+      → r ≡ index_flags (residual_at w cell) (λ (j : ℕ). get_or scales j nan) s.local_h_tol_rel w
       → deviations ≡ column max_points 0 w.count (λ (m : ℕ). bit (deviates (λ (k : ℕ). get_or steps k nan) w.count s.step_deviation_thresh_rel m))
       → marks ≡ blame_marks w (evidence_by flags r.over r.high deviations)
-      → ◌≡◌ {A = ByRules} (record { marks = marks; residuals = r.values }) (by_rules_of s w cell)
-  unfolding steps_of scales_of flags_of residuals_of deviations_of
+      → marks ≡ blame_marks w (evidence_of s w cell)
+  unfolding steps_of scales_of flags_of residual_flags_of deviations_of
   rules-are st sc fl re de ma = rw (ma, de, re, fl, sc, st)
 
   -- the marks of rules 1 to 4 are read as the rules
@@ -53,10 +53,10 @@ module _ (s : Settings) (w : View) (cell : ℕ → Cell) where
   marked-is k l = set_is max_points w.count (λ (j : ℕ). is_marked w (evidence_of s w cell) (w.by_idx j)) (blame_marks w (evidence_of s w cell)) refl k l
 
   -- with rule 5
-  pub all_are : (counts : List ℕ) {r : ByRules} {boundary marks : List ℕ} → r ≡ by_rules_of s w cell
+  pub all_are : (counts : List ℕ) {ruled boundary marks : List ℕ} → ruled ≡ blame_marks w (evidence_of s w cell)
       → ((k : ℕ) → k < w.count → reason_from counts k ≡ (get_or (figures_of s w) k no_figures).reason) → boundary ≡ gate_boundary s.edge_shape w cell
-      → marks ≡ column max_points 0 w.count (λ (k : ℕ). bit (is_set r.marks k || is_reason (reason_from counts k)))
-      → ◌≡◌ {A = Measured} (record { marks = marks; residuals = r.residuals; boundary = boundary }) (validated_of s w cell)
+      → marks ≡ column max_points 0 w.count (λ (k : ℕ). bit (is_set ruled k || is_reason (reason_from counts k)))
+      → ◌≡◌ {A = Measured} (record { marks = marks; boundary = boundary }) (validated_of s w cell)
   unfolding validated_of validate_marks validate_mark boundary_in
   all_are counts e f g h =
       rw (

@@ -13,8 +13,9 @@ use Rattle.sheet_file.specs.declared.EdgeGate.TheVariants.{Off, On}
 use Rattle.step.specs.Step.{step_at, scale_at}
 use Rattle.step.specs.Deviation.{deviates}
 use Rattle.lines.specs.Flags.{flags_at}
-use Rattle.residuals.specs.ByIndex.{index_columns}
-use Rattle.residuals.specs.declared.Residuals.{Residuals}
+use Rattle.local_h.specs.Residual.{residual_at}
+use Rattle.residuals.specs.ByIndex.{index_flags}
+use Rattle.residuals.specs.declared.Flags.{Flags}
 use Rattle.blame.specs.Marks.{Evidence, evidence_by, is_marked}
 use Rattle.edge_shape.specs.Figures.{no_figures, index_figures, reason_number}
 use Rattle.edge_shape.specs.declared.Figures.{Figures}
@@ -70,13 +71,13 @@ module _ (s : Settings) (w : View) where
   figures_of = gate_figures s.edge_shape w
 
   module _ (cell : ℕ → Cell) where
-    -- the residual of each rank's index, and whether it is over the tolerance or over twice the tolerance
-    unfoldable pub residuals_of : Residuals
-    residuals_of = index_columns w cell index_scale s.local_h_tol_rel
+    -- whether a residual of each rank's index is over the tolerance, and over twice the tolerance
+    unfoldable pub residual_flags_of : Flags
+    residual_flags_of = index_flags (residual_at w cell) index_scale s.local_h_tol_rel w
 
     -- what rules 1 to 4 go by
     abbrev pub evidence_of : Evidence
-    evidence_of = evidence_by flags_of residuals_of.over residuals_of.high deviations_of
+    evidence_of = evidence_by flags_of residual_flags_of.over residual_flags_of.high deviations_of
 
     unfoldable pub boundary_in : List ℕ
     boundary_in = gate_boundary s.edge_shape w cell

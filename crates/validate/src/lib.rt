@@ -1,7 +1,7 @@
 // The validate mark of each index, its residual and its edge figures: rules 1 to 5 over lines, residuals, steps and edge shapes.
 #![tactic(auto)]
 
-ghost use Rattle.std.specs.Prelude.{◌≡◌, ◌||◌, List, ℕ, ◌≤◌, eqb, Float};
+ghost use Rattle.std.specs.Prelude.{◌≡◌, ◌||◌, List, ℕ, ◌≤◌, eqb, replicate, Float};
 ghost use Rattle.folds.specs.Column.{column};
 ghost use Rattle.folds.specs.Marked.{bit};
 ghost use Rattle.marks.specs.Marks.{is_set};
@@ -10,8 +10,11 @@ ghost use Rattle.cells.specs.Cell.{cells_at};
 ghost use Rattle.edge_shape.specs.Given.{WithEdges};
 ghost use Rattle.patches.specs.Boxes.{CellKeys};
 ghost use Rattle.judged.specs.Columns.{Blank, reason_from, figures_in};
-ghost use Rattle.validate.specs.Validate.{is_reason, gate_figures, gate_boundary};
-ghost use Rattle.validate.specs.Parts.{Prepared, by_rules_of, validated_of};
+ghost use Rattle.local_h.specs.declared.Residual.TheVariants.{NoFit};
+ghost use Rattle.blame.specs.Marks.{blame_marks};
+ghost use Rattle.residuals.specs.ByIndex.{residuals_of};
+ghost use Rattle.validate.specs.Validate.{evidence_of, is_reason, gate_figures, gate_boundary};
+ghost use Rattle.validate.specs.Parts.{Prepared, validated_of};
 
 use edge_shape::Reason;
 use edges::Edges;
@@ -21,28 +24,29 @@ use local_h::ResidualColumn;
 use sheet_file::{EdgeGate, Settings};
 use view::{Floats, MAX_POINTS, Marks, Ranks, Words};
 
-// What rules 1 to 4 give: the mark of each rank's index, and its residual.
-#[derive(Drop)]
-struct ByRules {
-    marks: Marks,
-    residuals: ResidualColumn,
-}
-
-// Rules 1 to 4.
-fn by_rules(s: Settings, ranks: &Ranks, keys: &Words, x: &Floats, y: &Floats, n: usize) -> ByRules
-    requires { Ranked n ranks.now }
-    ensures { result ≡ by_rules_of s (view_at n ranks.now x.now y.now) (cells_at keys.now) }
+// Rules 1 to 4: the mark of each rank's index, and its residual, into a column that has none.
+fn by_rules(
+    s: Settings,
+    ranks: &Ranks,
+    keys: &Words,
+    x: &Floats,
+    y: &Floats,
+    n: usize,
+    residuals: &mut ResidualColumn,
+) -> Marks
+    requires { Ranked n ranks.now × (residuals.old ≡ replicate max_points NoFit) }
+    ensures marks { result ≡ blame_marks (view_at n ranks.now x.now y.now) (evidence_of s (view_at n ranks.now x.now y.now) (cells_at keys.now)) }
+    ensures residuals { residuals.new ≡ residuals_of (view_at n ranks.now x.now y.now) (cells_at keys.now) }
 {
     let steps = step::steps(ranks, x, y, n, s.use_step_aware);
     let scales = step::scales(ranks, &steps, n, s.cell_size);
     let flags = lines::line_flags(ranks, x, y, &scales, n, s.line_tol_rel, s.line_min_members);
-    let r = residuals::index_residuals(ranks, keys, x, y, &scales, n, s.local_h_tol_rel);
-    let residuals = r.values;
+    let tolerance = s.local_h_tol_rel;
+    let r = residuals::index_residuals(ranks, keys, x, y, &scales, n, tolerance, residuals);
     let over = r.over;
     let high = r.high;
     let deviates = step::deviations(&steps, n, s.step_deviation_thresh_rel);
-    let marks = blame::marks(ranks, &flags, &over, &high, &deviates, n);
-    ByRules { marks, residuals }
+    blame::marks(ranks, &flags, &over, &high, &deviates, n)
 }
 
 // The edge figures of each rank's index, into empty tables; none without a gate.
@@ -109,8 +113,8 @@ fn with_reasons(mark: &Marks, counts: &FigureCounts, n: usize) -> Marks
     out
 }
 
-// For each rank the validate mark of its index, which is 0 or 1, and the residual: a judged sheet as far as it goes by these. The table of
-// counts has the edge reasons.
+// For each rank the validate mark of its index, which is 0 or 1, and the residual, into a column that has none: a judged sheet as far as it
+// goes by these. The table of counts has the edge reasons.
 pub fn validate(
     s: Settings,
     ranks: &Ranks,
@@ -119,17 +123,16 @@ pub fn validate(
     y: &Floats,
     n: usize,
     counts: &FigureCounts,
+    residuals: &mut ResidualColumn,
 ) -> Measured
-    requires { Prepared s n ranks.now keys.now x.now y.now counts.now }
-    ensures { result ≡ validated_of s (view_at n ranks.now x.now y.now) (cells_at keys.now) }
+    requires { Prepared s n ranks.now keys.now x.now y.now counts.now × (residuals.old ≡ replicate max_points NoFit) }
+    ensures measured { result ≡ validated_of s (view_at n ranks.now x.now y.now) (cells_at keys.now) }
+    ensures residuals { residuals.new ≡ residuals_of (view_at n ranks.now x.now y.now) (cells_at keys.now) }
 {
     let gate = s.edge_shape;
-    let r = by_rules(s, ranks, keys, x, y, n);
-    let ruled = r.marks;
-    let residuals = r.residuals;
+    let ruled = by_rules(s, ranks, keys, x, y, n, residuals);
     Measured {
         marks: with_reasons(&ruled, counts, n),
-        residuals,
         boundary: boundary_by(gate, ranks, keys, n),
     }
 }

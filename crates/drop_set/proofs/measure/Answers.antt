@@ -14,12 +14,14 @@ edge_figures-requires c = (record { ranked = c.requires.0.ready.ranked; held = c
 
 pub validate-j-requires : goal.validate-j-requires
 validate-j-requires c =
-    let a = c.args in
-    record {
-      ready = c.requires.0.ready;
-      cells = c.requires.0.cells;
-      reasons = reasons-read a.s (view_at a.n a.ranks.now a.x.now a.y.now) _ _ c.edge_figures.ensures c.requires.0.ready.ranked.few;
-    }
+    let a = c.args in (
+      record {
+        ready = c.requires.0.ready;
+        cells = c.requires.0.cells;
+        reasons = reasons-read a.t.settings (view_at a.t.count a.ranks.now a.x.now a.y.now) _ _ c.edge_figures.ensures c.requires.0.ready.ranked.few;
+      },
+      c.requires.2,
+    )
 
 pub wrong_marks-wrong-requires : goal.wrong_marks-wrong-requires
 wrong_marks-wrong-requires c = record { ready = c.requires.0.ready; edges_are = c.fill.ensures }
@@ -27,8 +29,9 @@ wrong_marks-wrong-requires c = record { ready = c.requires.0.ready; edges_are = 
 pub returns : goal.returns
 returns c =
     let a = c.args in
-    let view : View = view_at a.n a.ranks.now a.x.now a.y.now in
+    let s = a.t.settings in
+    let view : View = view_at a.t.count a.ranks.now a.x.now a.y.now in
     let cell = cells_at a.keys.now in
     let v = c.validate-j.ensures in
-    let marks = points-are a.s view cell (marks-of a.s view cell v) c.lattice_orientation_drops-orientation.ensures c.wrong_marks-wrong.ensures c.point_marks-marks.ensures in
-    record { findings = measured-is a.s view cell v marks; figures = figures-are a.s view c.edge_figures.ensures }
+    let marks = points-are s view cell (marks-of s view cell v.measured) c.lattice_orientation_drops-orientation.ensures c.wrong_marks-wrong.ensures c.point_marks-marks.ensures in
+    record { findings = measured-is s view cell v.measured marks; residuals = v.residuals; figures = figures-are s view c.edge_figures.ensures }

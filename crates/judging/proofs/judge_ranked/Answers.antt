@@ -6,5 +6,6 @@ use Rattle.judging.proofs.judge_ranked.Goals as goal
 pub returns : goal.returns
 returns c =
     let a = c.args in
-    judged-is a.t.settings (view_at a.t.count a.ranks.now a.x.now a.y.now) (cells_at a.keys.now) a.strength.now _ _ _ c.measure-m.ensures.findings c.measure-m.ensures.figures
+    let m = c.measure-m.ensures in
+    judged-is a.t.settings (view_at a.t.count a.ranks.now a.x.now a.y.now) (cells_at a.keys.now) a.strength.now _ _ _ m.findings m.residuals m.figures
     (c.drop_patches-d.ensures a.x.now a.y.now)

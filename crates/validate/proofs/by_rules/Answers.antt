@@ -6,5 +6,9 @@ use Rattle.validate.proofs.by_rules.Goals as goal
 pub returns : goal.returns
 returns c =
     let a = c.args in
-    rules-are a.s (view_at a.n a.ranks.now a.x.now a.y.now) (cells_at a.keys.now) c.steps-steps.ensures (c.scales-scales.ensures a.x.now a.y.now)
-    c.line_flags-flags.ensures c.index_residuals-r.ensures c.deviations-deviates.ensures (c.marks-marks.ensures a.x.now a.y.now)
+    let r = c.index_residuals-r.ensures in
+    record {
+      marks = rules-are a.s (view_at a.n a.ranks.now a.x.now a.y.now) (cells_at a.keys.now) c.steps-steps.ensures (c.scales-scales.ensures a.x.now a.y.now)
+          c.line_flags-flags.ensures r.flags c.deviations-deviates.ensures (c.marks.ensures a.x.now a.y.now);
+      residuals = r.residuals;
+    }

@@ -1,20 +1,14 @@
-use Prim.Native.Nat.{◌<◌}
 use mathlib.Core.Path.{◌≡◌, sym, ◌∙◌}
 use native.Mathlib.Omega.{arith}
-use lib.ListN.{length-replicate}
 use Rattle.folds.proofs.Scattered.{scattered-none, scattered-skip, scattered-put}
-use Rattle.view.specs.View.{max_points}
-use Rattle.local_h.specs.declared.Residual.{Residual}
-use Rattle.local_h.specs.declared.Residual.TheVariants.{NoFit}
-use Rattle.residuals.proofs.by_index.last_values.Goals as goal
+use Rattle.residuals.proofs.by_index.put_last.Goals as goal
 
 pub loop-i-init : goal.loop-i-init
 loop-i-init c = (omega arith, scattered-none _ _ _ _ _)
 
 pub loop-i-preserved-then-has_value : goal.loop-i-preserved-then-has_value
 loop-i-preserved-then-has_value c =
-    let place : c.index_of-m.result < max_points = omega (arith, c.index_of-m.ensures, c.requires.few, c.requires.indices c.loop-i.i (omega arith)) in
-    (omega arith, scattered-put _ _ _ _ _ _ _ _ (omega (arith, place, length-replicate {A = Residual} max_points NoFit)) c.index_of-m.ensures (sym c.has_value.ensures ∙ c.if-has_value.true) c.loop-i.invariant.1)
+    (omega arith, scattered-put _ _ _ _ _ _ _ _ (omega (arith, c.index_of-m.ensures, c.requires.few, c.requires.indices c.loop-i.i (omega arith))) c.index_of-m.ensures (sym c.has_value.ensures ∙ c.if-has_value.true) c.loop-i.invariant.1)
 
 pub loop-i-preserved : goal.loop-i-preserved
 loop-i-preserved c =
