@@ -61,7 +61,7 @@ extern "C" {
 #define HIGLAUPTH_ROW_SIZE 28       /* a row */
 #define HIGLAUPTH_FILL_SIZE 20      /* a fill */
 #define HIGLAUPTH_MAP_SIZE 4860     /* 60 lines of a map: a buffer of this size always suffices */
-#define HIGLAUPTH_STACK_SIZE 745472 /* stack to have free; the note at the functions */
+#define HIGLAUPTH_STACK_SIZE 757760 /* stack to have free; the note at the functions */
 
 /* The rows of the most points, and as many fills: buffers of these sizes always suffice. */
 #define HIGLAUPTH_ROWS_SIZE (HIGLAUPTH_ROW_SIZE * HIGLAUPTH_MOST_POINTS)
