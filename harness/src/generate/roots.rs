@@ -1,10 +1,11 @@
 //! Numbers to take roots of, and sheets whose residuals are such roots: a corner amid four neighbours, off by chosen
 //! steps from where these place it, which is at the origin, so that the steps are its position.
 
+use super::small::sheet;
 use super::{accepted, changes, settings, Case, Kind};
 use crate::random::Random;
 use crate::shapes::any_bits;
-use crate::sheet::{Point, Rest, Settings, Sheet, Strengths};
+use crate::sheet::{Point, Rest, Sheet};
 
 /// Bits of f32: zeros, infinities, NaNs, and the least and the largest of each kind.
 pub const SPECIAL: [u32; 24] = [
@@ -157,18 +158,6 @@ fn about(r: &mut Random, (u, v): (i32, i32), (x, y): Steps, index: u32) -> Vec<P
         Point::new(u, v - 1, index + 2, x, y - b),
         Point::new(u, v + 1, index + 3, x, y + b),
     ]
-}
-
-fn sheet(cell_size: f32, points: Vec<Point>) -> Sheet {
-    Sheet {
-        settings: Settings {
-            cell_size,
-            rest: None,
-        },
-        gate: None,
-        points,
-        strengths: Strengths::Missing,
-    }
 }
 
 /// A corner amid four neighbours, and at times one at the corners of its cell.

@@ -3,7 +3,8 @@
 use crate::random::Random;
 use crate::sheet::{Gate, Point, Rest, Settings, Sheet, Strengths};
 
-fn sheet(cell_size: f32, points: Vec<Point>) -> Sheet {
+/// Of points alone, with short settings.
+pub(super) fn sheet(cell_size: f32, points: Vec<Point>) -> Sheet {
     Sheet {
         settings: Settings {
             cell_size,
