@@ -25,7 +25,7 @@ pub struct Measured {
 }
 
 // A judged sheet but for its edge figures: the same with the marks of all filters, how many patches the survivors have, how many rounds of the
-// peel removed something, and the tally.
+// peel removed something, the tally, and the residual of each rank's index.
 #[derive(Drop)]
 pub struct Findings {
     pub marks: Marks,

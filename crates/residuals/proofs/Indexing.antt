@@ -37,9 +37,9 @@ fold-value p f d e (suc n) h = go (p n) (fold-value p f d e n (omega arith))
     go false r = r
 
 -- a column written over another
-column-over : (n : ℕ) (f g : ℕ → Residual) → overlaid n f (column max_points NoFit n g) ≡ column max_points NoFit n f
+column-overlaid : (n : ℕ) (f g : ℕ → Residual) → overlaid n f (column max_points NoFit n g) ≡ column max_points NoFit n f
 unfolding overlaid column
-column-over n f g = ap (λ (l : List Residual). list_of n f ++ l) (rw (length-list n g) at (drop-append_seam (list_of n g) (replicate (max_points - n) NoFit)))
+column-overlaid n f g = ap (λ (l : List Residual). list_of n f ++ l) (rw (length-list n g) at (drop-append_seam (list_of n g) (replicate (max_points - n) NoFit)))
 
 module _ (w : View) where
   -- what is read for rank k at the place of its index
@@ -67,7 +67,7 @@ module _ (w : View) where
     pub residuals-are : {cells values : List Residual} → cells ≡ column max_points NoFit w.count (residual_at w cell) → values ≡ overlaid w.count (index_residual w (λ (k : ℕ). get_or cells k NoFit)) cells → values ≡ residuals_of w cell
     unfolding residuals_of
     residuals-are {cells} e f =
-        f ∙ rw e (column-over w.count _ (residual_at w cell))
+        f ∙ rw e (column-overlaid w.count _ (residual_at w cell))
         ∙ column-ext max_points NoFit w.count _ _ (λ k h. residual-ext (λ (j : ℕ). get_or cells j NoFit) (residual_at w cell) (λ j l. rw e (column-at max_points NoFit w.count (residual_at w cell) j l)) k)
 
   -- the flags of the indices, from those of the ranks

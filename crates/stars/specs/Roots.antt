@@ -1,25 +1,25 @@
--- A cross of five points, from the bytes of its file to the text that is printed, by computation: the four round the middle place it at
--- (100,100), and it is seen at (103,104). Assumes nothing.
-use Rattle.std.specs.Prelude.{◌≡◌, refl, List, [], ◌∷◌, ℕ}
+-- A residual as it is printed, from the points of a sheet, by computation: four neighbours place a corner at (100,100), and it is seen at
+-- (103,104). Assumes nothing.
+use Rattle.std.specs.Prelude.{◌≡◌, refl, List, [], ◌∷◌}
+use Rattle.cells.specs.Points.{Point}
+use Rattle.cells.specs.Cell.{cells_of}
+use Rattle.grid.specs.Views.{view_of}
+use Rattle.local_h.specs.Residual.{residual_at}
 use Rattle.text.specs.Text.{bytes}
-use Rattle.sheet_listing.specs.Text.{text_of}
-use Rattle.stars.specs.Stars.{rules-compute}
-use Rattle.stars.specs.Listed.{file-computes}
+use Rattle.listing.specs.Listing.{residual_text, distance_text}
+use Rattle.stars.specs.Stars.{pt, rules-compute}
 
--- length-4 settings with cell size 100; cells (0,1), (1,0), (1,1), (1,2), (2,1) with indices 10 to 14
-abbrev pub cross : List ℕ
+-- cells (0,1), (1,0), (1,1), (1,2), (2,1) with indices 10 to 14, in cell order
+abbrev pub cross : List Point
 cross =
-    1 ∷ 4 ∷ 0 ∷ 0 ∷ 0 ∷ 200 ∷ 66
-    ∷ 3 ∷ 100 ∷ 0
-    ∷ 0 ∷ 0 ∷ 0 ∷ 0 ∷ 1 ∷ 0 ∷ 0 ∷ 0 ∷ 10 ∷ 0 ∷ 0 ∷ 0 ∷ 0 ∷ 0 ∷ 0 ∷ 0 ∷ 0 ∷ 0 ∷ 200 ∷ 66
-    ∷ 1 ∷ 0 ∷ 0 ∷ 0 ∷ 0 ∷ 0 ∷ 0 ∷ 0 ∷ 11 ∷ 0 ∷ 0 ∷ 0 ∷ 0 ∷ 0 ∷ 200 ∷ 66 ∷ 0 ∷ 0 ∷ 0 ∷ 0
-    ∷ 1 ∷ 0 ∷ 0 ∷ 0 ∷ 1 ∷ 0 ∷ 0 ∷ 0 ∷ 12 ∷ 0 ∷ 0 ∷ 0 ∷ 0 ∷ 0 ∷ 206 ∷ 66 ∷ 0 ∷ 0 ∷ 208 ∷ 66
-    ∷ 1 ∷ 0 ∷ 0 ∷ 0 ∷ 2 ∷ 0 ∷ 0 ∷ 0 ∷ 13 ∷ 0 ∷ 0 ∷ 0 ∷ 0 ∷ 0 ∷ 200 ∷ 66 ∷ 0 ∷ 0 ∷ 72 ∷ 67
-    ∷ 2 ∷ 0 ∷ 0 ∷ 0 ∷ 1 ∷ 0 ∷ 0 ∷ 0 ∷ 14 ∷ 0 ∷ 0 ∷ 0 ∷ 0 ∷ 0 ∷ 72 ∷ 67 ∷ 0 ∷ 0 ∷ 200 ∷ 66
+    pt 0 1 10 0 0x42c8_0000
+    ∷ pt 1 0 11 0x42c8_0000 0
+    ∷ pt 1 1 12 0x42ce_0000 0x42d0_0000
+    ∷ pt 1 2 13 0x42c8_0000 0x4348_0000
+    ∷ pt 2 1 14 0x4348_0000 0x42c8_0000
     ∷ []
 
--- "the listing puts `=` directly after a residual whose remainder is 0": that of the middle point is the root of 3² + 4². Those of (0,1) and
--- (2,1) are exact too, those of (1,0) and (1,2) rounded.
-pub cross-printed : text_of cross ≡ bytes "points 5 components 1 rounds 0\n0 1 10 ----- - 43480000=\n1 0 11 ----- - 4347FFFF\n1 1 12 ----- - 40A00000=\n1 2 13 ----- - 43480001\n2 1 14 ----- - 43480000=\nkept 5 validate 0 orientation 0 wrong 0 leaf 0 component 0\n"
-unfolding text_of file-computes rules-compute
-cross-printed = refl
+-- "the listing puts `=` directly after a residual whose remainder is 0": this is the root of 3² + 4²
+pub middle-exact : residual_text (residual_at (view_of cross) (cells_of cross) 2) ≡ bytes "40A00000="
+unfolding distance_text rules-compute
+middle-exact = refl

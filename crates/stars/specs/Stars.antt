@@ -66,7 +66,7 @@ said_of settings ps =
     }
 
 -- a point without tag 4: its cell, its index, and the patterns of its position
-abbrev pt : ℕ → ℕ → ℕ → ℕ → ℕ → Point
+abbrev pub pt : ℕ → ℕ → ℕ → ℕ → ℕ → Point
 pt u v i x y = record { u = u; v = v; index = i; x = x; y = y; strength = 0 }
 
 abbrev pub says : ℕ → ℕ → List ℕ → List ℕ → List ℕ → List ℕ → List ℕ → Said
