@@ -1,7 +1,7 @@
 // The filters of a sheet, in two steps: those that go by the points themselves, and those that go by what these leave. See specs/Filters.antt.
 #![tactic(auto)]
 
-ghost use Rattle.std.specs.Prelude.{◌≡◌, List, [], ◌∷◌, ℕ, ◌≤◌, replicate, Float};
+ghost use Rattle.std.specs.Prelude.{◌≡◌, List, [], ◌∷◌, ℕ, ◌≤◌, Float};
 ghost use Rattle.folds.specs.Column.{column};
 ghost use Rattle.folds.specs.Marked.{bit};
 ghost use Rattle.view.specs.View.{view_at, max_points, Ranked};
@@ -10,7 +10,6 @@ ghost use Rattle.marks.specs.Filters.{validate as Validate, orientation as Orien
 ghost use Rattle.marks.specs.Marks.{is_set};
 ghost use Rattle.marks.specs.Byte.{marked_by_all};
 ghost use Rattle.wrong_label_filters.specs.EdgesReady.{EdgesReady};
-ghost use Rattle.local_h.specs.declared.Residual.TheVariants.{NoFit};
 ghost use Rattle.residuals.specs.ByIndex.{residuals_of};
 ghost use Rattle.judged.specs.Columns.{Blank, figures_in};
 ghost use Rattle.validate.specs.Validate.{figures_of};
@@ -65,7 +64,8 @@ fn point_marks(validate: &Marks, orientation: &Marks, wrong: &Marks, n: usize) -
     marks::marked_by(&second, wrong, filters::WRONG, n)
 }
 
-// What the filters find that go by the points themselves, the edge figures into empty tables and the residuals into a column that has none.
+// What the filters find that go by the points themselves, the edge figures into empty tables and the residuals in the place of what stood in
+// the column.
 pub fn measure(
     t: Terms,
     ranks: &Ranks,
@@ -76,7 +76,7 @@ pub fn measure(
     measures: &mut FigureMeasures,
     residuals: &mut ResidualColumn,
 ) -> Measured
-    requires { Celled t.count ranks.now keys.now x.now y.now × Blank counts.old measures.old × (residuals.old ≡ replicate max_points NoFit) }
+    requires { Celled t.count ranks.now keys.now x.now y.now × Blank counts.old measures.old }
     ensures findings { result ≡ measured_of t.settings (view_at t.count ranks.now x.now y.now) (cells_at keys.now) }
     ensures residuals { residuals.new ≡ residuals_of (view_at t.count ranks.now x.now y.now) (cells_at keys.now) }
     ensures figures { figures_in counts.new measures.new ≡ figures_of t.settings (view_at t.count ranks.now x.now y.now) }

@@ -8,7 +8,7 @@ use standard_input::Input;
 fn print_map<R: Print + Eprint>(rt: &R, file: &[u8]) {
     let mut out = [0u8; MAP_SIZE];
     let written = sheet_map::draw_sheet(file, &mut out);
-    standard_output::print(rt, written, &out, "map: writing standard output");
+    standard_output::print(rt, written, &out, b"map: writing standard output");
 }
 
 fn main(rt: HostRuntime) {

@@ -1,7 +1,7 @@
 // The residuals of indices: "a residual comes from the last cell, in the order of the rows, having one", and a flag from any cell stays.
 #![tactic(auto)]
 
-ghost use Rattle.std.specs.Prelude.{◌≡◌, ℕ, ◌≤◌, get_or, replicate};
+ghost use Rattle.std.specs.Prelude.{◌≡◌, ℕ, ◌≤◌, get_or};
 ghost use Rattle.std.specs.Float.{nan};
 ghost use Rattle.folds.specs.Column.{column};
 ghost use Rattle.view.specs.View.{max_points, view_at, Ranked};
@@ -40,7 +40,8 @@ fn is_high(limit: f32, r: Residual) -> bool
     false
 }
 
-// The residual of each rank, into a column that has none, and its flags: the tolerance times the scale of the rank's index is the limit.
+// The residual of each rank, which takes the place of what stood in the column, and its flags: the tolerance times the scale of the rank's
+// index is the limit.
 fn cell_residuals(
     ranks: &Ranks,
     keys: &Words,
@@ -51,12 +52,13 @@ fn cell_residuals(
     tolerance: f32,
     values: &mut ResidualColumn,
 ) -> Flags
-    requires { (n ≤ max_points) × (values.old ≡ replicate max_points NoFit) }
+    requires { n ≤ max_points }
     ensures residuals { values.new ≡ column max_points NoFit n (residual_at (view_at n ranks.now x.now y.now) (cells_at keys.now)) }
     ensures flags { result ≡ rank_flags (residual_at (view_at n ranks.now x.now y.now) (cells_at keys.now)) (λ (j : ℕ). get_or scale.now j nan) tolerance n }
 {
     let mut over = [0u8; MAX_POINTS];
     let mut high = [0u8; MAX_POINTS];
+    *values = [Residual::NoFit; MAX_POINTS];
     let mut k = 0;
     while k < n {
         let r = local_h::local_h_residual(ranks, keys, x, y, n, k);
@@ -72,8 +74,8 @@ fn cell_residuals(
     }
 }
 
-// For each rank what its index has: the residual of the index's last cell that has one, into a column that has none, and the flags of any of
-// its cells.
+// For each rank what its index has: the residual of the index's last cell that has one, in the place of what stood in the column, and the
+// flags of any of its cells.
 pub fn index_residuals(
     ranks: &Ranks,
     keys: &Words,
@@ -84,7 +86,7 @@ pub fn index_residuals(
     tolerance: f32,
     values: &mut ResidualColumn,
 ) -> Flags
-    requires { Ranked n ranks.now × (values.old ≡ replicate max_points NoFit) }
+    requires { Ranked n ranks.now }
     ensures residuals { values.new ≡ residuals_of (view_at n ranks.now x.now y.now) (cells_at keys.now) }
     ensures flags { result ≡ index_flags (residual_at (view_at n ranks.now x.now y.now) (cells_at keys.now)) (λ (j : ℕ). get_or scale.now j nan) tolerance (view_at n ranks.now x.now y.now) }
 {

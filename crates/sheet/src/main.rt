@@ -8,7 +8,7 @@ use standard_input::Input;
 fn print_listing<R: Print + Eprint>(rt: &R, file: &[u8]) {
     let mut out = [0u8; LISTING_SIZE];
     let written = sheet_listing::list_sheet(file, &mut out);
-    standard_output::print(rt, written, &out, "sheet: writing standard output");
+    standard_output::print(rt, written, &out, b"sheet: writing standard output");
 }
 
 fn main(rt: HostRuntime) {

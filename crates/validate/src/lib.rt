@@ -1,7 +1,7 @@
 // The validate mark of each index, its residual and its edge figures: rules 1 to 5 over lines, residuals, steps and edge shapes.
 #![tactic(auto)]
 
-ghost use Rattle.std.specs.Prelude.{◌≡◌, ◌||◌, List, ℕ, ◌≤◌, eqb, replicate, Float};
+ghost use Rattle.std.specs.Prelude.{◌≡◌, ◌||◌, List, ℕ, ◌≤◌, eqb, Float};
 ghost use Rattle.folds.specs.Column.{column};
 ghost use Rattle.folds.specs.Marked.{bit};
 ghost use Rattle.marks.specs.Marks.{is_set};
@@ -10,7 +10,6 @@ ghost use Rattle.cells.specs.Cell.{cells_at};
 ghost use Rattle.edge_shape.specs.Given.{WithEdges};
 ghost use Rattle.patches.specs.Boxes.{CellKeys};
 ghost use Rattle.judged.specs.Columns.{Blank, reason_from, figures_in};
-ghost use Rattle.local_h.specs.declared.Residual.TheVariants.{NoFit};
 ghost use Rattle.blame.specs.Marks.{blame_marks};
 ghost use Rattle.residuals.specs.ByIndex.{residuals_of};
 ghost use Rattle.validate.specs.Validate.{evidence_of, is_reason, gate_figures, gate_boundary};
@@ -24,7 +23,7 @@ use local_h::ResidualColumn;
 use sheet_file::{EdgeGate, Settings};
 use view::{Floats, MAX_POINTS, Marks, Ranks, Words};
 
-// Rules 1 to 4: the mark of each rank's index, and its residual, into a column that has none.
+// Rules 1 to 4: the mark of each rank's index, and its residual, in the place of what stood in the column.
 fn by_rules(
     s: Settings,
     ranks: &Ranks,
@@ -34,7 +33,7 @@ fn by_rules(
     n: usize,
     residuals: &mut ResidualColumn,
 ) -> Marks
-    requires { Ranked n ranks.now × (residuals.old ≡ replicate max_points NoFit) }
+    requires { Ranked n ranks.now }
     ensures marks { result ≡ blame_marks (view_at n ranks.now x.now y.now) (evidence_of s (view_at n ranks.now x.now y.now) (cells_at keys.now)) }
     ensures residuals { residuals.new ≡ residuals_of (view_at n ranks.now x.now y.now) (cells_at keys.now) }
 {
@@ -113,8 +112,8 @@ fn with_reasons(mark: &Marks, counts: &FigureCounts, n: usize) -> Marks
     out
 }
 
-// For each rank the validate mark of its index, which is 0 or 1, and the residual, into a column that has none: a judged sheet as far as it
-// goes by these. The table of counts has the edge reasons.
+// For each rank the validate mark of its index, which is 0 or 1, and the residual, in the place of what stood in the column: a judged sheet
+// as far as it goes by these. The table of counts has the edge reasons.
 pub fn validate(
     s: Settings,
     ranks: &Ranks,
@@ -125,7 +124,7 @@ pub fn validate(
     counts: &FigureCounts,
     residuals: &mut ResidualColumn,
 ) -> Measured
-    requires { Prepared s n ranks.now keys.now x.now y.now counts.now × (residuals.old ≡ replicate max_points NoFit) }
+    requires { Prepared s n ranks.now keys.now x.now y.now counts.now }
     ensures measured { result ≡ validated_of s (view_at n ranks.now x.now y.now) (cells_at keys.now) }
     ensures residuals { residuals.new ≡ residuals_of (view_at n ranks.now x.now y.now) (cells_at keys.now) }
 {

@@ -8,7 +8,7 @@ use worst_sheet::WORST_SIZE;
 fn print_sheet<R: Print + Eprint>(rt: &R, argument: &[u8]) {
     let mut out = [0u8; WORST_SIZE];
     let written = worst_sheet::write_worst(argument, &mut out);
-    standard_output::print(rt, written, &out, "worst: writing standard output");
+    standard_output::print(rt, written, &out, b"worst: writing standard output");
 }
 
 // Whether there is no argument i.

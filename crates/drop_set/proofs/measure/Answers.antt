@@ -14,14 +14,12 @@ edge_figures-requires c = (record { ranked = c.requires.0.ready.ranked; held = c
 
 pub validate-j-requires : goal.validate-j-requires
 validate-j-requires c =
-    let a = c.args in (
-      record {
-        ready = c.requires.0.ready;
-        cells = c.requires.0.cells;
-        reasons = reasons-read a.t.settings (view_at a.t.count a.ranks.now a.x.now a.y.now) _ _ c.edge_figures.ensures c.requires.0.ready.ranked.few;
-      },
-      c.requires.2,
-    )
+    let a = c.args in
+    record {
+      ready = c.requires.0.ready;
+      cells = c.requires.0.cells;
+      reasons = reasons-read a.t.settings (view_at a.t.count a.ranks.now a.x.now a.y.now) _ _ c.edge_figures.ensures c.requires.0.ready.ranked.few;
+    }
 
 pub wrong_marks-wrong-requires : goal.wrong_marks-wrong-requires
 wrong_marks-wrong-requires c = record { ready = c.requires.0.ready; edges_are = c.fill.ensures }

@@ -14,7 +14,7 @@ pub loop-k-init : goal.loop-k-init
 loop-k-init c = (
   omega arith,
   record {
-    residuals = rw c.requires.1 (fill_start (replicate max_points NoFit) NoFit _);
+    residuals = fill_start (replicate max_points NoFit) NoFit _;
     overs = fill_start (replicate max_points 0) 0 _;
     highs = fill_start (replicate max_points 0) 0 _;
   },

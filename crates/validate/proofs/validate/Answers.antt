@@ -8,7 +8,7 @@ returns c =
     let a = c.args in
     let r = c.by_rules-ruled.ensures in
     record {
-      measured = all_are a.s (view_at a.n a.ranks.now a.x.now a.y.now) (cells_at a.keys.now) a.counts.now r.marks c.requires.0.reasons
+      measured = all_are a.s (view_at a.n a.ranks.now a.x.now a.y.now) (cells_at a.keys.now) a.counts.now r.marks c.requires.reasons
           (c.boundary_by.ensures a.x.now a.y.now) c.with_reasons.ensures;
       residuals = r.residuals;
     }
