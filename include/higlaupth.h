@@ -52,7 +52,7 @@ extern "C" {
 #define HIGLAUPTH_VERSION_MAJOR 5
 #define HIGLAUPTH_VERSION_MINOR 0
 #define HIGLAUPTH_VERSION_PATCH 1
-#define HIGLAUPTH_VERSION "5.0.1"
+#define HIGLAUPTH_VERSION "5.0.2"
 
 /* Sizes, in bytes but for the first three. */
 #define HIGLAUPTH_MOST_POINTS 2304  /* a sheet with more is refused */

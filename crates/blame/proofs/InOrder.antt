@@ -6,43 +6,46 @@ use mathlib.Core.Bool.{Bool, true, false, not, cond, ◌&&◌, ◌||◌, false�
 use mathlib.Core.List.Memᴰ
 use mathlib.Core.List.{List, [], ◌∷◌, Memᴰ}
 use Prim.Native.Nat.{ℕ, ◌<◌}
+use Rattle.std.specs.Prelude.{Option, Some, None}
 use native.Mathlib.Omega.{arith}
-use borrow.Author.Tests.{eqb-true, ne_eqb, ltb-true, lt-leb}
+use borrow.Author.Tests.{eqb-true, ltb-true, lt-leb}
 use lib.Dec.{eqb, ltb}
 use Rattle.folds.specs.Among.{any_in}
 use Rattle.folds.specs.Below.{some}
-use Rattle.folds.proofs.Below.{some-yes, some_at, or-false, and-false, and_right, both_ways, or-right-first}
+use Rattle.folds.proofs.Below.{some-yes, some_at, or-false, and-false, and_left, and_right, not-true, both_ways, or-right-first}
 use Rattle.folds.specs.Lists.{over}
-use Rattle.folds.specs.Scattered.{counts}
 use Rattle.view.specs.View.{View}
+use Rattle.marks.specs.Marks.{is_at}
 use Rattle.local_h.specs.Base.{member_at, base_of}
-use Rattle.local_h.specs.declared.Base.{Base}
 use Rattle.blame.specs.declared.Worst.{Worst}
-use Rattle.blame.specs.Marks.{Evidence, rule1, rule2, rule3, rule4, worse_of, no_one, worst_of, blamed, is_visited, is_marked}
+use Rattle.blame.specs.Marks.{Evidence, rule1, rule2, rule3, rule4, flags_in, place_in, worse_of, worst_of, blamed, is_visited, blames, is_marked}
 
 -- one turn: k, if it passes q and is not marked, marks its key
-abbrev pub visit : (ℕ → ℕ) → (ℕ → Bool) → (ℕ → Bool) → ℕ → ℕ → Bool
-visit key q s k = cond (q k && not (s k)) (λ m. s m || eqb (key k) m) s
+abbrev pub visit : (ℕ → Option ℕ) → (ℕ → Bool) → (ℕ → Bool) → ℕ → ℕ → Bool
+visit key q s k = cond (q k && not (s k)) (λ m. s m || is_at (key k) m) s
 
-regroup : (a b c : Bool) → (a || b) || c ≡ a || ((b && true) || c)
+regroup : (a b c : Bool) → (a || b) || c ≡ a || (b || c)
 regroup true b c = refl
-regroup false true c = refl
-regroup false false c = refl
+regroup false b c = refl
 
-module _ (key : ℕ → ℕ) (q : ℕ → Bool) (n : ℕ) (apart : (j k : ℕ) → k < n → q k ≡ true → eqb (key j) k ≡ false) where
+-- a number with q marks its key
+abbrev hits : (ℕ → Option ℕ) → (ℕ → Bool) → ℕ → ℕ → Bool
+hits key q m k = q k && is_at (key k) m
+
+module _ (key : ℕ → Option ℕ) (q : ℕ → Bool) (n : ℕ) (apart : (j k : ℕ) → k < n → q k ≡ true → is_at (key j) k ≡ false) where
   -- no number below n with q is marked
   abbrev Fresh : (ℕ → Bool) → Type 0
   Fresh s = (k : ℕ) → k < n → q k ≡ true → s k ≡ false
 
   -- what the turns of numbers below n leave, in any order
-  walked : (l : List ℕ) → ((k : ℕ) → Memᴰ k l → k < n) → (s : ℕ → Bool) → Fresh s → (m : ℕ) → over (visit key q) s l m ≡ s m || any_in (counts key q m) l
+  walked : (l : List ℕ) → ((k : ℕ) → Memᴰ k l → k < n) → (s : ℕ → Bool) → Fresh s → (m : ℕ) → over (visit key q) s l m ≡ s m || any_in (hits key q m) l
   unfolding over
   walked [] below s fresh m = sym (or-false (s m))
   walked (a ∷ l) below s fresh m = go (q a) refl (walked l (λ k d. below k (Memᴰ.tail d)))
     where
-      go : (b : Bool) → q a ≡ b → ((t : ℕ → Bool) → Fresh t → (m : ℕ) → over (visit key q) t l m ≡ t m || any_in (counts key q m) l) → over (visit key q) (visit key q s a) l m ≡ s m || any_in (counts key q m) (a ∷ l)
-      go true e h = rw (e, fresh a (below a (Memᴰ.head refl)) e) (h (λ j. s j || eqb (key a) j) (λ k g d. rw (fresh k g d) (apart a k g d)) m ∙ regroup (s m) (eqb (key a) m) (any_in (counts key q m) l))
-      go false e h = rw (e, and-false (eqb (key a) m)) (h s fresh m)
+      go : (b : Bool) → q a ≡ b → ((t : ℕ → Bool) → Fresh t → (m : ℕ) → over (visit key q) t l m ≡ t m || any_in (hits key q m) l) → over (visit key q) (visit key q s a) l m ≡ s m || any_in (hits key q m) (a ∷ l)
+      go true e h = rw (e, fresh a (below a (Memᴰ.head refl)) e) (h (λ j. s j || is_at (key a) j) (λ k g d. rw (fresh k g d) (apart a k g d)) m ∙ regroup (s m) (is_at (key a) m) (any_in (hits key q m) l))
+      go false e h = rw e (h s fresh m)
 
 any-yes : (t : ℕ → Bool) (l : List ℕ) (k : ℕ) → Memᴰ k l → t k ≡ true → any_in t l ≡ true
 any-yes t [] k d e = absurd (Memᴰ.not-nil d)
@@ -70,36 +73,40 @@ any_some t l n below all =
 
 -- ---- whom a corner blames has a line flag
 
-Flagged : View → (ℕ → ℕ) → Worst → Type 0
-Flagged w flags worst = ((worst.at ≡ w.count) × (worst.flags ≡ 0)) ⊎ ((worst.flags ≡ flags worst.at) × (0 < worst.flags))
+Flagged : (ℕ → ℕ) → Option Worst → Type 0
+Flagged flags None = Unit {0}
+Flagged flags (Some worst) = (worst.flags ≡ flags worst.at) × (0 < worst.flags)
 
-worse-flagged : (w : View) (flags : ℕ → ℕ) (k p : ℕ) (worst : Worst) → Flagged w flags worst → Flagged w flags (worse_of w flags k worst p)
+worse-flagged : (w : View) (flags : ℕ → ℕ) (k : ℕ) (worst : Option Worst) (p : Option ℕ) → Flagged flags worst → Flagged flags (worse_of w flags k worst p)
 unfolding Flagged worse_of
-worse-flagged w flags k p worst h = go (ltb p 24) (ltb worst.flags (flags m)) refl
+worse-flagged w flags k worst None h = h
+worse-flagged w flags k worst (Some p) h = go (ltb (flags_in worst) (flags m)) refl
   where
     m : ℕ
     m = w.by_idx (member_at w k p)
 
-    go : (a b : Bool) → ltb worst.flags (flags m) ≡ b → Flagged w flags (cond (a && b) (record { at = m; flags = flags m }) worst)
-    go true true e = inr (refl, omega (arith, ltb-true worst.flags (flags m) e))
-    go true false e = h
-    go false b e = h
+    go : (b : Bool) → ltb (flags_in worst) (flags m) ≡ b → Flagged flags (cond b (Some (record { at = m; flags = flags m })) worst)
+    go true e = (refl, omega (arith, ltb-true (flags_in worst) (flags m) e))
+    go false e = h
 
-worst-flagged : (w : View) (flags : ℕ → ℕ) (k : ℕ) (b : Base) → Flagged w flags (worst_of w flags k b)
-unfolding worst_of Flagged
-worst-flagged w flags k b =
-    worse-flagged w flags k b.d _ (worse-flagged w flags k b.c _ (worse-flagged w flags k b.b _ (worse-flagged w flags k b.a (no_one w flags) (inl (refl, refl)))))
+worst-flagged : (w : View) (flags : ℕ → ℕ) (k : ℕ) (b : List (Option ℕ)) → Flagged flags (worst_of w flags k b)
+unfolding worst_of over Flagged
+worst-flagged w flags k b = go b None tt
+  where
+    go : (b : List (Option ℕ)) (worst : Option Worst) → Flagged flags worst → Flagged flags (over (worse_of w flags k) worst b)
+    go [] worst h = h
+    go (p ∷ b) worst h = go b (worse_of w flags k worst p) (worse-flagged w flags k worst p h)
 
 -- a corner that rule 3 looks at is blamed by none
-blamed-apart : (w : View) (e : Evidence) (j k : ℕ) → k < w.count → is_visited w e k ≡ true → eqb (blamed w e.flags j) k ≡ false
+blamed-apart : (w : View) (e : Evidence) (j k : ℕ) → k < w.count → is_visited w e k ≡ true → is_at (blamed w e.flags j) k ≡ false
 unfolding Flagged blamed
 blamed-apart w e j k l v =
     let z = eqb-true (e.flags k) 0 (and_right (e.over k) (eqb (e.flags k) 0) (and_right (eqb (w.by_idx k) k) (e.over k && eqb (e.flags k) 0) v)) in
-    ne_eqb (blamed w e.flags j) k (λ d. go d z (worst-flagged w e.flags j (base_of w j)))
+    not-true (is_at (place_in (worst_of w e.flags j (base_of w j))) k) (go (worst_of w e.flags j (base_of w j)) z (worst-flagged w e.flags j (base_of w j)))
   where
-    go : blamed w e.flags j ≡ k → e.flags k ≡ 0 → Flagged w e.flags (worst_of w e.flags j (base_of w j)) → ⊥
-    go d z (inl h) = omega (arith, sym d ∙ h.0)
-    go d z (inr h) = omega (arith, z, h.0, h.1, ap (λ (x : ℕ). e.flags x) d)
+    go : (worst : Option Worst) → e.flags k ≡ 0 → Flagged e.flags worst → is_at (place_in worst) k ≡ true → ⊥
+    go None z h d = false≢true d
+    go (Some worst) z h d = omega (arith, z, h.0, h.1, ap (λ (x : ℕ). e.flags x) (eqb-true worst.at k d))
 
 -- the marks of rules 1 and 2, with which the Rust starts on rule 3
 abbrev marked12 : Evidence → ℕ → Bool
@@ -114,9 +121,9 @@ fresh w e k l v =
 -- one after the other and each only if it is not marked yet, leave with rule 4 the marks of the definition.
 pub in_order : (w : View) (e : Evidence) (l : List ℕ) → ((k : ℕ) → Memᴰ k l → k < w.count) → ((k : ℕ) → k < w.count → is_visited w e k ≡ true → Memᴰ k l)
     → (m : ℕ) → over (visit (blamed w e.flags) (is_visited w e)) (marked12 e) l m || rule4 e m ≡ is_marked w e m
-unfolding is_marked
+unfolding is_marked blames
 in_order w e l below all m =
     ap (λ (b : Bool). b || rule4 e m)
     (walked (blamed w e.flags) (is_visited w e) w.count (blamed-apart w e) l below (marked12 e) (fresh w e) m
-    ∙ ap (λ (b : Bool). marked12 e m || b) (any_some (counts (blamed w e.flags) (is_visited w e) m) l w.count below (λ k h c. all k h (and_right (eqb (blamed w e.flags k) m) (is_visited w e k) c))))
+    ∙ ap (λ (b : Bool). marked12 e m || b) (any_some (hits (blamed w e.flags) (is_visited w e) m) l w.count below (λ k h c. all k h (and_left (is_visited w e k) (is_at (blamed w e.flags k) m) c))))
     ∙ or-right-first (rule1 e m) (rule2 e m) (rule3 w e m) (rule4 e m)

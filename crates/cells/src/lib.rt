@@ -32,25 +32,19 @@ pub fn v_part(key: u32) -> u32
 fn bias(b: u32) -> u32
     ensures { result ≡ biased b }
 {
-    std::num::wrapping_add_u32(b, BIAS)
+    b.wrapping_add(BIAS)
 }
 
 // Whether the u or v in a pattern lies in −8,000 to 8,000.
 pub fn in_range(b: u32) -> bool
     ensures { result ≡ within (signed b) }
 {
-    let a = bias(b);
-    if a < LOWEST {
-        return false;
-    }
-    a <= HIGHEST
+    (LOWEST..=HIGHEST).contains(&bias(b))
 }
 
 // The key of the cell with these patterns of u and v.
 pub fn key(u: u32, v: u32) -> u64
     ensures { result ≡ key_at u v }
 {
-    let a = bias(u) as u64;
-    let b = bias(v) as u64;
-    a * (STRIDE as u64) + b
+    u64::from(bias(u)) * u64::from(STRIDE) + u64::from(bias(v))
 }

@@ -1,3 +1,4 @@
 pub mod Close
 pub mod Ranks
 pub mod Sweep
+pub mod Hits

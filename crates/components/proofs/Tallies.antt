@@ -19,9 +19,10 @@ pub largest-none : (l : List ℕ) → largest_at l 0 ≡ 0
 unfolding largest_at
 largest-none l = refl
 
-pub largest-more : (l : List ℕ) (i : ℕ) → largest_at l (i + 1) ≡ cond (ltb (get_or l (largest_at l i) 0) (get_or l i 0)) i (largest_at l i)
+-- one number more, where b tells whether it is above the largest so far
+pub largest-then : (l : List ℕ) (i : ℕ) {r r' : ℕ} {b : Bool} → r' ≡ cond b i r → b ≡ ltb (get_or l r 0) (get_or l i 0) → r ≡ largest_at l i → r' ≡ largest_at l (i + 1)
 unfolding largest_at
-largest-more l i = rw (add-one i)
+largest-then l i e f g = rw (add-one i, e, f, g) refl
 
 pub largest-le : (l : List ℕ) (i : ℕ) → largest_at l i ≤ i
 unfolding largest_at

@@ -39,8 +39,7 @@ use Rattle.components.specs.Components.{filter_of, patch_count}
 use Rattle.patches.specs.Patches.{patch_labels}
 use Rattle.components.specs.declared.ComponentFilter.{ComponentFilter}
 use Rattle.judged.specs.declared.Measured.{Measured}
-use Rattle.judged.specs.Columns.{reason_from, figures_in}
-use Rattle.judged.proofs.Columns.{reason-read}
+use Rattle.offsets.specs.declared.Offset.{Offset}
 use Rattle.judged.specs.Judged.{Judged, judged_from}
 use Rattle.drop_set.specs.declared.DropSet.{DropSet}
 use Rattle.drop_set.specs.Filters.{sides_of, by_points, wrong_mark, point_filters, weak_by, no_leaves, peel_of, component_marked, peeled_marks, components_in, patched_of, point_marks, measured_of, judged_of}
@@ -75,12 +74,10 @@ module _ (s : Settings) (w : View) where
       ∙ all_same n (by_arrays v o r) (point_filters s w cell) []
       ((refl, λ m. set_is max_points n (validate_mark s w cell) v ev), ((refl, λ m. set_is max_points n (orientation_mark w) o eo), ((refl, λ m. set_is max_points n (wrong_mark s w) r er), tt)))
 
-  -- the table has the edge reasons
-  pub reasons-read : (counts : List ℕ) (measures : List Float) → figures_in counts measures ≡ gate_figures s.edge_shape w → w.count ≤ max_points
-      → (k : ℕ) → k < w.count → reason_from counts k ≡ (get_or (figures_of s w) k no_figures).reason
+  -- the column has the edge reasons
+  pub reasons-read : {figures : List Figures} → figures ≡ gate_figures s.edge_shape w → (k : ℕ) → k < w.count → (get_or figures k no_figures).reason ≡ (get_or (figures_of s w) k no_figures).reason
   unfolding figures_of
-  reasons-read counts measures e h k l =
-      sym (reason-read counts measures k (omega arith)) ∙ ap (λ (f : List Figures). (get_or f k no_figures).reason) e
+  reasons-read e k l = ap (λ (f : List Figures). (get_or f k no_figures).reason) e
 
   pub marks-of : (cell : ℕ → Cell) {v : Measured} → v ≡ validated_of s w cell → v.marks ≡ validate_marks s w cell
   unfolding validated_of
@@ -106,10 +103,10 @@ module _ (s : Settings) (w : View) where
   -- ---- the second step
 
   module _ (marks : List ℕ) where
-    pub joined-on : {sides : List ℕ} {r : ComponentFilter} → s.apply_largest_component ≡ true → sides ≡ places (sides_of s) → r ≡ filter_of w sides marks → Joined s w marks r
+    pub joined-on : {sides : List Offset} {r : ComponentFilter} → s.apply_largest_component ≡ true → sides ≡ sides_of s → r ≡ filter_of w (places sides) marks → Joined s w marks r
     unfolding components_in
     joined-on {sides} {r} on es er =
-        let e : r ≡ filter_of w (places (sides_of s)) marks = er ∙ ap (λ (l : List ℕ). filter_of w l marks) es in
+        let e : r ≡ filter_of w (places (sides_of s)) marks = er ∙ ap (λ (l : List Offset). filter_of w (places l) marks) es in
         record {
           marked = λ k h. ap (λ (f : ComponentFilter). is_set f.marks k) e ∙ sym (ap (λ (b : Bool). b && is_set (filter_of w (places (sides_of s)) marks).marks k) on);
           counted = ap (λ (f : ComponentFilter). f.components_seen) e ∙ sym (ap (λ (b : Bool). cond b (filter_of w (places (sides_of s)) marks).components_seen 0) on);
@@ -127,8 +124,8 @@ module _ (s : Settings) (w : View) where
       → no_leaves ≡ peel_of s w strength marks
   unpeeled strength marks e h = rw e (sym (none-weak w (places (sides_of s)) marks (replicate max_points 0) h (λ k l. ap (λ (m : ℕ). eqb m 1) (replicate-at max_points 0 k))))
 
-  pub peeled-by : (strength : List Float) (marks : List ℕ) {fraction : Float} {sides weak : List ℕ} {r : Peeled} → s.score_frac ≡ Given fraction → sides ≡ places (sides_of s) → weak ≡ weak_of w.count strength fraction
-      → r ≡ peeled_of w sides marks weak → r ≡ peel_of s w strength marks
+  pub peeled-by : (strength : List Float) (marks : List ℕ) {fraction : Float} {sides : List Offset} {weak : List ℕ} {r : Peeled} → s.score_frac ≡ Given fraction → sides ≡ sides_of s → weak ≡ weak_of w.count strength fraction
+      → r ≡ peeled_of w (places sides) marks weak → r ≡ peel_of s w strength marks
   peeled-by strength marks f es ew er = rw f (er ∙ rw (es, ew))
 
   -- the bytes that the component filter is given
@@ -165,12 +162,12 @@ module _ (s : Settings) (w : View) where
   unfolding judged_of judged_by
   both-parts cell strength = refl
 
-  pub judged-is : (cell : ℕ → Cell) (strength : List Float) (counts : List ℕ) (measures : List Float) (m : Measured) {r : List Residual} {d : DropSet} → m ≡ measured_of s w cell → r ≡ residuals_of w cell → figures_in counts measures ≡ figures_of s w
+  pub judged-is : (cell : ℕ → Cell) (strength : List Float) (figures : List Figures) (m : Measured) {r : List Residual} {d : DropSet} → m ≡ measured_of s w cell → r ≡ residuals_of w cell → figures ≡ figures_of s w
       → d ≡ patched_of s w strength m.marks
-      → judged_from (record { marks = d.marks; components = d.components; rounds = d.rounds; tally = d.tally; residuals = r; boundary = m.boundary }) counts measures ≡ judged_of s w cell strength
+      → judged_from (record { marks = d.marks; components = d.components; rounds = d.rounds; tally = d.tally; residuals = r; boundary = m.boundary }) figures ≡ judged_of s w cell strength
   unfolding judged_by judged_from
-  judged-is cell strength counts measures m {r} e h f g =
-      ap (judged_by m r (figures_in counts measures)) g
+  judged-is cell strength figures m {r} e h f g =
+      ap (judged_by m r figures) g
       ∙ ap (λ (x : List Figures). judged_by m r x (patched_of s w strength m.marks)) f
       ∙ ap (λ (x : List Residual). judged_by m x (figures_of s w) (patched_of s w strength m.marks)) h
       ∙ ap (λ (x : Measured). judged_by x (residuals_of w cell) (figures_of s w) (patched_of s w strength x.marks)) e

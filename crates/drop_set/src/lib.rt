@@ -1,30 +1,31 @@
 // The filters of a sheet, in two steps: those that go by the points themselves, and those that go by what these leave. See specs/Filters.antt.
 #![tactic(auto)]
 
-ghost use Rattle.std.specs.Prelude.{◌≡◌, List, [], ◌∷◌, ℕ, ◌≤◌, Float};
+ghost use Rattle.std.specs.Prelude.{◌≡◌, [], ◌∷◌, ℕ, ◌≤◌};
 ghost use Rattle.folds.specs.Column.{column};
 ghost use Rattle.folds.specs.Marked.{bit};
-ghost use Rattle.view.specs.View.{view_at, max_points, Ranked};
+ghost use Rattle.view.specs.View.{max_points, Finite};
+ghost use Rattle.view.specs.Seen.{view_in};
 ghost use Rattle.cells.specs.Cell.{cells_at};
 ghost use Rattle.marks.specs.Filters.{validate as Validate, orientation as Orientation, wrong as Wrong};
 ghost use Rattle.marks.specs.Marks.{is_set};
 ghost use Rattle.marks.specs.Byte.{marked_by_all};
-ghost use Rattle.wrong_label_filters.specs.EdgesReady.{EdgesReady};
 ghost use Rattle.residuals.specs.ByIndex.{residuals_of};
-ghost use Rattle.judged.specs.Columns.{Blank, figures_in};
+ghost use Rattle.judged.specs.Judged.{blank_figures};
 ghost use Rattle.validate.specs.Validate.{figures_of};
 ghost use Rattle.drop_set.specs.Given.{Celled, Weighed, Joined};
 ghost use Rattle.drop_set.specs.Filters.{by_points, wrong_mark, no_leaves, peel_of, patched_of, measured_of};
 
 use components::ComponentFilter;
-use edges::{EDGES_SIZE, Edges};
-use judged::figures::{FigureCounts, FigureMeasures};
-use judged::{Measured, Terms};
+use edges::{EdgeTable, Edges};
+use judged::Measured;
+use judged::figures::FigureColumn;
 use local_h::ResidualColumn;
-use marks::{Tally, filters};
+use marks::Tally;
+use marks::filters::Filter;
 use peel::Peeled;
 use sheet_file::{Fraction, Settings};
-use view::{Floats, MAX_POINTS, Marks, Ranks, Words};
+use view::{Floats, MAX_POINTS, Marks, View, Words};
 
 // The bytes of marks, how many patches the survivors have, how many rounds removed a weak end, and the tally.
 #[derive(Drop)]
@@ -36,19 +37,13 @@ pub struct DropSet {
 }
 
 // The wrong-label marks; none with the switch off.
-fn wrong_marks(s: Settings, ranks: &Ranks, x: &Floats, y: &Floats, edges: &Edges, n: usize) -> Marks
-    requires { EdgesReady n ranks.now x.now y.now edges.now }
-    ensures { result ≡ column max_points 0 n (λ (k : ℕ). bit (wrong_mark s (view_at n ranks.now x.now y.now) k)) }
+fn wrong_marks(s: Settings, table: &EdgeTable) -> Marks
+    requires x { Finite table.now.view.lattice.count table.now.view.x.now }
+    requires y { Finite table.now.view.lattice.count table.now.view.y.now }
+    ensures { result ≡ column max_points 0 table.now.view.lattice.count (λ (k : ℕ). bit (wrong_mark s (view_in table.now.view) k)) }
 {
     if s.apply_wrong_label_drops {
-        return wrong_label_filters::topological_wrong_label_drops(
-            ranks,
-            x,
-            y,
-            edges,
-            n,
-            s.cell_size,
-        );
+        return wrong_label_filters::topological_wrong_label_drops(table, s.cell_size);
     }
     [0; MAX_POINTS]
 }
@@ -59,52 +54,47 @@ fn point_marks(validate: &Marks, orientation: &Marks, wrong: &Marks, n: usize) -
     ensures { result ≡ marked_by_all n (by_points Validate (is_set validate.now) ∷ by_points Orientation (is_set orientation.now) ∷ by_points Wrong (is_set wrong.now) ∷ []) [] }
 {
     let none = [0u8; MAX_POINTS];
-    let first = marks::marked_by(&none, validate, filters::VALIDATE, n);
-    let second = marks::marked_by(&first, orientation, filters::ORIENTATION, n);
-    marks::marked_by(&second, wrong, filters::WRONG, n)
+    let first = marks::marked_by(&none, validate, Filter::Validate, n);
+    let second = marks::marked_by(&first, orientation, Filter::Orientation, n);
+    marks::marked_by(&second, wrong, Filter::WrongLabel, n)
 }
 
-// What the filters find that go by the points themselves, the edge figures into empty tables and the residuals in the place of what stood in
+// What the filters find that go by the points themselves, the edge figures into an empty array and the residuals in the place of what stood in
 // the column.
+#[inline(never)]
 pub fn measure(
-    t: Terms,
-    ranks: &Ranks,
+    s: Settings,
+    view: &View,
     keys: &Words,
-    x: &Floats,
-    y: &Floats,
-    counts: &mut FigureCounts,
-    measures: &mut FigureMeasures,
+    figures: &mut FigureColumn,
     residuals: &mut ResidualColumn,
 ) -> Measured
-    requires { Celled t.count ranks.now keys.now x.now y.now × Blank counts.old measures.old }
-    ensures findings { result ≡ measured_of t.settings (view_at t.count ranks.now x.now y.now) (cells_at keys.now) }
-    ensures residuals { residuals.new ≡ residuals_of (view_at t.count ranks.now x.now y.now) (cells_at keys.now) }
-    ensures figures { figures_in counts.new measures.new ≡ figures_of t.settings (view_at t.count ranks.now x.now y.now) }
+    requires { Celled view.now.lattice.count keys.now view.now.x.now view.now.y.now × (figures.old ≡ blank_figures) }
+    ensures findings { result ≡ measured_of s (view_in view.now) (cells_at keys.now) }
+    ensures residuals { residuals.new ≡ residuals_of (view_in view.now) (cells_at keys.now) }
+    ensures figures { figures.new ≡ figures_of s (view_in view.now) }
 {
-    let s = t.settings;
-    let n = t.count;
-    let none = edges::no_edge();
-    let mut edges = [none; EDGES_SIZE];
-    edges::fill(ranks, x, y, n, &mut edges);
-    let gate = s.edge_shape;
-    validate::edge_figures(gate, ranks, x, y, &edges, n, counts, measures);
-    let mut j = validate::validate(s, ranks, keys, x, y, n, counts, residuals);
-    let orientation = orientation::lattice_orientation_drops(ranks, x, y, n);
-    let wrong = wrong_marks(s, ranks, x, y, &edges, n);
+    let edges = Edges::of(&view.lattice, view.x, view.y);
+    let table = EdgeTable {
+        view: *view,
+        edges: &edges,
+    };
+    validate::edge_figures(s.edge_shape, &table, figures);
+    let mut j = validate::validate(s, view, keys, figures, residuals);
+    let orientation = orientation::lattice_orientation_drops(view);
+    let wrong = wrong_marks(s, &table);
     let validated = j.marks;
-    let marks = point_marks(&validated, &orientation, &wrong, n);
+    let marks = point_marks(&validated, &orientation, &wrong, view.lattice.count);
     j.marks = marks;
     j
 }
 
 // The component marks and count among the points whose byte is 0; none with the switch off.
-fn component_marks(s: Settings, ranks: &Ranks, marks: &Marks, n: usize) -> ComponentFilter
-    requires { Ranked n ranks.now }
-    ensures { (xs ys : List Float) → Joined s (view_at n ranks.now xs ys) marks.now result }
+fn component_marks(s: Settings, view: &View, marks: &Marks) -> ComponentFilter
+    ensures { Joined s (view_in view.now) marks.now result }
 {
     if s.apply_largest_component {
-        let sides = patches::square_sides();
-        return components::largest_component_filter(ranks, marks, &sides, n);
+        return components::largest_component_filter(view, marks, &patches::square_sides());
     }
     ComponentFilter {
         marks: [0; MAX_POINTS],
@@ -123,43 +113,38 @@ fn no_leaves() -> Peeled
 }
 
 // The weak ends of what the marks leave, and the rounds; none without tag 4.
-fn leaf_marks(s: Settings, ranks: &Ranks, strength: &Floats, marks: &Marks, n: usize) -> Peeled
-    requires { Weighed n ranks.now strength.now }
-    ensures { (xs ys : List Float) → result ≡ peel_of s (view_at n ranks.now xs ys) strength.now marks.now }
+fn leaf_marks(s: Settings, view: &View, strength: &Floats, marks: &Marks) -> Peeled
+    requires { Weighed (view_in view.now) strength.now }
+    ensures { result ≡ peel_of s (view_in view.now) strength.now marks.now }
 {
     let fraction = s.score_frac;
     match fraction {
         Fraction::Missing => no_leaves(),
         Fraction::Outside => no_leaves(),
         Fraction::Given(x) => {
-            let weak = strengths::weak_marks(strength, n, x);
-            let sides = patches::square_sides();
-            peel::weak_leaf_peel(ranks, marks, &weak, &sides, n)
+            let weak = strengths::weak_marks(strength, view.lattice.count, x);
+            peel::weak_leaf_peel(view, marks, &weak, &patches::square_sides())
         }
     }
 }
 
 // The filters that go by the marks before them: the bytes with their marks too, the count of patches, the rounds, and the tally.
-pub fn drop_patches(
-    s: Settings,
-    ranks: &Ranks,
-    strength: &Floats,
-    marks: &Marks,
-    n: usize,
-) -> DropSet
-    requires { Weighed n ranks.now strength.now }
-    ensures { (xs ys : List Float) → result ≡ patched_of s (view_at n ranks.now xs ys) strength.now marks.now }
+#[inline(never)]
+pub fn drop_patches(s: Settings, view: &View, strength: &Floats, marks: &Marks) -> DropSet
+    requires { Weighed (view_in view.now) strength.now }
+    ensures { result ≡ patched_of s (view_in view.now) strength.now marks.now }
 {
-    let peeled = leaf_marks(s, ranks, strength, marks, n);
+    let n = view.lattice.count;
+    let peeled = leaf_marks(s, view, strength, marks);
     let leaf = peeled.marks;
-    let left = marks::marked_by(marks, &leaf, filters::LEAF, n);
-    let filter = component_marks(s, ranks, &left, n);
+    let left = marks::marked_by(marks, &leaf, Filter::Leaf, n);
+    let filter = component_marks(s, view, &left);
     let mark = filter.marks;
-    let all = marks::marked_by(&left, &mark, filters::COMPONENT, n);
+    let all = marks::marked_by(&left, &mark, Filter::Component, n);
     DropSet {
         marks: all,
         components: filter.components_seen,
         rounds: peeled.rounds,
-        tally: marks::tally(ranks, &all, n),
+        tally: marks::tally(&view.lattice, &all),
     }
 }

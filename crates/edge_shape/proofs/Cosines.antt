@@ -1,6 +1,8 @@
 -- No cosine of a sheet is NaN whose positions are finite and at most 16,384 in magnitude; and so one continuation's cosine is under the least
 -- allowed just where the least of them is. Assumes nothing.
 use mathlib.Core.Path.{◌≡◌, refl, sym, ap, ◌∙◌}
+use mathlib.Core.List.{[], ◌∷◌}
+use Rattle.std.specs.Prelude.{Option, Some, None}
 use mathlib.Core.Bool.{Bool, true, false, cond, ◌&&◌, ◌||◌, true≢false}
 use Prim.Native.Nat.{ℕ, ◌*◌, ◌<◌}
 use lib.Dec.{T, eqb, ltb, leb}
@@ -21,34 +23,32 @@ use Rattle.sheet_file.specs.Limit.{outside}
 use Rattle.sheet_file.specs.declared.EdgeShapeParams.{EdgeShapeParams}
 use Rattle.edge_shape.specs.declared.Side.{Side}
 use Rattle.edge_shape.specs.declared.Measure.{Measure}
-use Rattle.edge_shape.specs.declared.Measure.TheVariants.{Absent, Held}
 use Rattle.edge_shape.specs.declared.CellShape.{CellShape}
-use Rattle.edge_shape.specs.declared.CellShape.TheVariants.{Incomplete, Complete}
-use Rattle.edge_shape.specs.declared.Reason.TheVariants.{NoReason, LowCardinalDegree, BadContinuation, NoValidAdjacentCell}
+use Rattle.edge_shape.specs.declared.Reason.TheVariants.{LowCardinalDegree, BadContinuation, NoValidAdjacentCell}
 use Rattle.edge_shape.specs.Figures.{side_at, compared, noted, continuation_at, shape_at, noted_cell, continuation_fails, figures_by, figures_at}
 use Rattle.edge_shape.specs.Continuations.{cosine_under, ratio_over, bad_continuation, reason_by_each, reason_at, cosine_is_nan, cell_is_nan}
 use Rattle.edge_shape.proofs.Laws.{continuation-step, cell-step, figures-step, reason-step}
 
 -- ---- the least cosine and the largest ratio of two
 
-pub least-cosine : (l : Float) (m p : Measure) → cosine_is_nan m ≡ false → cosine_is_nan p ≡ false → cosine_under l (noted m p) ≡ cosine_under l m || cosine_under l p
+pub least-cosine : (l : Float) (m p : Option Measure) → cosine_is_nan m ≡ false → cosine_is_nan p ≡ false → cosine_under l (noted m p) ≡ cosine_under l m || cosine_under l p
 unfolding noted
-least-cosine l m Absent f g = sym (or-false (cosine_under l m))
-least-cosine l Absent (Held c r) f g = refl
-least-cosine l (Held b q) (Held c r) f g = under-least b c l f g
+least-cosine l m None f g = sym (or-false (cosine_under l m))
+least-cosine l None (Some p) f g = refl
+least-cosine l (Some m) (Some p) f g = under-least m.cosine p.cosine l f g
 
-pub largest-ratio : (l : Float) (m p : Measure) → ratio_over l (noted m p) ≡ ratio_over l m || ratio_over l p
+pub largest-ratio : (l : Float) (m p : Option Measure) → ratio_over l (noted m p) ≡ ratio_over l m || ratio_over l p
 unfolding noted
-largest-ratio l m Absent = sym (or-false (ratio_over l m))
-largest-ratio l Absent (Held c r) = refl
-largest-ratio l (Held b q) (Held c r) = over-largest l q r
+largest-ratio l m None = sym (or-false (ratio_over l m))
+largest-ratio l None (Some p) = refl
+largest-ratio l (Some m) (Some p) = over-largest l m.ratio p.ratio
 
-fails-is : (g : EdgeShapeParams) (degree valid : ℕ) (m : Measure) → continuation_fails g degree valid m
+fails-is : (g : EdgeShapeParams) (degree valid : ℕ) (m : Option Measure) → continuation_fails g degree valid m
     ≡ cosine_under g.continuation_cos_min m || ((leb degree 3 || leb valid 2) && ratio_over g.continuation_length_ratio_max m)
-fails-is g degree valid Absent = sym (and-false (leb degree 3 || leb valid 2))
-fails-is g degree valid (Held c r) = refl
+fails-is g degree valid None = sym (and-false (leb degree 3 || leb valid 2))
+fails-is g degree valid (Some m) = refl
 
-pub fails-by-each : (g : EdgeShapeParams) (degree valid : ℕ) (m p : Measure) → cosine_is_nan m ≡ false → cosine_is_nan p ≡ false
+pub fails-by-each : (g : EdgeShapeParams) (degree valid : ℕ) (m p : Option Measure) → cosine_is_nan m ≡ false → cosine_is_nan p ≡ false
     → continuation_fails g degree valid (noted m p) ≡ bad_continuation g degree valid m p
 fails-by-each g degree valid m p f h =
     fails-is g degree valid (noted m p) ∙ rw (least-cosine g.continuation_cos_min m p f h, largest-ratio g.continuation_length_ratio_max m p)
@@ -72,7 +72,10 @@ compared-number a b p q = go (le a.len epsilon) (le b.len epsilon) refl refl
         (mul-within 15 15 a.dy b.dy (ltb-true 30 128 refl) p.dy q.dy)
 
     go : (t u : Bool) → le a.len epsilon ≡ t → le b.len epsilon ≡ u
-        → cosine_is_nan (cond (t || u) Absent (Held (clamp_of ((a.dx ⊗ b.dx ⊕ a.dy ⊗ b.dy) ⊘ (a.len ⊗ b.len))) (max_of a.len b.len ⊘ min_of a.len b.len))) ≡ false
+        → cosine_is_nan
+        (cond (t || u) None
+        (Some (record { cosine = clamp_of ((a.dx ⊗ b.dx ⊕ a.dy ⊗ b.dy) ⊘ (a.len ⊗ b.len)); ratio = max_of a.len b.len ⊘ min_of a.len b.len })))
+        ≡ false
     go true u f g = refl
     go false true f g = refl
     go false false f g =
@@ -80,20 +83,22 @@ compared-number a b p q = go (le a.len epsilon) (le b.len epsilon) refl refl
         (number-over (a.dx ⊗ b.dx ⊕ a.dy ⊗ b.dy) (a.len ⊗ b.len) (within-finite 31 (a.dx ⊗ b.dx ⊕ a.dy ⊗ b.dy) top)
         (product-above a.len b.len p.len q.len (over-epsilon a.len p.len f) (over-epsilon b.len q.len g)))
 
-noted-number : (m p : Measure) → cosine_is_nan m ≡ false → cosine_is_nan p ≡ false → cosine_is_nan (noted m p) ≡ false
+noted-number : (m p : Option Measure) → cosine_is_nan m ≡ false → cosine_is_nan p ≡ false → cosine_is_nan (noted m p) ≡ false
 unfolding noted
-noted-number m Absent f g = f
-noted-number Absent (Held c r) f g = g
-noted-number (Held b q) (Held c r) f g = go (lt c b)
+noted-number m None f g = f
+noted-number None (Some p) f g = g
+noted-number (Some m) (Some p) f g = go (lt p.cosine m.cosine)
   where
-    go : (t : Bool) → is_nan (cond t c b) ≡ false
+    go : (t : Bool) → is_nan (cond t p.cosine m.cosine) ≡ false
     go true = g
     go false = f
 
-cell-noted : (m : Measure) (c : CellShape) → cosine_is_nan m ≡ false → cell_is_nan c ≡ false → cosine_is_nan (noted_cell m c) ≡ false
+cell-noted : (m : Option Measure) (c : Option CellShape) → cosine_is_nan m ≡ false → cell_is_nan c ≡ false → cosine_is_nan (noted_cell m c) ≡ false
 unfolding noted_cell
-cell-noted m Incomplete f g = f
-cell-noted m (Complete a b) f g = let h = or-none (cosine_is_nan a) (cosine_is_nan b) g in noted-number (noted m a) b (noted-number m a f h.0) h.1
+cell-noted m None f g = f
+cell-noted m (Some c) f g =
+    let h = or-none (cosine_is_nan c.along_u) (cosine_is_nan c.along_v) g in
+    noted-number (noted m c.along_u) c.along_v (noted-number m c.along_u f h.0) h.1
 
 where-so : {A : Type 0} (P : A → Type 0) (t : Bool) {x y : A} → (t ≡ true → P x) → P y → P (cond t x y)
 where-so P true f g = f refl
@@ -102,20 +107,20 @@ where-so P false f g = g
 -- ---- the figures, from four cells
 
 module _ (g : EdgeShapeParams) (degree : ℕ) where
-  least-of : (m : Measure) (a b c d : CellShape) → cell_is_nan a ≡ false → cell_is_nan b ≡ false → cell_is_nan c ≡ false → cell_is_nan d ≡ false
-      → cosine_is_nan (figures_by g degree m a b c d).cells ≡ false
+  least-of : (m : Option Measure) (a b c d : Option CellShape) → cell_is_nan a ≡ false → cell_is_nan b ≡ false → cell_is_nan c ≡ false → cell_is_nan d ≡ false
+      → cosine_is_nan (figures_by g degree m (a ∷ b ∷ c ∷ d ∷ [])).cells ≡ false
   unfolding figures_by
   least-of m a b c d p q r s =
-      cell-noted (noted_cell (noted_cell (noted_cell Absent a) b) c) d
-      (cell-noted (noted_cell (noted_cell Absent a) b) c (cell-noted (noted_cell Absent a) b (cell-noted Absent a refl p) q) r) s
+      cell-noted (noted_cell (noted_cell (noted_cell None a) b) c) d
+      (cell-noted (noted_cell (noted_cell None a) b) c (cell-noted (noted_cell None a) b (cell-noted None a refl p) q) r) s
 
-  reason-of : (u v : Measure) (a b c d : CellShape) → cosine_is_nan u ≡ false → cosine_is_nan v ≡ false
-      → let f = figures_by g degree (noted u v) a b c d in f.reason ≡ reason_by_each g f.degree f.adjacent f.valid u v
+  reason-of : (u v : Option Measure) (a b c d : Option CellShape) → cosine_is_nan u ≡ false → cosine_is_nan v ≡ false
+      → let f = figures_by g degree (noted u v) (a ∷ b ∷ c ∷ d ∷ []) in f.reason ≡ reason_by_each g f.degree f.adjacent f.valid u v
   unfolding figures_by
   reason-of u v a b c d p q =
-      let f = figures_by g degree (noted u v) a b c d in
+      let f = figures_by g degree (noted u v) (a ∷ b ∷ c ∷ d ∷ []) in
       reason-step g degree f.adjacent f.valid (noted u v)
-      ∙ ap (λ (t : Bool). cond (ltb degree g.min_cardinal_degree) LowCardinalDegree (cond t BadContinuation (cond (ltb 0 f.adjacent && eqb f.valid 0) NoValidAdjacentCell NoReason)))
+      ∙ ap (λ (t : Bool). cond (ltb degree g.min_cardinal_degree) (Some LowCardinalDegree) (cond t (Some BadContinuation) (cond (ltb 0 f.adjacent && eqb f.valid 0) (Some NoValidAdjacentCell) None)))
       (fails-by-each g degree f.valid u v p q)
 
 -- ---- a sheet
@@ -157,7 +162,7 @@ module _ (w : View) (inside : Inside w) where
   pub continuation-number : (before after : Offset) (k : ℕ) → k < w.count → cosine_is_nan (continuation_at w before after k) ≡ false
   continuation-number before after k h =
       rw (continuation-step w before after k)
-      (where-so (λ (m : Measure). cosine_is_nan m ≡ false) (present w k before && (present w k after && present w (rank_at w k before) after))
+      (where-so (λ (m : Option Measure). cosine_is_nan m ≡ false) (present w k before && (present w k after && present w (rank_at w k before) after))
       (λ e.
       let b = and_left (present w k before) (present w k after && present w (rank_at w k before) after) e in
       let r = and_right (present w k before) (present w k after && present w (rank_at w k before) after) e in
@@ -173,7 +178,7 @@ module _ (w : View) (inside : Inside w) where
       let across = present w (rank_at w t next_v) next_u in
       let down = present w (rank_at w t next_u) next_v in
       rw (cell-step w t)
-      (where-so (λ (c : CellShape). cell_is_nan c ≡ false) (here && (right && (below && (across && down))))
+      (where-so (λ (c : Option CellShape). cell_is_nan c ≡ false) (here && (right && (below && (across && down))))
       (λ e.
       let a = ltb-true t w.count (and_left here (right && (below && (across && down))) e) in
       let f = and_right here (right && (below && (across && down))) e in
@@ -193,7 +198,7 @@ module _ (w : View) (inside : Inside w) where
   cosines g k h =
       let u = continuation_at w prev_u next_u k in
       let v = continuation_at w prev_v next_v k in
-      let cell : Offset → CellShape = λ o. shape_at w (rank_at w k o) in
+      let cell : Offset → Option CellShape = λ o. shape_at w (rank_at w k o) in
       let number : (o : Offset) → cell_is_nan (cell o) ≡ false = λ o. cell-number (rank_at w k o) in
       record {
         along-u = continuation-number prev_u next_u k h;

@@ -1,4 +1,5 @@
 -- Worked examples: what the least of two cosines hides and does not hide. Assumes nothing.
+use Rattle.std.specs.Prelude.{Option, Some}
 use mathlib.Core.Path.{◌≡◌, refl}
 use mathlib.Core.Bool.{true, false, cond}
 use mathlib.Core.List.{List, [], ◌∷◌}
@@ -13,7 +14,6 @@ use Rattle.offsets.specs.Offsets.{next_u, prev_u, next_v, prev_v, place_of}
 use Rattle.view.specs.View.{View}
 use Rattle.sheet_file.specs.declared.EdgeShapeParams.{EdgeShapeParams}
 use Rattle.edge_shape.specs.declared.Measure.{Measure}
-use Rattle.edge_shape.specs.declared.Measure.TheVariants.{Held}
 use Rattle.edge_shape.specs.declared.Reason.TheVariants.{BadContinuation}
 use Rattle.edge_shape.specs.Figures.{noted, continuation_at, continuations_at, figures_at}
 use Rattle.edge_shape.specs.Continuations.{cosine_under, reason_by_each, cosine_is_nan}
@@ -26,6 +26,10 @@ sheet n near xs ys =
 -- where the table of ranks has the rank at offset o from rank k
 abbrev near : ℕ → Offset → ℕ
 near k o = 25 * k + place_of o
+
+-- a cosine and a ratio
+abbrev measure : Float → Float → Measure
+measure c r = record { cosine = c; ratio = r }
 
 -- ---- one of two continuations under the least
 
@@ -41,18 +45,18 @@ abbrev gate : EdgeShapeParams
 gate =
     record { min_cardinal_degree = 1; continuation_cos_min = f32 0x3f7d_8236; continuation_length_ratio_max = two; cell_opposite_cos_min = zero; cell_opposite_length_ratio_max = two }
 
-abbrev along_u : Measure
+abbrev along_u : Option Measure
 along_u = continuation_at bent prev_u next_u 2
 
-abbrev along_v : Measure
+abbrev along_v : Option Measure
 along_v = continuation_at bent prev_v next_v 2
 
 -- the cosine along v is under the least allowed, that along u is not; so the least of them is, and the reason is 2 either way
 pub one-under : (cosine_under (f32 0x3f7d_8236) along_u ≡ false)
     × (cosine_under (f32 0x3f7d_8236) along_v ≡ true)
     × (cosine_under (f32 0x3f7d_8236) (continuations_at bent 2) ≡ true)
-    × ((figures_at gate bent 2).reason ≡ BadContinuation)
-    × (reason_by_each gate 4 0 0 along_u along_v ≡ BadContinuation)
+    × ((figures_at gate bent 2).reason ≡ Some BadContinuation)
+    × (reason_by_each gate 4 0 0 along_u along_v ≡ Some BadContinuation)
 unfolding figures_at of_bits
 one-under = (refl, refl, refl, refl, refl)
 
@@ -65,7 +69,7 @@ three xs ys = sheet 3 (λ (i : ℕ). cond (eqb i (near 1 prev_u)) 0 (cond (eqb i
 abbrev minus_zero : View
 minus_zero = three (zero ∷ f32 0x8000_0000 ∷ f32 0x40a0_0000 ∷ []) (f32 0xc0a0_0000 ∷ zero ∷ f32 0x8000_0000 ∷ [])
 
-pub minus-zero : (continuations_at minus_zero 1 ≡ Held (f32 0x8000_0000) one)
+pub minus-zero : (continuations_at minus_zero 1 ≡ Some (measure (f32 0x8000_0000) one))
     × (cosine_under zero (continuations_at minus_zero 1) ≡ false)
     × (cosine_under half (continuations_at minus_zero 1) ≡ true)
 unfolding continuations_at of_bits
@@ -79,6 +83,6 @@ unfolding continuation_at of_bits
 too_far = refl
 
 -- and a NaN that is met first hides a cosine under the least
-pub hidden : (cosine_under one (Held minus_one one) ≡ true) × (cosine_under one (noted (Held nan one) (Held minus_one one)) ≡ false)
+pub hidden : (cosine_under one (Some (measure minus_one one)) ≡ true) × (cosine_under one (noted (Some (measure nan one)) (Some (measure minus_one one))) ≡ false)
 unfolding noted of_bits
 hidden = (refl, refl)

@@ -1,3 +1,2 @@
 pub mod Continuations
 pub mod Figures
-pub mod Given

@@ -1,18 +1,17 @@
 // Edge figures and edge reasons: how edges continue through a corner, and the shape of the cells around it.
 #![tactic(auto)]
 
-ghost use Rattle.std.specs.Prelude.{◌≡◌, true, cond, [], ◌≤◌, ◌<◌};
+ghost use Rattle.std.specs.Prelude.{◌≡◌, true, cond, ◌<◌};
 ghost use Rattle.std.specs.Float.Ieee.{lt};
 ghost use Rattle.offsets.specs.Offsets.{is_near};
-ghost use Rattle.view.specs.View.{view_at, max_points};
-ghost use Rattle.edges.specs.Edges.{side, back_side};
-ghost use Rattle.edge_shape.specs.Figures.{compared, noted, continuation_at, shape_at, within_gate, continuation_fails, is_adjacent, is_valid, noted_cell, reason_of, reason_number, figures_by, figures_at};
-ghost use Rattle.edge_shape.specs.Given.{WithEdges, rank_from, side_by, OneOrNone};
+ghost use Rattle.offsets.specs.Axes.{forward, back};
+ghost use Rattle.view.specs.View.{rank_at};
+ghost use Rattle.view.specs.Seen.{view_in};
+ghost use Rattle.edge_shape.specs.Figures.{side_at, compared, noted, continuation_at, shape_at, within_gate, is_valid, continuation_fails, noted_cell, reason_of, reason_number, figures_by, figures_at};
 
-use edges::Edges;
-use offsets::{NEXT_U, NEXT_V, OWN, Offset, PREV_U, PREV_UV, PREV_V};
+use edges::EdgeTable;
+use offsets::{Axis, NEXT_U, NEXT_V, OWN, Offset, PREV_U, PREV_UV, PREV_V};
 use sheet_file::EdgeShapeParams;
-use view::{Floats, Ranks};
 
 #[derive(Clone, Copy)]
 struct Side {
@@ -23,24 +22,23 @@ struct Side {
 
 // A cosine and a ratio of lengths.
 #[derive(Clone, Copy)]
-pub enum Measure {
-    Absent,
-    Held(f32, f32),
+pub struct Measure {
+    pub cosine: f32,
+    pub ratio: f32,
 }
 
-// The four corners of a cell are on the sheet, or not: the measures of its two pairs of opposite sides.
+// A cell whose four corners are on the sheet: the measures of its two pairs of opposite sides.
 #[derive(Clone, Copy)]
-enum CellShape {
-    Incomplete,
-    Complete(Measure, Measure),
+struct CellShape {
+    along_u: Option<Measure>,
+    along_v: Option<Measure>,
 }
 
 #[derive(Clone, Copy)]
 pub enum Reason {
-    NoReason,
-    LowCardinalDegree,
-    BadContinuation,
-    NoValidAdjacentCell,
+    LowCardinalDegree = 1,
+    BadContinuation = 2,
+    NoValidAdjacentCell = 3,
 }
 
 #[derive(Clone, Copy)]
@@ -48,24 +46,32 @@ pub struct Figures {
     pub degree: u8,
     pub adjacent: u8,
     pub valid: u8,
-    pub continuation: Measure,
-    pub cells: Measure,
-    pub reason: Reason,
+    pub continuation: Option<Measure>,
+    pub cells: Option<Measure>,
+    pub reason: Option<Reason>,
 }
 
-fn compare(a: Side, b: Side) -> Measure
+// No figures: what stands past the last rank.
+pub const NO_FIGURES: Figures = Figures {
+    degree: 0,
+    adjacent: 0,
+    valid: 0,
+    continuation: None,
+    cells: None,
+    reason: None,
+};
+
+#[tactic(auto, unfolding(crate::specs::Figures::compared))]
+fn compare(a: Side, b: Side) -> Option<Measure>
     ensures { result ≡ compared a b }
 {
-    if a.len <= float::constants::EPSILON {
-        return Measure::Absent;
+    if a.len <= float::constants::EPSILON || b.len <= float::constants::EPSILON {
+        return None;
     }
-    if b.len <= float::constants::EPSILON {
-        return Measure::Absent;
-    }
-    Measure::Held(
-        float::clamp((a.dx * b.dx + a.dy * b.dy) / (a.len * b.len)),
-        float::max(a.len, b.len) / float::min(a.len, b.len),
-    )
+    Some(Measure {
+        cosine: float::clamp((a.dx * b.dx + a.dy * b.dy) / (a.len * b.len)),
+        ratio: float::max(a.len, b.len) / float::min(a.len, b.len),
+    })
 }
 
 // The smaller cosine, the first of equals.
@@ -75,247 +81,181 @@ fn least(a: f32, b: f32) -> f32
     if b < a { b } else { a }
 }
 
-fn note(m: Measure, p: Measure) -> Measure
+#[tactic(auto, unfolding(crate::specs::Figures::noted))]
+fn note(m: Option<Measure>, p: Option<Measure>) -> Option<Measure>
     ensures { result ≡ noted m p }
 {
-    match p {
-        Measure::Absent => m,
-        Measure::Held(c, r) => match m {
-            Measure::Absent => Measure::Held(c, r),
-            Measure::Held(b, q) => Measure::Held(least(b, c), float::max(q, r)),
-        },
+    match (m, p) {
+        (Some(m), Some(p)) => Some(Measure {
+            cosine: least(m.cosine, p.cosine),
+            ratio: float::max(m.ratio, p.ratio),
+        }),
+        _ => m.or(p),
     }
 }
 
-// The edge from rank a to rank b, one of the way's edges.
-fn side_at(x: &Floats, y: &Floats, edges: &Edges, way: usize, a: usize, b: usize) -> Side
-    requires { (way < 2) × (a < max_points) × (b < max_points) }
-    ensures { result ≡ side_by (view_at 0 [] x.now y.now) edges.now way a b }
+// The edge from rank a along an axis to rank b.
+#[tactic(auto, unfolding(crate::specs::Figures::side_at))]
+fn side_at(edges: &EdgeTable, axis: Axis, a: usize, b: usize) -> Side
+    requires { (a < edges.now.view.lattice.count) × (b < edges.now.view.lattice.count) × (b ≡ rank_at (view_in edges.now.view) a (forward axis)) }
+    ensures { result ≡ side_at (view_in edges.now.view) (forward axis) a }
 {
+    let x = edges.view.x;
+    let y = edges.view.y;
     Side {
         dx: x[b] - x[a],
         dy: y[b] - y[a],
-        len: edges::length(edges, way, a),
+        len: edges.at(axis, a).len,
     }
 }
 
-// The rank at offset o from rank a; none where there is no a.
-fn onward(ranks: &Ranks, n: usize, a: usize, o: Offset) -> usize
-    requires { (n ≤ max_points) × (is_near o ≡ true) }
-    ensures { result ≡ rank_from (view_at n ranks.now [] []) a o }
+// The edge along an axis that leads to rank k, against the one that goes on from it.
+fn continuation_at(edges: &EdgeTable, axis: Axis, k: usize) -> Option<Measure>
+    requires { k < edges.now.view.lattice.count }
+    ensures { result ≡ continuation_at (view_in edges.now.view) (back axis) (forward axis) k }
 {
-    if n <= a {
-        return n;
-    }
-    view::rank_at(ranks, a, o)
-}
-
-// The way's edge that leads to rank k, against the one that goes on from it.
-fn continuation_at(
-    ranks: &Ranks,
-    x: &Floats,
-    y: &Floats,
-    edges: &Edges,
-    n: usize,
-    way: usize,
-    k: usize,
-) -> Measure
-    requires { WithEdges n ranks.now x.now y.now edges.now × (way < 2) × (k < n) }
-    ensures { result ≡ continuation_at (view_at n ranks.now x.now y.now) (back_side way) (side way) k }
-{
-    let after = edges::side_of(way);
-    let b = view::rank_at(ranks, k, edges::back_of(way));
-    let c = view::rank_at(ranks, k, after);
-    let d = onward(ranks, n, b, after);
-    if n <= c {
-        return Measure::Absent;
-    }
-    if n <= d {
-        return Measure::Absent;
-    }
+    let lattice = &edges.view.lattice;
+    let forward = axis.forward();
+    let before = lattice.neighbour(k, axis.back())?;
+    let after = lattice.neighbour(k, forward)?;
+    let own = lattice.neighbour(before, forward)?;
     compare(
-        side_at(x, y, edges, way, b, d),
-        side_at(x, y, edges, way, k, c),
+        side_at(edges, axis, before, own),
+        side_at(edges, axis, k, after),
     )
 }
 
-// The cell whose least corner is rank t.
-fn cell_at(ranks: &Ranks, x: &Floats, y: &Floats, edges: &Edges, n: usize, t: usize) -> CellShape
-    requires { WithEdges n ranks.now x.now y.now edges.now }
-    ensures { result ≡ shape_at (view_at n ranks.now x.now y.now) t }
+// The cell whose least corner is at offset o from rank k, if its corners are on the sheet.
+fn cell_at(edges: &EdgeTable, k: usize, o: Offset) -> Option<CellShape>
+    requires { (k < edges.now.view.lattice.count) × (is_near o ≡ true) }
+    ensures { result ≡ shape_at (view_in edges.now.view) (rank_at (view_in edges.now.view) k o) }
 {
-    let right = onward(ranks, n, t, NEXT_U);
-    let below = onward(ranks, n, t, NEXT_V);
-    let across = onward(ranks, n, below, NEXT_U);
-    let down = onward(ranks, n, right, NEXT_V);
-    if n <= across {
-        return CellShape::Incomplete;
-    }
-    if n <= down {
-        return CellShape::Incomplete;
-    }
-    CellShape::Complete(
-        compare(
-            side_at(x, y, edges, 0, t, right),
-            side_at(x, y, edges, 0, below, across),
+    let lattice = &edges.view.lattice;
+    let t = lattice.neighbour(k, o)?;
+    let right = lattice.neighbour(t, NEXT_U)?;
+    let below = lattice.neighbour(t, NEXT_V)?;
+    let across = lattice.neighbour(below, NEXT_U)?;
+    let down = lattice.neighbour(right, NEXT_V)?;
+    Some(CellShape {
+        along_u: compare(
+            side_at(edges, Axis::AlongU, t, right),
+            side_at(edges, Axis::AlongU, below, across),
         ),
-        compare(
-            side_at(x, y, edges, 1, t, below),
-            side_at(x, y, edges, 1, right, down),
+        along_v: compare(
+            side_at(edges, Axis::AlongV, t, below),
+            side_at(edges, Axis::AlongV, right, down),
         ),
-    )
+    })
 }
 
 // Whether a pair of opposite sides is within the gate.
-fn is_within(g: EdgeShapeParams, m: Measure) -> bool
+#[tactic(auto, unfolding(crate::specs::Figures::within_gate))]
+fn is_within(g: EdgeShapeParams, m: Option<Measure>) -> bool
     ensures { result ≡ within_gate g m }
 {
-    match m {
-        Measure::Absent => false,
-        Measure::Held(c, r) => {
-            if c < g.cell_opposite_cos_min {
-                return false;
-            }
-            if g.cell_opposite_length_ratio_max < r {
-                return false;
-            }
-            true
-        }
-    }
+    m.is_some_and(|m| {
+        !(m.cosine < g.cell_opposite_cos_min) && !(g.cell_opposite_length_ratio_max < m.ratio)
+    })
 }
 
-// 1 for a complete cell, else 0.
-fn adjacent_count(c: CellShape) -> u8
-    ensures { OneOrNone (is_adjacent c) result }
+// Whether both pairs of a cell's opposite sides are.
+fn is_valid(g: EdgeShapeParams, c: Option<CellShape>) -> bool
+    ensures { result ≡ is_valid g c }
 {
-    match c {
-        CellShape::Incomplete => 0,
-        CellShape::Complete(_, _) => 1,
-    }
+    c.is_some_and(|c| is_within(g, c.along_u) && is_within(g, c.along_v))
 }
 
-// 1 for a valid cell, else 0.
-fn valid_count(g: EdgeShapeParams, c: CellShape) -> u8
-    ensures { OneOrNone (is_valid g c) result }
-{
-    match c {
-        CellShape::Incomplete => 0,
-        CellShape::Complete(a, b) => {
-            if is_within(g, a) {
-                if is_within(g, b) {
-                    return 1;
-                }
-                return 0;
-            }
-            0
-        }
-    }
-}
-
-fn note_cell(m: Measure, c: CellShape) -> Measure
+#[tactic(auto, unfolding(crate::specs::Figures::noted_cell))]
+fn note_cell(m: Option<Measure>, c: Option<CellShape>) -> Option<Measure>
     ensures { result ≡ noted_cell m c }
 {
     match c {
-        CellShape::Incomplete => m,
-        CellShape::Complete(a, b) => note(note(m, a), b),
+        None => m,
+        Some(c) => note(note(m, c.along_u), c.along_v),
     }
 }
 
 // Whether a continuation fails the gate.
-fn continuation_fails(g: EdgeShapeParams, degree: u8, valid: u8, m: Measure) -> bool
+fn continuation_fails(g: EdgeShapeParams, degree: u8, valid: u8, m: Option<Measure>) -> bool
     ensures { result ≡ continuation_fails g degree valid m }
 {
-    match m {
-        Measure::Absent => false,
-        Measure::Held(c, r) => {
-            if c < g.continuation_cos_min {
-                return true;
-            }
-            if degree <= 3 {
-                return g.continuation_length_ratio_max < r;
-            }
-            if valid <= 2 {
-                return g.continuation_length_ratio_max < r;
-            }
-            false
-        }
-    }
+    m.is_some_and(|m| {
+        m.cosine < g.continuation_cos_min
+            || (degree <= 3 || valid <= 2) && g.continuation_length_ratio_max < m.ratio
+    })
 }
 
-fn first_reason(g: EdgeShapeParams, degree: u8, adjacent: u8, valid: u8, m: Measure) -> Reason
+#[tactic(auto, unfolding(crate::specs::Figures::reason_of))]
+fn first_reason(
+    g: EdgeShapeParams,
+    degree: u8,
+    adjacent: u8,
+    valid: u8,
+    m: Option<Measure>,
+) -> Option<Reason>
     ensures { result ≡ reason_of g degree adjacent valid m }
 {
     if degree < g.min_cardinal_degree {
-        return Reason::LowCardinalDegree;
+        return Some(Reason::LowCardinalDegree);
     }
     if continuation_fails(g, degree, valid, m) {
-        return Reason::BadContinuation;
+        return Some(Reason::BadContinuation);
     }
-    if adjacent == 0 {
-        return Reason::NoReason;
+    if 0 < adjacent && valid == 0 {
+        return Some(Reason::NoValidAdjacentCell);
     }
-    if valid == 0 {
-        return Reason::NoValidAdjacentCell;
-    }
-    Reason::NoReason
+    None
 }
 
 // "0 none, 1 low-cardinal-degree, 2 bad-continuation, 3 no-valid-adjacent-cell."
-pub fn reason_number(r: Reason) -> u8
+pub fn reason_number(r: Option<Reason>) -> u8
     ensures { result ≡ reason_number r }
 {
     match r {
-        Reason::NoReason => 0,
-        Reason::LowCardinalDegree => 1,
-        Reason::BadContinuation => 2,
-        Reason::NoValidAdjacentCell => 3,
+        None => 0,
+        Some(r) => r as u8,
     }
 }
 
+// All figures, from the continuations and the cells around a corner.
 fn figures_by(
     g: EdgeShapeParams,
     degree: u8,
-    m: Measure,
-    a: CellShape,
-    b: CellShape,
-    c: CellShape,
-    d: CellShape,
+    continuation: Option<Measure>,
+    cells: [Option<CellShape>; 4],
 ) -> Figures
-    ensures { result ≡ figures_by g degree m a b c d }
+    ensures { result ≡ figures_by g degree continuation cells }
 {
-    let adjacent = adjacent_count(a) + adjacent_count(b) + adjacent_count(c) + adjacent_count(d);
-    let valid = valid_count(g, a) + valid_count(g, b) + valid_count(g, c) + valid_count(g, d);
-    let reason = first_reason(g, degree, adjacent, valid, m);
-    let cells = note_cell(note_cell(note_cell(note_cell(Measure::Absent, a), b), c), d);
+    let adjacent = cells.iter().filter(|c| c.is_some()).count() as u8;
+    let valid = cells.iter().filter(|c| is_valid(g, **c)).count() as u8;
     Figures {
-        degree: degree,
-        adjacent: adjacent,
-        valid: valid,
-        continuation: m,
-        cells: cells,
-        reason: reason,
+        degree,
+        adjacent,
+        valid,
+        continuation,
+        cells: cells.iter().copied().fold(None, note_cell),
+        reason: first_reason(g, degree, adjacent, valid, continuation),
     }
 }
 
 // All figures of rank k's cell.
-pub fn figures_at(
-    g: EdgeShapeParams,
-    ranks: &Ranks,
-    x: &Floats,
-    y: &Floats,
-    edges: &Edges,
-    n: usize,
-    k: usize,
-) -> Figures
-    requires { WithEdges n ranks.now x.now y.now edges.now × (k < n) }
-    ensures { result ≡ figures_at g (view_at n ranks.now x.now y.now) k }
+#[tactic(auto, unfolding(view::specs::View::degree_at, crate::specs::Figures::continuations_at, crate::specs::Figures::figures_at))]
+pub fn figures_at(g: EdgeShapeParams, edges: &EdgeTable, k: usize) -> Figures
+    requires { k < edges.now.view.lattice.count }
+    ensures { result ≡ figures_at g (view_in edges.now.view) k }
 {
-    let degree = view::degree_at(ranks, n, k);
-    let along_u = continuation_at(ranks, x, y, edges, n, 0, k);
-    let along_v = continuation_at(ranks, x, y, edges, n, 1, k);
-    let a = cell_at(ranks, x, y, edges, n, view::rank_at(ranks, k, OWN));
-    let b = cell_at(ranks, x, y, edges, n, view::rank_at(ranks, k, PREV_U));
-    let c = cell_at(ranks, x, y, edges, n, view::rank_at(ranks, k, PREV_UV));
-    let d = cell_at(ranks, x, y, edges, n, view::rank_at(ranks, k, PREV_V));
-    figures_by(g, degree, note(along_u, along_v), a, b, c, d)
+    let along_u = continuation_at(edges, Axis::AlongU, k);
+    let along_v = continuation_at(edges, Axis::AlongV, k);
+    let cells = [
+        cell_at(edges, k, OWN),
+        cell_at(edges, k, PREV_U),
+        cell_at(edges, k, PREV_UV),
+        cell_at(edges, k, PREV_V),
+    ];
+    figures_by(
+        g,
+        edges.view.lattice.degree(k),
+        note(along_u, along_v),
+        cells,
+    )
 }

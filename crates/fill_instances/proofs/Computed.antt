@@ -14,8 +14,8 @@ use Rattle.cells.proofs.Edges.{coincide-true}
 use Rattle.grid.specs.Views.{view_of}
 use Rattle.sheet_file.specs.declared.Settings.{Settings}
 use Rattle.predict.specs.Fills.{fills_of}
-use Rattle.predict.specs.declared.Prediction.{Prediction}
-use Rattle.predict.specs.declared.Prediction.TheVariants.{NoPair}
+use Rattle.predict.specs.Predict.{Prediction}
+use Rattle.std.specs.Prelude.{None}
 use Rattle.predict.proofs.ByRank.{fills_same}
 use Rattle.drop_set.specs.Filters.{sides_of}
 use Rattle.judging.specs.Judging.{judged_for, fills_for}
@@ -28,7 +28,7 @@ use Rattle.instances.proofs.Computed.{marks-are, kept-is}
 
 -- the fill of rank k
 abbrev pub fill_by : Settings → List Point → List ℕ → ℕ → Prediction
-fill_by s ps m k = get_or (fills_of (view_of ps) (sides_of s) m) k NoPair
+fill_by s ps m k = get_or (fills_of (view_of ps) (sides_of s) m) k None
 
 module _ (s : Settings) (ps : List Point) (m : List ℕ) (e : marks_of s ps ≡ m) where
   seen : (k : ℕ) → k < (view_of ps).count → eqb (get_or (judged_for s ps).marks k 0) 0 ≡ eqb (get_or m k 0) 0
@@ -40,7 +40,7 @@ module _ (s : Settings) (ps : List Point) (m : List ℕ) (e : marks_of s ps ≡ 
   fills-are = fills_same (view_of ps) (sides_of s) (judged_for s ps).marks m seen
 
   pub fill-by : (k : ℕ) → fill_in s ps k ≡ fill_by s ps m k
-  fill-by k = ap (λ (l : List Prediction). get_or l k NoPair) fills-are
+  fill-by k = ap (λ (l : List Prediction). get_or l k None) fills-are
 
   pub dropped-by : (k : ℕ) → k < length ps → eqb (get_or m k 0) 0 ≡ false → dropped_rank s ps k ≡ true
   dropped-by k h z =

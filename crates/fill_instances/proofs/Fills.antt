@@ -1,4 +1,5 @@
 -- Positions for dropped points, of small files: by the rule, with one pair, two and none; and what they depend on. Assumes nothing.
+use Rattle.std.specs.Prelude.{Some}
 use mathlib.Core.Path.{◌≡◌, refl, sym, ap, ◌∙◌}
 use mathlib.Core.Bool.{true}
 use mathlib.Core.List.Permᴰ
@@ -16,13 +17,12 @@ use Rattle.cells.specs.Cell.{Cell, cell_of}
 use Rattle.sheet_file.specs.Bytes.{Bytes}
 use Rattle.sheet_file.specs.Frame.{framing_of, layout_of}
 use Rattle.sheet_file.specs.Refusals.{settings_in, gate_in}
-use Rattle.sheet_file.specs.declared.Framing.TheVariants.{Framed}
 use Rattle.sheet_file.specs.declared.Settings.{Settings}
 use Rattle.ruling.specs.Ruling.{accepted, ruling_of}
 use Rattle.ruling.specs.Order.{records_in, Relisted}
 use Rattle.ruling.proofs.Weights.{bytes-by, headed-by}
-use Rattle.predict.specs.declared.Prediction.{Prediction}
-use Rattle.predict.specs.declared.Prediction.TheVariants.{NoPair}
+use Rattle.predict.specs.Predict.{Prediction}
+use Rattle.std.specs.Prelude.{None}
 use Rattle.sheet_fills.specs.Answer.{fill_answer_of, fills_after}
 use Rattle.sheet_fills.specs.declared.FillAnswer.TheVariants.{Refused, Filled}
 use Rattle.promises.specs.Fills.{fill_in, dropped_rank, predicted_in, PairAt, Fills, KeptAlike}
@@ -50,14 +50,14 @@ pub row-marks : marks_of row_settings row ≡ middle_marked
 unfolding fills-compute
 row-marks = refl
 
-row-computed : list_of 3 (fill_by row_settings row middle_marked) ≡ NoPair ∷ filled 1 0x4120_0000 0 ∷ NoPair ∷ []
+row-computed : list_of 3 (fill_by row_settings row middle_marked) ≡ None ∷ filled 1 0x4120_0000 0 ∷ None ∷ []
 unfolding fills-compute
 row-computed = refl
 
 -- half way from (0,0) to (20,0)
 pub middle-filled : fill_in row_settings row 1 ≡ filled 1 0x4120_0000 0
 unfolding list_of
-middle-filled = fill-by row_settings row middle_marked row-marks 1 ∙ ap (λ (l : List Prediction). get_or l 1 NoPair) row-computed
+middle-filled = fill-by row_settings row middle_marked row-marks 1 ∙ ap (λ (l : List Prediction). get_or l 1 None) row-computed
 
 pub middle-dropped : dropped_rank row_settings row 1 ≡ true
 middle-dropped = dropped-by row_settings row middle_marked row-marks 1 (omega arith) refl
@@ -114,11 +114,11 @@ two-at-most = two-pairs plus_file 140 plus_settings plus plus-bytes plus-accepte
 
 -- ---- the sheet of five points: (5, 5) has no pair
 
-five-computed : fill_by settings five fifth_marked 4 ≡ NoPair
+five-computed : fill_by settings five fifth_marked 4 ≡ None
 unfolding fills-compute
 five-computed = refl
 
-pub fifth-filled : fill_in settings five 4 ≡ NoPair
+pub fifth-filled : fill_in settings five 4 ≡ None
 fifth-filled = fill-by settings five fifth_marked five-marks 4 ∙ five-computed
 
 -- what the promise says of it: no two kept points are at opposite neighbours
@@ -150,7 +150,7 @@ other-filled =
 
 -- ---- another order
 
-row-framed : framing_of row_file ≡ Framed (layout_of row_file)
+row-framed : framing_of row_file ≡ Some (layout_of row_file)
 unfolding file-computes
 row-framed = refl
 
@@ -160,5 +160,5 @@ row-relisted = record { rest = headed-by row_file row_turned (layout_of row_file
 
 pub turned-filled : (t : Settings) (qs : List Point) → ruling_of row_turned 84 ≡ accepted t qs → fill_in t qs 1 ≡ filled 1 0x4120_0000 0
 turned-filled t qs e =
-    ap (λ (l : List Prediction). get_or l 1 NoPair) (fills-another-order row_file row_turned (layout_of row_file) row-bytes row-framed row-relisted 84 row_settings t row qs row-accepted e)
+    ap (λ (l : List Prediction). get_or l 1 None) (fills-another-order row_file row_turned (layout_of row_file) row-bytes row-framed row-relisted 84 row_settings t row qs row-accepted e)
     ∙ middle-filled

@@ -16,8 +16,8 @@ use Rattle.sheet_file.specs.declared.Settings.{Settings}
 use Rattle.ruling.specs.Ruling.{Ruling, accepted, ruling_of}
 use Rattle.ruling.specs.Offset.{MovedAlong, moved_file, StaysInRange}
 use Rattle.ruling.proofs.MovedFile.{moved-bytes}
-use Rattle.predict.specs.declared.Prediction.{Prediction}
-use Rattle.predict.specs.declared.Prediction.TheVariants.{NoPair}
+use Rattle.predict.specs.Predict.{Prediction}
+use Rattle.std.specs.Prelude.{None}
 use Rattle.predict.proofs.Few.{pairs_in}
 use Rattle.drop_set.specs.Filters.{sides_of}
 use Rattle.judging.specs.Judging.{fills_for}
@@ -63,7 +63,7 @@ row-fills-moved =
     row-moved.kept row-along
 
 pub middle-moved : fill_in row_settings row_moved 1 ≡ filled 1 0x4120_0000 0
-middle-moved = ap (λ (l : List Prediction). get_or l 1 NoPair) row-fills-moved ∙ middle-filled
+middle-moved = ap (λ (l : List Prediction). get_or l 1 None) row-fills-moved ∙ middle-filled
 
 -- the same from the kept points alone
 row-alike : KeptAlike (moved (negsuc 5) (pos 7)) row_settings row row_settings row_moved
@@ -108,7 +108,7 @@ pub along-needed : ((file : List ℕ) (a b : ℤ) → Bytes file → (room : ℕ
 along-needed f =
     let p = moved-file-fills plus_file (pos 0) (negsuc 0) plus-bytes 140 plus_settings plus plus-accepted plus-in-range in
     differ
-    (ap (λ (l : List Prediction). get_or l 2 NoPair)
+    (ap (λ (l : List Prediction). get_or l 2 None)
     (subst (λ (qs : List Point). fills_for plus_settings qs ≡ fills_for plus_settings plus) (points-are p.along plus-moved-accepted)
     (f plus_file (pos 0) (negsuc 0) plus-bytes 140 plus_settings plus plus-accepted plus-in-range p)))
 

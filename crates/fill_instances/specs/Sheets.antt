@@ -1,17 +1,16 @@
 -- A row of three whose middle is dropped, and the same kept points with another middle, other indices and settings; a sheet whose fills change when
 -- it is moved. Assumes nothing.
-use Rattle.std.specs.Prelude.{Bool, false, true, List, [], ◌∷◌, ◌++◌, ℕ}
+use Rattle.std.specs.Prelude.{Bool, false, true, List, [], ◌∷◌, ◌++◌, ℕ, None, Some, Option}
 use Rattle.folds.specs.Arith.{f32}
 use Rattle.cells.specs.Points.{Point}
+use Rattle.sheet_file.specs.declared.EdgeShapeParams.{EdgeShapeParams}
 use Rattle.sheet_file.specs.Bytes.{little_endian}
 use Rattle.sheet_file.specs.Grammar.{field}
-use Rattle.sheet_file.specs.declared.EdgeGate.{EdgeGate}
-use Rattle.sheet_file.specs.declared.EdgeGate.TheVariants.{Off, On}
 use Rattle.sheet_file.specs.declared.Fraction.TheVariants.{Missing}
 use Rattle.sheet_file.specs.declared.Settings.{Settings}
 use Rattle.written_file.specs.File.{points_bytes, unweighed_file}
-use Rattle.predict.specs.declared.Prediction.{Prediction}
-use Rattle.predict.specs.declared.Prediction.TheVariants.{Pairs}
+use Rattle.predict.specs.Predict.{Prediction}
+use Rattle.std.specs.Prelude.{Some}
 use Rattle.edge_shape.specs.Figures.{index_figures}
 use Rattle.judging.specs.Judging.{fills_for}
 use Rattle.stars.specs.Stars.{rules-compute}
@@ -24,7 +23,7 @@ fills-compute = true
 
 -- a fill: the number of pairs, and the patterns of x and y
 abbrev pub filled : ℕ → ℕ → ℕ → Prediction
-filled pairs x y = Pairs (record { x = f32 x; y = f32 y; n_axis_pairs = pairs })
+filled pairs x y = Some (record { x = f32 x; y = f32 y; n_axis_pairs = pairs })
 
 -- ---- a row of three
 
@@ -32,9 +31,9 @@ filled pairs x y = Pairs (record { x = f32 x; y = f32 y; n_axis_pairs = pairs })
 abbrev gate : ℕ → List ℕ
 gate cosine = field 2 (0 ∷ (little_endian cosine ++ little_endian 0x4680_0000 ++ little_endian 0xBF80_0000 ++ little_endian 0x4680_0000))
 
-abbrev gate_on : ℕ → EdgeGate
+abbrev gate_on : ℕ → Option EdgeShapeParams
 gate_on cosine =
-    On
+    Some
     (record {
       min_cardinal_degree = 0;
       continuation_cos_min = f32 cosine;
@@ -109,7 +108,7 @@ plus_settings = record {
   step_deviation_thresh_rel = f32 0;
   apply_wrong_label_drops = false;
   apply_largest_component = false;
-  edge_shape = Off;
+  edge_shape = None;
   score_frac = Missing;
 }
 

@@ -13,11 +13,10 @@ use lib.Ieee.Bits.{is_false, cond_no}
 use lib.Ieee.Fits.{down_pos}
 use lib.Ieee.Digits.{size-lt, size-le}
 use lib.Ieee.Exact.{HasValue, odd_sign}
+use Rattle.std.proofs.Common.{Option, Some}
 use Rattle.float.specs.Root.{digits4, scaled, units, near_root, root_units, root_of}
 use Rattle.float.specs.Remainder.{scaled_root, whole_root_of, remainder_of, distance_of}
 use Rattle.float.specs.Found.{remainder_from, distance_at}
-use Rattle.float.specs.declared.Remainder.{Remainder}
-use Rattle.float.specs.declared.Remainder.TheVariants as remainder
 use Rattle.float.specs.declared.Distance.{Distance}
 use Rattle.float.specs.Constants.{sign_bit, hidden_bit}
 use Rattle.float.proofs.Near.{significand}
@@ -87,9 +86,9 @@ root-of-value : (y : Float) (a : ℕ) → 0 < a → HasValue y false a (2 ^ 149)
 unfolding root_of
 root-of-value = of-value root_of root_units (λ m e. refl)
 
-remainder-of-value : (y : Float) (a : ℕ) → 0 < a → HasValue y false a (2 ^ 149) → remainder_of y ≡ remainder.Found (remainder_from (scaled (2 * a)))
+remainder-of-value : (y : Float) (a : ℕ) → 0 < a → HasValue y false a (2 ^ 149) → remainder_of y ≡ Some (remainder_from (scaled (2 * a)))
 unfolding remainder_of whole_root_of scaled_root
-remainder-of-value = of-value remainder_of (λ n. remainder.Found (remainder_from (scaled n))) (λ m e. refl)
+remainder-of-value = of-value remainder_of (λ n. Some (remainder_from (scaled n))) (λ m e. refl)
 
 -- how many digits
 size_is : (n j : ℕ) → 2 ^ j ≤ n → n < 2 ^ suc j → size n ≡ suc j
@@ -159,10 +158,10 @@ distance-of-pattern b q k m w d e Q l h g f t p =
     let v = odd_sign 24 false q k 149 in
     let root : root_of y ≡ of_bits binary32 ((w / 2 + 50) * hidden_bit + near_root r) =
     root-of-value y a A v ∙ root-of-significand (2 * a) m w l h g t ∙ sym (normal _ (w / 2 + 50) (near_root r) refl s.0 s.1 (omega arith)) in
-    let rest : remainder_of y ≡ remainder.Found (remainder_from r) = remainder-of-value y a A v ∙ ap (λ (x : ℕ). remainder.Found (remainder_from x)) (scaled-is (2 * a) m w l h g t) in
+    let rest : remainder_of y ≡ Some (remainder_from r) = remainder-of-value y a A v ∙ ap (λ (x : ℕ). Some (remainder_from x)) (scaled-is (2 * a) m w l h g t) in
     p ∙ sym (ap distance_of e ∙ found root rest)
   where
-    found : {x x' : Float} {z z' : Remainder} → x ≡ x' → z ≡ z' → ◌≡◌ {A = Distance} (record { value = x; remainder = z }) (record { value = x'; remainder = z' })
+    found : {x x' : Float} {z z' : Option ℤ} → x ≡ x' → z ≡ z' → ◌≡◌ {A = Distance} (record { value = x; remainder = z }) (record { value = x'; remainder = z' })
     found e f = rw (e, f)
 
 -- The leading zeros z of a significand b in 32 bits, less 8, move it up to 24 bits

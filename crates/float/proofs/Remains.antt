@@ -5,6 +5,7 @@ use Prim.Native.Nat.{ℕ, zero, suc, ◌+◌, ◌-◌, ◌*◌, ◌^◌, ◌≤�
 use native.Mathlib.Nat.{mul_assoc, mul_comm, mul_left_comm, mul-pos, one-mul, le_refl, le_antisymm, le_of_suc-le-suc, lt_of_not-le, mul-add, mul-le-mul_left, mul-le-mul_right, eq_of_mul-eq-mul_right}
 use native.Mathlib.Decide.{dec_le}
 use native.Mathlib.Omega.{arith}
+use Rattle.std.proofs.Common.{Option, Some, None}
 use Rattle.std.proofs.lemmas.Int.{ints}
 use lib.Pow.{pow_pos, pow-add}
 use lib.IntN.{ℤ, pos, negsuc, ◌+ℤ◌, ◌-ℤ◌}
@@ -14,8 +15,7 @@ use lib.Ieee.Fits.{up_pos, down_pos}
 use Rattle.float.specs.Root.{digits4, scaled, units, near_root, root_of}
 use Rattle.float.specs.Remainder.{scaled_root, whole_root_of, remainder_in, is_no_remainder, is_zero}
 use Rattle.float.specs.Theorems.{WithRemainder, FoundFor, RemainderTheorem, ExactTheorem}
-use Rattle.float.specs.declared.WholeRoot.{WholeRoot}
-use Rattle.float.specs.declared.WholeRoot.TheVariants as whole
+use Rattle.float.specs.declared.ScaledRoot.{ScaledRoot}
 use Rattle.float.proofs.Fractions.{rescaled, one_size, whole_square}
 use Rattle.float.proofs.Near.{Remainder}
 use Rattle.float.proofs.Pattern.{four-pow}
@@ -177,18 +177,18 @@ exact m e t =
     let n = units (suc m) e in
     let h = pos 99 -ℤ pos (digits4 n) in
     let w = scaled_root n in
-    let shown : is_no_remainder (remainder_in (whole_root_of x)) ≡ is_zero w.remainder = ap (λ (y : WholeRoot). is_no_remainder (remainder_in y)) f.0 in (
+    let shown : is_no_remainder (remainder_in (whole_root_of x)) ≡ is_zero w.remainder = ap (λ (y : Option ScaledRoot). is_no_remainder (remainder_in y)) f.0 in (
       λ z. (w.root * down h, up h, up_pos h, (k.squared (w.root * down h) (up h) (up_pos h) k.value).0 (zero_is w.remainder (sym shown ∙ z))),
       λ v. shown ∙ ap is_zero (k.fraction v.0 v.1 v.2 v.3),
     )
 
 -- ---- worked examples
 
-abbrev found_at : ℕ → WholeRoot
+abbrev found_at : ℕ → Option ScaledRoot
 found_at b = whole_root_of (of_bits binary32 b)
 
-abbrev with : ℕ → ℤ → ℤ → WholeRoot
-with s z p = whole.Found (record { root = s; remainder = z; power = p })
+abbrev with : ℕ → ℤ → ℤ → Option ScaledRoot
+with s z p = Some (record { root = s; remainder = z; power = p })
 
 -- of 2, 5, 9 and 0x00000001
 pub of_two : found_at 0x4000_0000 ≡ with 11863283 (pos 4817239) (pos 46)
@@ -212,7 +212,7 @@ pub of_zeros : (found_at 0x0000_0000 ≡ with 0 (pos 0) (pos 0)) × (found_at 0x
 unfolding whole_root_of of_bits
 of_zeros = (refl, refl)
 
-pub of_others : (found_at 0xbf80_0000 ≡ whole.Neither) × (found_at 0x7f80_0000 ≡ whole.Neither) × (found_at 0xff80_0000 ≡ whole.Neither) × (found_at 0x7fc0_0000 ≡ whole.Neither)
+pub of_others : (found_at 0xbf80_0000 ≡ None) × (found_at 0x7f80_0000 ≡ None) × (found_at 0xff80_0000 ≡ None) × (found_at 0x7fc0_0000 ≡ None)
 unfolding whole_root_of of_bits
 of_others = (refl, refl, refl, refl)
 

@@ -9,48 +9,47 @@ use borrow.Author.Tests.{le-leb, lt-leb, eq-eqb, ne_eqb}
 use lib.Dec.{T, leb, eqb}
 use lib.Pow.{pow_pos}
 use lib.IntN.{ℤ, pos}
-use lib.Ieee.{Float, nan, inf, fin, binary32, down, up, odd, of_fields, of_bits, to_bits, fits, ne}
+use lib.Ieee.{Float, nan, inf, fin, binary32, down, up, odd, of_fields, of_bits, to_bits, fits, is_nan}
 use lib.Ieee.Bits.{of_bits-to_bits}
 use lib.Ieee.Fits.{down_pos}
-use lib.Ieee.Compare.{differs_from_itself}
 use lib.Ieee.Exact.{HasValue, odd_sign}
+use Rattle.std.proofs.Common.{Option, Some, None}
 use Rattle.float.specs.Root.{root_of}
 use Rattle.float.specs.Remainder.{remainder_of, distance_of}
-use Rattle.float.specs.declared.Remainder.{Remainder}
-use Rattle.float.specs.declared.Remainder.TheVariants as remainder
 use Rattle.float.specs.declared.Distance.{Distance}
 use Rattle.float.specs.Constants.{sign_bit, infinity_bits, hidden_bit}
+use Rattle.float.proofs.Nan.{only_nan}
 use Rattle.float.proofs.Pattern.{of_bits_is}
 
 -- a root that is x itself, with the remainder r
-abbrev Own : Float → Remainder → Type 0
+abbrev Own : Float → Option ℤ → Type 0
 Own x r = ◌≡◌ {A = Distance} (record { value = x; remainder = r }) (distance_of x)
 
-pub distance-of-nan : (x : Float) → ne x x ≡ true → Own x remainder.Neither
+pub distance-of-nan : (x : Float) → is_nan x ≡ true → Own x None
 unfolding root_of remainder_of
-distance-of-nan x h = let e = differs_from_itself x (subst T (sym h) tt) in rw e
+distance-of-nan x h = let e = only_nan x h in rw e
 
 -- x from its pattern
 pub pattern : (x : Float) (b : ℕ) → T (fits binary32 x) → to_bits binary32 x ≡ b → of_bits binary32 b ≡ x
 pattern x b f h = ap (of_bits binary32) (sym h) ∙ of_bits-to_bits binary32 x f
 
 -- of x from its pattern
-pub own_distance : (x : Float) (b : ℕ) {r : Remainder} → T (fits binary32 x) → to_bits binary32 x ≡ b → Own (of_bits binary32 b) r → Own x r
+pub own_distance : (x : Float) (b : ℕ) {r : Option ℤ} → T (fits binary32 x) → to_bits binary32 x ≡ b → Own (of_bits binary32 b) r → Own x r
 own_distance x b {r} f h e = subst (λ (y : Float). Own y r) (pattern x b f h) e
 
-pub distance-of-zero : Own (of_bits binary32 0) (remainder.Found (pos 0))
+pub distance-of-zero : Own (of_bits binary32 0) (Some (pos 0))
 unfolding root_of remainder_of of_bits
 distance-of-zero = refl
 
-pub distance-of-minus-zero : Own (of_bits binary32 sign_bit) (remainder.Found (pos 0))
+pub distance-of-minus-zero : Own (of_bits binary32 sign_bit) (Some (pos 0))
 unfolding root_of remainder_of of_bits
 distance-of-minus-zero = refl
 
-pub distance-of-one : Own (of_bits binary32 0x3f80_0000) (remainder.Found (pos 0))
+pub distance-of-one : Own (of_bits binary32 0x3f80_0000) (Some (pos 0))
 unfolding root_of remainder_of of_bits
 distance-of-one = refl
 
-pub distance-of-infinity : Own (of_bits binary32 infinity_bits) remainder.Neither
+pub distance-of-infinity : Own (of_bits binary32 infinity_bits) None
 unfolding root_of remainder_of of_bits
 distance-of-infinity = refl
 
@@ -95,11 +94,11 @@ rootless b l h n = subst Rootless (sym (of_bits_is b)) (go (dec_lt b sign_bit))
     go (yes g) = rw (lt-leb sign_bit b g) (plus-fields (b % sign_bit / hidden_bit) (b % hidden_bit) (omega arith) (omega arith))
     go (no g) = rw (le-leb sign_bit b (omega (arith, g))) (minus-fields (b % sign_bit / hidden_bit) (b % hidden_bit) (omega (arith, n, g)))
 
-nan-of : {y : Float} → Rootless y → ◌≡◌ {A = Distance} (record { value = nan; remainder = remainder.Neither }) (distance_of y)
+nan-of : {y : Float} → Rootless y → ◌≡◌ {A = Distance} (record { value = nan; remainder = None }) (distance_of y)
 unfolding root_of remainder_of
 nan-of no_number = refl
 nan-of infinite = refl
 nan-of (negative m e) = refl
 
-pub no-root : (b : ℕ) → infinity_bits < b → b < 2 ^ 32 → (b ≡ sign_bit → ⊥) → ◌≡◌ {A = Distance} (record { value = nan; remainder = remainder.Neither }) (distance_of (of_bits binary32 b))
+pub no-root : (b : ℕ) → infinity_bits < b → b < 2 ^ 32 → (b ≡ sign_bit → ⊥) → ◌≡◌ {A = Distance} (record { value = nan; remainder = None }) (distance_of (of_bits binary32 b))
 no-root b l h n = nan-of (rootless b l h n)

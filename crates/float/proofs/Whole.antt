@@ -10,16 +10,13 @@ use lib.IntN.{ℤ, pos, negsuc, ◌-ℤ◌}
 use lib.Ieee.{Float, nan, inf, fin, binary32, fits, of_bits, to_bits}
 use lib.Ieee.Bits.{to_bits-of_bits, nan_bits_is}
 use borrow.Author.Tests.{ne_eqb}
+use Rattle.std.proofs.Common.{Option, Some, None}
 use Rattle.std.proofs.lemmas.Int.{ints}
 use Rattle.float.specs.Constants.{hidden_bit, sign_bit, infinity_bits}
 use Rattle.float.specs.Root.{digits4, scaled, units, near_root, root_units, root_of}
 use Rattle.float.specs.Remainder.{scaled_root, whole_root_of, remainder_of}
 use Rattle.float.specs.Found.{scaled_root_at}
-use Rattle.float.specs.declared.Remainder.{Remainder}
-use Rattle.float.specs.declared.Remainder.TheVariants as remainder
 use Rattle.float.specs.declared.ScaledRoot.{ScaledRoot}
-use Rattle.float.specs.declared.WholeRoot.{WholeRoot}
-use Rattle.float.specs.declared.WholeRoot.TheVariants as whole
 use Rattle.float.proofs.Nan.{no-nan-pattern}
 use Rattle.float.proofs.Pattern.{normal}
 use Rattle.float.proofs.Theorems.{rooted}
@@ -31,7 +28,7 @@ root-bits x = to_bits binary32 (root_of x) % sign_bit
 -- with the remainder z it gives the root by whole numbers
 pub record Read (x : Float) (z : ℤ) : Type 0 where
   pub low : root-bits x < infinity_bits
-  pub same : whole.Found (scaled_root_at (root-bits x) z) ≡ whole_root_of x
+  pub same : Some (scaled_root_at (root-bits x) z) ≡ whole_root_of x
 
 -- ---- zeros
 
@@ -86,58 +83,35 @@ module _ (m : ℕ) (e : ℤ) (t : T (fits binary32 (fin false (suc m) e))) where
       let k = rooted m e t in
       record {
         low = rw bits (omega (arith, k.few, k.high));
-        same = ap (λ (y : ℕ). whole.Found (scaled_root_at y (scaled_root n).remainder)) bits ∙ ap whole.Found (fields b (digits4 n) (near_root (scaled n)) refl k.low k.high (scaled_root n).remainder);
+        same = ap (λ (y : ℕ). Some (scaled_root_at y (scaled_root n).remainder)) bits ∙ ap Some (fields b (digits4 n) (near_root (scaled n)) refl k.low k.high (scaled_root n).remainder);
       }
 
 -- ---- all
 
-abbrev number : Remainder → ℤ
-number remainder.Neither = pos 0
-number (remainder.Found z) = z
-
-data IsFound : Remainder → Type 0 where
-  is_found : (z : ℤ) → IsFound (remainder.Found z)
-
-none : {A : Type 0} → IsFound remainder.Neither → A
-none f = elim f [ ]
-
-pub read : (x : Float) (z : ℤ) → T (fits binary32 x) → remainder_of x ≡ remainder.Found z → Read x z
+pub read : (x : Float) (z : ℤ) → T (fits binary32 x) → remainder_of x ≡ Some z → Read x z
 unfolding remainder_of whole_root_of
-read nan z t e = none (subst IsFound (sym e) (is_found z))
-read (inf s) z t e = none (subst IsFound (sym e) (is_found z))
-read (fin s zero y) z t e = let p = of-zero s y t in let q : pos 0 ≡ z = ap number e in rw (p, ← q) (read-zero s)
-read (fin true (suc m) y) z t e = none (subst IsFound (sym e) (is_found z))
-read (fin false (suc m) y) z t e = subst (λ (v : ℤ). Read (fin false (suc m) y) v) (ap number e) (read-positive m y t)
+read nan z t e = cc
+read (inf s) z t e = cc
+read (fin s zero y) z t e = let p = of-zero s y t in let q : pos 0 ≡ z = cc in rw (p, ← q) (read-zero s)
+read (fin true (suc m) y) z t e = cc
+read (fin false (suc m) y) z t e = let q : (scaled_root (units (suc m) y)).remainder ≡ z = cc in rw (← q) (read-positive m y t)
 
-pub neither : (x : Float) → remainder_of x ≡ remainder.Neither → whole.Neither ≡ whole_root_of x
+pub neither : (x : Float) → remainder_of x ≡ None → None ≡ whole_root_of x
 unfolding remainder_of whole_root_of
 neither nan e = refl
 neither (inf s) e = refl
-neither (fin s zero y) e = none (subst IsFound e (is_found _))
+neither (fin s zero y) e = cc
 neither (fin true (suc m) y) e = refl
-neither (fin false (suc m) y) e = none (subst IsFound e (is_found _))
-
-data IsSome : WholeRoot → Type 0 where
-  some : (r : ScaledRoot) → IsSome (whole.Found r)
-
-none_left : {A : Type 0} → IsSome whole.Neither → A
-none_left f = elim f [ ]
-
-abbrev root-in : WholeRoot → ℕ
-root-in whole.Neither = 0
-root-in (whole.Found s) = s.root
+neither (fin false (suc m) y) e = cc
 
 -- S has 24 bits
-pub root_small : (x : Float) (w : WholeRoot) → T (fits binary32 x) → w ≡ whole_root_of x → (r : ScaledRoot) → w ≡ whole.Found r → r.root < 2 ^ 24
+pub root_small : (x : Float) (w : Option ScaledRoot) → T (fits binary32 x) → w ≡ whole_root_of x → (r : ScaledRoot) → w ≡ Some r → r.root < 2 ^ 24
 unfolding whole_root_of scaled_root
 root_small x w t e r f = at x (sym e ∙ f) t
   where
-    no : {A : Type 0} → whole.Neither ≡ whole.Found r → A
-    no q = none_left (subst IsSome (sym q) (some r))
-
-    at : (x : Float) → whole_root_of x ≡ whole.Found r → T (fits binary32 x) → r.root < 2 ^ 24
-    at nan q t = no q
-    at (inf s) q t = no q
-    at (fin s zero y) q t = omega (arith, ap root-in q)
-    at (fin true (suc m) y) q t = no q
-    at (fin false (suc m) y) q t = omega (arith, ap root-in q, (rooted m y t).high)
+    at : (x : Float) → whole_root_of x ≡ Some r → T (fits binary32 x) → r.root < 2 ^ 24
+    at nan q t = cc
+    at (inf s) q t = cc
+    at (fin s zero y) q t = let e : 0 ≡ r.root = cc in omega arith
+    at (fin true (suc m) y) q t = cc
+    at (fin false (suc m) y) q t = let e : near_root (scaled (units (suc m) y)) ≡ r.root = cc in omega (arith, (rooted m y t).high)

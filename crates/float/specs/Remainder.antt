@@ -1,15 +1,11 @@
 -- The root with its remainder. "For a positive finite number, scaled by an even power of two so that its root lies from 2^23 up to below 2^24, hand
 -- back the whole number S nearest that root and the exact signed remainder R − S², where R is the scaled number."
-use Rattle.std.specs.Prelude.{ℕ, zero, suc, ◌*◌, Bool, true, false, ℤ, pos, negsuc, ◌-ℤ◌, Float}
+use Rattle.std.specs.Prelude.{ℕ, zero, suc, ◌*◌, Bool, true, false, ℤ, pos, negsuc, ◌-ℤ◌, Float, Option, Some, None}
 use Rattle.std.specs.Float.{nan, inf, fin, binary32}
 use Rattle.std.specs.Float.Ieee.{add, mul}
 use Rattle.float.specs.Root.{near_root, digits4, scaled, units, root_of}
 use Rattle.float.specs.Scalar.{norm_of}
 use Rattle.float.specs.declared.ScaledRoot.{ScaledRoot}
-use Rattle.float.specs.declared.WholeRoot.{WholeRoot}
-use Rattle.float.specs.declared.WholeRoot.TheVariants as whole
-use Rattle.float.specs.declared.Remainder.{Remainder}
-use Rattle.float.specs.declared.Remainder.TheVariants as remainder
 use Rattle.float.specs.declared.Distance.{Distance}
 
 -- S, R − S² and the power, for the number n / 2 ^ 150: R is n * 4 ^ 24 / 4 ^ d = n / 2 ^ 150 * 2 ^ (198 - 2 * d) for the d digits of n in base 4
@@ -24,19 +20,19 @@ abbrev pub root_of_zero : ScaledRoot
 root_of_zero = record { root = 0; remainder = pos 0; power = pos 0 }
 
 -- "For negatives, infinity and NaN there is neither, and this is said."
-unfoldable pub whole_root_of : Float → WholeRoot
+unfoldable pub whole_root_of : Float → Option ScaledRoot
 unfolding scaled_root
-whole_root_of nan = whole.Neither
-whole_root_of (inf s) = whole.Neither
-whole_root_of (fin s zero e) = whole.Found root_of_zero
-whole_root_of (fin true (suc m) e) = whole.Neither
-whole_root_of (fin false (suc m) e) = whole.Found (scaled_root (units (suc m) e))
+whole_root_of nan = None
+whole_root_of (inf s) = None
+whole_root_of (fin s zero e) = Some root_of_zero
+whole_root_of (fin true (suc m) e) = None
+whole_root_of (fin false (suc m) e) = Some (scaled_root (units (suc m) e))
 
-abbrev pub remainder_in : WholeRoot → Remainder
-remainder_in whole.Neither = remainder.Neither
-remainder_in (whole.Found r) = remainder.Found r.remainder
+abbrev pub remainder_in : Option ScaledRoot → Option ℤ
+remainder_in None = None
+remainder_in (Some r) = Some r.remainder
 
-unfoldable pub remainder_of : Float → Remainder
+unfoldable pub remainder_of : Float → Option ℤ
 unfolding whole_root_of
 remainder_of x = remainder_in (whole_root_of x)
 
@@ -53,9 +49,9 @@ is_zero (pos zero) = true
 is_zero (pos (suc n)) = false
 is_zero (negsuc n) = false
 
-abbrev pub is_no_remainder : Remainder → Bool
-is_no_remainder remainder.Neither = false
-is_no_remainder (remainder.Found z) = is_zero z
+abbrev pub is_no_remainder : Option ℤ → Bool
+is_no_remainder None = false
+is_no_remainder (Some z) = is_zero z
 
 -- "whose remainder is 0"
 abbrev pub is_exact : Distance → Bool

@@ -1,12 +1,11 @@
 -- What holds of the root with its remainder, for every f32. Assumes nothing.
-use Rattle.std.specs.Prelude.{◌≡◌, ◌↔◌, T, true, false, ℕ, zero, suc, ◌+◌, ◌-◌, ◌*◌, ◌^◌, ◌≤◌, ◌<◌, ℤ, pos, ◌+ℤ◌, ◌-ℤ◌, ◌≤ℤ◌, Float}
+use Rattle.std.specs.Prelude.{◌≡◌, ◌↔◌, T, true, false, ℕ, zero, suc, ◌+◌, ◌-◌, ◌*◌, ◌^◌, ◌≤◌, ◌<◌, ℤ, pos, ◌+ℤ◌, ◌-ℤ◌, ◌≤ℤ◌, Float, Some, None}
 use Rattle.std.specs.Float.{nan, inf, fin, binary32}
 use Rattle.std.specs.Float.Ieee.{up, down, fits}
 use Rattle.std.specs.Float.Ieee.Exact.{HasValue}
 use Rattle.float.specs.Root.{digits4, scaled, units, root_of}
 use Rattle.float.specs.Remainder.{scaled_root, root_of_zero, whole_root_of, remainder_in, is_no_remainder}
 use Rattle.float.specs.declared.ScaledRoot.{ScaledRoot}
-use Rattle.float.specs.declared.WholeRoot.TheVariants as whole
 
 -- x is finite and above 0, and w is what is found for it: S, the remainder and the power. r is the scaled number R, and h the half of the power.
 -- `HasValue x false a c` says that x is a / c, and 2 ^ h is the fraction up h / down h.
@@ -40,13 +39,13 @@ pub record WithRemainder (x : Float) (r : ℕ) (h : ℤ) (w : ScaledRoot) : Type
 
 -- "Zero of either sign has S = 0 and remainder 0. For negatives, infinity and NaN there is neither, and this is said."
 abbrev pub FoundFor : Float → Type 0
-FoundFor nan = whole_root_of nan ≡ whole.Neither
-FoundFor (inf s) = whole_root_of (inf s) ≡ whole.Neither
-FoundFor (fin s zero e) = whole_root_of (fin s zero e) ≡ whole.Found root_of_zero
-FoundFor (fin true (suc m) e) = whole_root_of (fin true (suc m) e) ≡ whole.Neither
+FoundFor nan = whole_root_of nan ≡ None
+FoundFor (inf s) = whole_root_of (inf s) ≡ None
+FoundFor (fin s zero e) = whole_root_of (fin s zero e) ≡ Some root_of_zero
+FoundFor (fin true (suc m) e) = whole_root_of (fin true (suc m) e) ≡ None
 FoundFor (fin false (suc m) e) =
     let n = units (suc m) e in
-    (whole_root_of (fin false (suc m) e) ≡ whole.Found (scaled_root n)) × WithRemainder (fin false (suc m) e) (scaled n) (pos 99 -ℤ pos (digits4 n)) (scaled_root n)
+    (whole_root_of (fin false (suc m) e) ≡ Some (scaled_root n)) × WithRemainder (fin false (suc m) e) (scaled n) (pos 99 -ℤ pos (digits4 n)) (scaled_root n)
 
 -- of every f32
 abbrev pub RemainderTheorem : Type 0

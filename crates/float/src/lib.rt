@@ -1,4 +1,4 @@
-// f32 functions that the language does not have: the nearest root, by whole numbers, and the small ones of Rust.
+// f32 functions: the nearest root by whole numbers, with its remainder, and the small ones of Rust.
 #![tactic(auto)]
 
 ghost use Rattle.std.specs.Prelude.{◌≡◌, ◌+◌, ◌*◌, ◌/◌, ◌%◌, ◌^◌, ◌≤◌, ◌<◌, pos};
@@ -7,10 +7,9 @@ ghost use Rattle.std.specs.Float.Ieee.{of_bits, to_bits};
 ghost use Rattle.float.specs.Constants.{infinity_bits};
 ghost use Rattle.float.specs.Root.{near_root, root_of};
 ghost use Rattle.float.specs.Scalar.{norm_of, abs_of, magnitude_of, max_of, min_of, clamp_of, over30_degrees};
-ghost use Rattle.float.specs.Remainder.{whole_root_of, distance_of, length_of, is_zero, is_exact};
+ghost use Rattle.float.specs.Remainder.{whole_root_of, distance_of, length_of, is_exact};
 ghost use Rattle.float.specs.Found.{remainder_from, distance_at, scaled_root_at};
 ghost use Rattle.float.specs.Words.{found_number, root_words};
-ghost use Rattle.float.specs.declared.Remainder.TheVariants.{Found, Neither};
 
 pub mod constants;
 mod roots;
@@ -23,25 +22,11 @@ pub struct ScaledRoot {
     pub power: i32,
 }
 
-// For negatives, infinity and NaN there is neither root nor remainder.
-#[derive(Clone, Copy)]
-pub enum WholeRoot {
-    Neither,
-    Found(ScaledRoot),
-}
-
-// What is known of a root's remainder: R - S * S, or that there is neither.
-#[derive(Clone, Copy)]
-pub enum Remainder {
-    Neither,
-    Found(i32),
-}
-
-// A distance: the f32 nearest to a root, and the root's remainder.
+// A distance: the f32 nearest to a root, and the root's remainder R - S * S, if there is one.
 #[derive(Clone, Copy)]
 pub struct Distance {
     pub value: f32,
-    pub remainder: Remainder,
+    pub remainder: Option<i32>,
 }
 
 // Near the root of n: off by at most 1 from the nearest whole number, by a run over all scaled numbers. A line between two roots of the table,
@@ -120,11 +105,11 @@ fn significand_root(m: u32, w: u32) -> Distance
     requires { (2 ^ 23 ≤ m) × (m < 2 ^ 24) × (w < 280) }
     ensures { result ≡ distance_at (w / 2) (m * 2 ^ (23 + w % 2)) }
 {
-    let n = (m as u64) << (23 + w % 2);
+    let n = u64::from(m) << (23 + w % 2);
     let s = near_root(n);
     Distance {
         value: f32::from_bits((w / 2 + 50) * 0x80_0000 + s.root),
-        remainder: Remainder::Found(s.remainder),
+        remainder: Some(s.remainder),
     }
 }
 
@@ -134,7 +119,7 @@ fn positive_root(b: u32) -> Distance
     ensures { result ≡ distance_of (of_bits binary32 b) }
 {
     if b < 0x80_0000 {
-        let shift = u32::leading_zeros(b) - 8;
+        let shift = b.leading_zeros() - 8;
         return significand_root(b << shift, 26 - shift);
     }
     significand_root(0x80_0000 + b % 0x80_0000, b / 0x80_0000 + 25)
@@ -142,21 +127,21 @@ fn positive_root(b: u32) -> Distance
 
 // A root that is the number itself and leaves nothing.
 fn own_root(x: f32) -> Distance
-    ensures { result ≡ record { value = x; remainder = Found (pos 0) } }
+    ensures { result ≡ record { value = x; remainder = Some (pos 0) } }
 {
     Distance {
         value: x,
-        remainder: Remainder::Found(0),
+        remainder: Some(0),
     }
 }
 
 // What stands in the place of a root where there is neither root nor remainder by whole numbers.
 fn no_root(x: f32) -> Distance
-    ensures { result ≡ record { value = x; remainder = Neither } }
+    ensures { result ≡ record { value = x; remainder = None } }
 {
     Distance {
         value: x,
-        remainder: Remainder::Neither,
+        remainder: None,
     }
 }
 
@@ -165,10 +150,10 @@ fn no_root(x: f32) -> Distance
 pub fn root_distance(x: f32) -> Distance
     ensures { result ≡ distance_of x }
 {
-    if x != x {
+    if x.is_nan() {
         return no_root(x);
     }
-    let b = f32::to_bits(x);
+    let b = x.to_bits();
     if b == 0 {
         return own_root(x);
     }
@@ -184,15 +169,14 @@ pub fn root_distance(x: f32) -> Distance
     if b == 0x8000_0000 {
         return own_root(x);
     }
-    no_root(0.0 / 0.0)
+    no_root(f32::NAN)
 }
 
 // The nearest f32 to the root of x.
 pub fn sqrt(x: f32) -> f32
     ensures { result ≡ root_of x }
 {
-    let d = root_distance(x);
-    d.value
+    root_distance(x).value
 }
 
 // S and the power from the pattern b of a root without its sign, with the remainder.
@@ -214,16 +198,13 @@ fn scaled_root(b: u32, remainder: i32) -> ScaledRoot
     }
 }
 
-// The root of x by whole numbers.
-pub fn whole_root(x: f32) -> WholeRoot
+// The root of x by whole numbers: none for negatives, infinity and NaN.
+pub fn whole_root(x: f32) -> Option<ScaledRoot>
     ensures { result ≡ whole_root_of x }
 {
     let d = root_distance(x);
-    let b = to_bits(d.value) % 0x8000_0000;
-    match d.remainder {
-        Remainder::Found(z) => WholeRoot::Found(scaled_root(b, z)),
-        Remainder::Neither => WholeRoot::Neither,
-    }
+    let z = d.remainder?;
+    Some(scaled_root(to_bits(d.value) % 0x8000_0000, z))
 }
 
 // S, the power and the remainder of x into three words, and 1; or 0 where there is neither, and the words stay.
@@ -232,8 +213,8 @@ pub fn store_whole_root(x: f32, words: &mut [i32; 3]) -> i32
     ensures words { words.new ≡ root_words (whole_root_of x) words.old }
 {
     match whole_root(x) {
-        WholeRoot::Neither => 0,
-        WholeRoot::Found(r) => {
+        None => 0,
+        Some(r) => {
             *words = [r.root as i32, r.power, r.remainder];
             1
         }
@@ -247,20 +228,11 @@ pub fn norm(x: f32, y: f32) -> Distance
     root_distance(x * x + y * y)
 }
 
-fn is_zero(z: i32) -> bool
-    ensures { result ≡ is_zero z }
-{
-    z == 0
-}
-
 // Whether a distance is the root itself: its remainder is 0.
 pub fn is_exact(d: Distance) -> bool
     ensures { result ≡ is_exact d }
 {
-    match d.remainder {
-        Remainder::Found(z) => is_zero(z),
-        Remainder::Neither => false,
-    }
+    matches!(d.remainder, Some(0))
 }
 
 // The f32 with the bit pattern b; every NaN's pattern gives the NaN.
@@ -268,7 +240,7 @@ pub fn from_bits(b: u32) -> f32
     ensures { result ≡ of_bits binary32 b }
 {
     if b % 0x8000_0000 > 0x7f80_0000 {
-        return 0.0 / 0.0;
+        return f32::NAN;
     }
     f32::from_bits(b)
 }
@@ -277,20 +249,20 @@ pub fn from_bits(b: u32) -> f32
 pub fn to_bits(x: f32) -> u32
     ensures { result ≡ to_bits binary32 x }
 {
-    if x != x {
+    if x.is_nan() {
         return 0x7fc0_0000;
     }
-    f32::to_bits(x)
+    x.to_bits()
 }
 
-// x with its sign cleared.
+// x with its sign cleared. The language's `abs` gives the same; this takes fewer operations, which the sweep of close pairs shows.
 pub fn abs(x: f32) -> f32
     ensures { result ≡ abs_of x }
 {
-    if x != x {
+    if x.is_nan() {
         return x;
     }
-    f32::from_bits(f32::to_bits(x) % 0x8000_0000)
+    f32::from_bits(x.to_bits() % 0x8000_0000)
 }
 
 // The larger of x and -x, for comparisons: x with its sign cleared, but for the sign of a zero (`compares-as`). It takes fewer operations than
@@ -302,21 +274,21 @@ pub fn magnitude(x: f32) -> f32
     if y < x { x } else { y }
 }
 
-// The larger: the other where one is a NaN, a where they are equal.
+// The larger: the other where one is a NaN, a where they are equal; the language leaves open which of equals, so the sign of a zero.
 pub fn max(a: f32, b: f32) -> f32
     ensures { result ≡ max_of a b }
 {
-    if a != a {
+    if a.is_nan() {
         return b;
     }
     if a < b { b } else { a }
 }
 
-// The smaller: the other where one is a NaN, a where they are equal.
+// The smaller: the other where one is a NaN, a where they are equal; likewise.
 pub fn min(a: f32, b: f32) -> f32
     ensures { result ≡ min_of a b }
 {
-    if a != a {
+    if a.is_nan() {
         return b;
     }
     if b < a { b } else { a }
@@ -326,10 +298,7 @@ pub fn min(a: f32, b: f32) -> f32
 pub fn clamp(x: f32) -> f32
     ensures { result ≡ clamp_of x }
 {
-    if x < constants::MINUS_ONE {
-        return constants::MINUS_ONE;
-    }
-    if x > 1.0 { 1.0 } else { x }
+    x.clamp(constants::MINUS_ONE, 1.0)
 }
 
 // Whether an angle with the cosine c is over 30 degrees. The largest f32 below √3 / 2 is 14,529,495 / 2^24.

@@ -50,7 +50,7 @@ pub(crate) fn root_at(t: u64) -> u64
     requires { (64 ≤ t) × (t < 256) }
     ensures { result < 2 ^ 25 }
 {
-    (ROOTS[(t - 64) as usize] % 0x200_0000) as u64
+    u64::from(ROOTS[(t - 64) as usize] % 0x200_0000)
 }
 
 // From there to the next.
@@ -58,5 +58,5 @@ pub(crate) fn step_at(t: u64) -> u64
     requires { (64 ≤ t) × (t < 256) }
     ensures { result < 2 ^ 16 }
 {
-    STEPS[(t - 64) as usize] as u64
+    u64::from(STEPS[(t - 64) as usize])
 }

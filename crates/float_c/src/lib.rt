@@ -20,8 +20,7 @@ pub extern "C" fn float_sqrt(x: f32) -> f32
 pub extern "C" fn float_norm(x: f32, y: f32) -> f32
     ensures { result ≡ norm_of x y }
 {
-    let d = float::norm(x, y);
-    d.value
+    float::norm(x, y).value
 }
 
 #[unsafe(no_mangle)]

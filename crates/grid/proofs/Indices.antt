@@ -2,34 +2,22 @@
 use mathlib.Core.Path.{◌≡◌, refl, sym, ap, ◌∙◌}
 use mathlib.Core.Bool.{Bool, true, false, cond, ◌&&◌, true≢false}
 use mathlib.Core.Logic.{◌⊎◌, inl, inr}
-use mathlib.Core.List.{List, ◌++◌}
-use Prim.Native.Nat.{ℕ, suc, ◌+◌, ◌-◌, ◌*◌, ◌/◌, ◌%◌, ◌≤◌, ◌<◌}
+use mathlib.Core.List.{List}
+use Prim.Native.Nat.{ℕ, suc, ◌+◌, ◌*◌, ◌/◌, ◌%◌, ◌≤◌, ◌<◌}
 use Prim.{Dec, yes, no}
 use native.Mathlib.Omega.{arith}
 use native.Mathlib.Nat.{eq-or-lt_of_le}
 use native.Mathlib.Decide.{dec_lt}
 use lib.Dec.{eqb, ltb}
-use lib.ListN.{length, get_or, take, drop, set, length-set, replicate, get_or-append}
-use lib.Seq.{get_or-set_same, get_or-set_other, take_at}
+use lib.ListN.{length, get_or, set, length-set}
+use lib.Seq.{get_or-set_same, get_or-set_other}
 use borrow.Author.Tests.{lt-ltb, eq-eqb, ne_eqb, ltb-true, eqb-true}
 use Rattle.folds.proofs.Below.{and_left, and_right, and_both, last-hit}
-use Rattle.folds.specs.Lists.{list_of}
-use Rattle.folds.proofs.Lists.{length-list}
-use Rattle.folds.specs.Column.{column}
 use Rattle.view.specs.View.{max_points, ranks_size, indices_at}
-use Rattle.sort.specs.Numbers.{sorted}
-use Rattle.sort.specs.Packed.{packed_places, packed, in_order_of, placed}
-use Rattle.sort.proofs.Packed.{in_order-length, placed_below, placed-is, place_of, placed-rises}
+use Rattle.sort.specs.Packed.{packed_places, in_order_of, placed}
+use Rattle.sort.proofs.Packed.{placed_below, placed-is, place_of, placed-rises}
 use Rattle.grid.specs.Tables.{entry_in, last_with_index, spliced}
 use Rattle.grid.proofs.Splicing.{is-spliced}
-
--- what the sort leaves
-pub order_is : (key : ℕ → ℕ) (n : ℕ) (l : List ℕ) → n ≤ max_points → l ≡ sorted (take n (column max_points 0 n (packed key))) ++ drop n (column max_points 0 n (packed key))
-    → (r : ℕ) → r < n → entry_in l r ≡ get_or (in_order_of key n) r 0
-unfolding column in_order_of
-order_is key n l few e r h =
-    let t : take n (column max_points 0 n (packed key)) ≡ list_of n (packed key) = take_at (list_of n (packed key)) (replicate (max_points - n) 0) n (length-list n (packed key)) in
-    rw (e, t) (get_or-append (in_order_of key n) (drop n (column max_points 0 n (packed key))) 0 r (omega (arith, in_order-length key n)))
 
 -- the rank at place r of the order
 abbrev rank_in : List ℕ → ℕ → ℕ

@@ -2,11 +2,10 @@
 #![tactic(auto)]
 
 ghost use Rattle.std.specs.Prelude.{◌≡◌, cond, ◌&&◌, ◌+◌, ◌*◌, ◌/◌, ◌%◌, ◌≤◌, ◌<◌, eqb, ltb, length, replicate};
-ghost use Rattle.folds.specs.Column.{column};
 ghost use Rattle.view.specs.View.{max_points, ranks_size, rows_at, columns_at, indices_at};
 ghost use Rattle.cells.specs.Points.{stride};
 ghost use Rattle.cells.specs.Cell.{cells_at};
-ghost use Rattle.sort.specs.Packed.{packed_places, packed};
+ghost use Rattle.sort.specs.Packed.{packed_places};
 ghost use Rattle.grid.specs.Tables.{entry_in, neighbour_entry, first_in_row, first_in_column, last_with_index, spliced, ranks_of, Keys};
 ghost use Rattle.grid.specs.Sweep.{key_centre, Behind, Reached, FiveFit, standing_from};
 
@@ -26,14 +25,12 @@ fn advance(keys: &Words, n: usize, from: usize, target: u32) -> usize
     requires { Keys keys.now n × Behind n (entry_in keys.now) from target }
     ensures { Reached n (entry_in keys.now) result target }
 {
-    let mut p = from;
-    while p < n {
+    for p in from..n {
         if target <= keys[p] + CENTRE {
             return p;
         }
-        p += 1;
     }
-    p
+    from.max(n)
 }
 
 // Whether rank p stands at the target.
@@ -41,10 +38,7 @@ fn stands(keys: &Words, n: usize, p: usize, target: u32) -> bool
     requires { Keys keys.now n }
     ensures { result ≡ ltb p n && eqb (entry_in keys.now p + key_centre) target }
 {
-    if p < n {
-        return keys[p] + CENTRE == target;
-    }
-    false
+    p < n && keys[p] + CENTRE == target
 }
 
 // Writes the ranks that stand at five targets, from `target` on, into the table from `to` on, n where none stands; `from` is the first
@@ -55,19 +49,14 @@ fn five(keys: &Words, n: usize, from: usize, target: u32, ranks: &mut Ranks, to:
 {
     let mut p = from;
     let mut goal = target;
-    let mut e: usize = 0;
-    while e < 5 {
-        let next = e + 1;
+    for e in 0..5 {
         if stands(keys, n, p, goal) {
             ranks[to + e] = p as u16;
             p += 1;
-            goal += 1;
-            e = next;
         } else {
             ranks[to + e] = n as u16;
-            goal += 1;
-            e = next;
         }
+        goal += 1;
     }
 }
 
@@ -86,14 +75,12 @@ fn fill_near(keys: &Words, n: usize, ranks: &mut Ranks)
     ensures { ranks.new ≡ spliced 0 (25 * n) (neighbour_entry n (cells_at keys.now)) ranks.old }
 {
     let mut reached = [0usize; 5];
-    let mut i: usize = 0;
-    while i < 5 * n {
+    for i in 0..5 * n {
         let e = i % 5;
         let target = keys[i / 5] + steps(e);
         let p = advance(keys, n, reached[e], target);
         reached[e] = p;
         five(keys, n, p, target, ranks, 5 * i);
-        i += 1;
     }
 }
 
@@ -102,10 +89,7 @@ fn earlier(r: u16, k: usize) -> u16
     requires { k ≤ max_points }
     ensures { result ≡ cond (ltb r k) r k }
 {
-    if view::wide(r) < k {
-        return r;
-    }
-    k as u16
+    if usize::from(r) < k { r } else { k as u16 }
 }
 
 // Fills the block of rows: the first rank of each rank's row, by a table over all v.
@@ -114,13 +98,11 @@ fn fill_rows(keys: &Words, n: usize, ranks: &mut Ranks)
     ensures { ranks.new ≡ spliced rows_at n (first_in_row n (cells_at keys.now)) ranks.old }
 {
     let mut seen = [NONE; V_PARTS];
-    let mut k: usize = 0;
-    while k < n {
+    for k in 0..n {
         let v = cells::v_part(keys[k]) as usize;
         let r = earlier(seen[v], k);
         seen[v] = r;
         ranks[view::ROWS_AT + k] = r;
-        k += 1;
     }
 }
 
@@ -141,33 +123,10 @@ fn fill_columns(keys: &Words, n: usize, ranks: &mut Ranks)
     ensures { ranks.new ≡ spliced columns_at n (first_in_column n (cells_at keys.now)) ranks.old }
 {
     let mut start: usize = 0;
-    let mut k: usize = 0;
-    while k < n {
+    for k in 0..n {
         start = start_of(keys, start, k);
         ranks[view::COLUMNS_AT + k] = start as u16;
-        k += 1;
     }
-}
-
-// An index and a rank in one number.
-fn pack(index: u32, rank: usize) -> u64
-    requires { rank < max_points }
-    ensures { result ≡ index * packed_places + rank }
-{
-    (index as u64) * sort::PACKED_PLACES + (rank as u64)
-}
-
-fn packed_ranks(idx: &Words, n: usize) -> [u64; view::MAX_POINTS]
-    requires { n ≤ max_points }
-    ensures { result ≡ column max_points 0 n (packed (entry_in idx.now)) }
-{
-    let mut out = [0u64; view::MAX_POINTS];
-    let mut k: usize = 0;
-    while k < n {
-        out[k] = pack(idx[k], k);
-        k += 1;
-    }
-    out
 }
 
 // The last rank with the index at place i of the order by index and rank; `after` is that of the next place.
@@ -190,12 +149,9 @@ fn fill_indices(idx: &Words, n: usize, ranks: &mut Ranks)
     requires { (n ≤ max_points) × (length ranks.old ≡ ranks_size) }
     ensures { ranks.new ≡ spliced indices_at n (last_with_index n (entry_in idx.now)) ranks.old }
 {
-    let mut order = packed_ranks(idx, n);
-    sort::sort(&mut order, n);
+    let order = sort::in_order(n, |k| u64::from(idx[k]));
     let mut last: u16 = 0;
-    let mut i = n;
-    while 0 < i {
-        i -= 1;
+    for i in (0..n).rev() {
         last = last_rank(&order, n, i, last);
         let k = (order[i] % sort::PACKED_PLACES) as usize;
         ranks[view::INDICES_AT + k] = last;
@@ -203,6 +159,7 @@ fn fill_indices(idx: &Words, n: usize, ranks: &mut Ranks)
 }
 
 // Fills the table of ranks, which is all zeros.
+#[inline(never)]
 pub fn fill<'a>(keys: &'a Words, idx: &'a Words, n: usize, ranks: &mut Ranks)
     requires { Keys keys.now n × (ranks.old ≡ replicate ranks_size 0) }
     ensures { ranks.new ≡ ranks_of n keys.now idx.now }

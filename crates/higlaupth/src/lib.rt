@@ -18,7 +18,7 @@ ghost use Rattle.higlaupth.specs.Words.{words_of, run_in, words_after};
 use kept::Answer;
 use runs::{NEW_SUMS, OLD_SUMS, Run};
 use sheet_fills::FillAnswer;
-use text::Written;
+use text::NoRoom;
 
 // The number of an answer: that of a refusal; else 2^48 * rounds + 2^32 + 2^16 * points + components.
 fn number_of(a: Answer) -> u64
@@ -127,8 +127,8 @@ pub extern "C" fn higlaupth_map(file: &[u8], text: &mut [u8]) -> u64
     ensures text { text.new ≡ take (length text.old) (map_text_of file.now) ++ drop (length (map_text_of file.now)) text.old }
 {
     match sheet_map::draw_sheet(file, text) {
-        Written::Whole(n) => n as u64,
-        Written::NoRoom => u64::MAX,
+        Ok(n) => n as u64,
+        Err(NoRoom) => u64::MAX,
     }
 }
 

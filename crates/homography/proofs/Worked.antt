@@ -6,12 +6,12 @@ use Prim.Native.Nat.{ℕ}
 use lib.IntN.{pos}
 use lib.Ieee.{Float, nan, binary32, of_int}
 use lib.Ieee.Scale.{finite}
+use Rattle.std.proofs.Common.{Option, Some, None}
+use Rattle.std.specs.Option.{option_map}
 use Rattle.folds.specs.Arith.{zero_f, f32}
 use Rattle.linear.specs.Linear.{solution_of}
-use Rattle.linear.specs.declared.Solution.{Solution}
 use Rattle.homography.specs.declared.PlanePoint.{PlanePoint}
-use Rattle.homography.specs.declared.HomographyFit.{HomographyFit}
-use Rattle.homography.specs.declared.HomographyFit.TheVariants.{Found, NoFit}
+use Rattle.homography.specs.declared.Homography.{Homography}
 use Rattle.homography.specs.Fit.{normalization_of, normalized_by, equations_of, right_side, homography_from4pt, applied_to, fit-computes}
 use Rattle.homography.specs.NoFit.{has_zero_diagonal, has_zero_determinant, has_negligible_last}
 
@@ -66,17 +66,17 @@ abbrev all_finite : List Float → Bool
 all_finite [] = true
 all_finite (x ∷ l) = finite x && all_finite l
 
-abbrev solution : Solution
+abbrev solution : Option (List Float)
 solution = solution_of (equations_of (normalized_by (normalization_of p) p) (normalized_by (normalization_of q) q)) (right_side (normalized_by (normalization_of q) q))
 
-pub solution-finite : all_finite solution.x ≡ true
+pub solution-finite : option_map all_finite solution ≡ Some true
 unfolding fit-computes of_int
 solution-finite = refl
 
 -- the x of where a map takes the point (9, 17)
-abbrev taken_to : HomographyFit → Float
-taken_to (Found h) = (applied_to h (point 9 17)).x
-taken_to NoFit = zero_f
+abbrev taken_to : Option Homography → Float
+taken_to (Some h) = (applied_to h (point 9 17)).x
+taken_to None = zero_f
 
 pub taken-nan : taken_to (homography_from4pt p q) ≡ nan
 unfolding fit-computes of_int

@@ -1,7 +1,8 @@
 -- The map that takes four points x to four others x', by the normalised construction of Hartley and Zisserman (Multiple View Geometry, algorithm
 -- 4.2): similarities T and T' centre and scale the two fours; H̃ takes each T x to T' x'; and H = T'⁻¹ H̃ T, scaled to a last entry of 1.
 -- Assumes nothing.
-use Rattle.std.specs.Prelude.{ℕ, Bool, true, cond, List, [], ◌∷◌, get_or, Float}
+use Rattle.std.specs.Prelude.{ℕ, Bool, true, cond, List, [], ◌∷◌, get_or, Float, Option, Some, None}
+use Rattle.std.specs.Option.{option_and_then}
 use Rattle.std.specs.Float.{nan}
 use Rattle.std.specs.Float.Ieee.{neg, lt, eq}
 use Rattle.folds.specs.Arith.{◌⊕◌, ◌⊖◌, ◌⊗◌, ◌⊘◌, zero_f}
@@ -11,11 +12,8 @@ use Rattle.float.specs.Scalar.{norm_of, abs_of}
 use Rattle.linear.specs.Rows.{entry_at, entry}
 use Rattle.matrix.specs.Matrix.{matrix, row_times, determinant_of, inverse_of, product_of}
 use Rattle.linear.specs.Linear.{solution_of, solution-computes}
-use Rattle.linear.specs.declared.Solution.{Solution}
 use Rattle.homography.specs.declared.PlanePoint.{PlanePoint}
 use Rattle.homography.specs.declared.Homography.{Homography}
-use Rattle.homography.specs.declared.HomographyFit.{HomographyFit}
-use Rattle.homography.specs.declared.HomographyFit.TheVariants.{Found, NoFit}
 
 -- what a list of points has past its end
 abbrev pub no_plane_point : PlanePoint
@@ -118,23 +116,23 @@ over_last m s =
     }
 
 -- the scaled H, where m is H: ".. or |last entry| < 1e-12 means no fit."
-unfoldable pub normalized_map : List (List Float) → HomographyFit
-normalized_map m = cond (lt (abs_of (entry m 2 2)) negligible) NoFit (Found (over_last m (entry m 2 2)))
+unfoldable pub normalized_map : List (List Float) → Option Homography
+normalized_map m = cond (lt (abs_of (entry m 2 2)) negligible) None (Some (over_last m (entry m 2 2)))
 
 -- H = T'⁻¹ H̃ T, where m is H̃, s is T and d is T'
 abbrev pub denormalized_by : List (List Float) → List (List Float) → List (List Float) → List (List Float)
 denormalized_by m s d = product_of (product_of (inverse_of d (determinant_of d)) m) s
 
 -- the scaled H from H̃: "a zero determinant of the second scaling (inverted by cofactors) .. means no fit"
-unfoldable pub denormalized_map : List (List Float) → List (List Float) → List (List Float) → HomographyFit
-denormalized_map m s d = cond (eq (determinant_of d) zero_f) NoFit (normalized_map (denormalized_by m s d))
+unfoldable pub denormalized_map : List (List Float) → List (List Float) → List (List Float) → Option Homography
+denormalized_map m s d = cond (eq (determinant_of d) zero_f) None (normalized_map (denormalized_by m s d))
 
 -- the scaled H from the solution for the entries of H̃: "A zero diagonal .. means no fit."
-unfoldable pub map_by : Solution → List (List Float) → List (List Float) → HomographyFit
-map_by r s d = cond r.found (denormalized_map (matrix_of r.x) s d) NoFit
+unfoldable pub map_by : Option (List Float) → List (List Float) → List (List Float) → Option Homography
+map_by solution s d = option_and_then (λ x. denormalized_map (matrix_of x) s d) solution
 
 -- the scaled H, which takes the four points p to the four points q
-unfoldable pub homography_from4pt : List PlanePoint → List PlanePoint → HomographyFit
+unfoldable pub homography_from4pt : List PlanePoint → List PlanePoint → Option Homography
 homography_from4pt p q =
     let s = normalization_of p in
     let d = normalization_of q in

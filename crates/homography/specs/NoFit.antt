@@ -1,6 +1,7 @@
 -- "A zero diagonal, a zero determinant of the second scaling (inverted by cofactors) or |last entry| < 1e-12 means no fit": the three cases,
 -- in the symbols of Fit.antt. Assumes nothing.
-use Rattle.std.specs.Prelude.{Bool, ◌||◌, List, Float}
+use Rattle.std.specs.Prelude.{Bool, ◌||◌, List, replicate, Float}
+use Rattle.std.specs.Option.{unwrap_or}
 use Rattle.std.specs.Float.Ieee.{lt, eq}
 use Rattle.folds.specs.Arith.{zero_f}
 use Rattle.float.specs.Constants.{negligible}
@@ -28,9 +29,9 @@ module _ (p q : List PlanePoint) where
   abbrev pub has_zero_determinant : Bool
   has_zero_determinant = eq (determinant_of (normalization_of q)) zero_f
 
-  -- H before it is scaled, from the solution for H̃
+  -- H before it is scaled, from the solution for H̃; where there is none, from zeros
   abbrev pub unscaled_map : List (List Float)
-  unscaled_map = denormalized_by (matrix_of (solution_of (equations_of sources targets) (right_side targets)).x) (normalization_of p) (normalization_of q)
+  unscaled_map = denormalized_by (matrix_of (unwrap_or (solution_of (equations_of sources targets) (right_side targets)) (replicate 8 zero_f))) (normalization_of p) (normalization_of q)
 
   -- "|last entry| < 1e-12", of H
   abbrev pub has_negligible_last : Bool

@@ -25,13 +25,6 @@ pub struct Homography {
     pub h22: f32,
 }
 
-// The map of four points to four others, or the finding that there is none.
-#[derive(Clone, Copy)]
-pub enum HomographyFit {
-    Found(Homography),
-    NoFit,
-}
-
 fn mean(a: f32, b: f32, c: f32, d: f32) -> f32
     ensures { result ≡ mean_of_four a b c d }
 {
@@ -130,15 +123,15 @@ fn matrix_of(x: [f32; 8]) -> [[f32; 3]; 3]
     [[x[0], x[1], x[2]], [x[3], x[4], x[5]], [x[6], x[7], 1.0]]
 }
 
-// The map m with each entry over its last.
-fn normalize_homography(m: [[f32; 3]; 3]) -> HomographyFit
+// The map m with each entry over its last, unless that is negligible.
+fn normalize_homography(m: [[f32; 3]; 3]) -> Option<Homography>
     ensures { result ≡ normalized_map m }
 {
     let s = m[2][2];
     if float::abs(s) < float::constants::NEGLIGIBLE {
-        return HomographyFit::NoFit;
+        return None;
     }
-    HomographyFit::Found(Homography {
+    Some(Homography {
         h00: m[0][0] / s,
         h01: m[0][1] / s,
         h02: m[0][2] / s,
@@ -152,30 +145,30 @@ fn normalize_homography(m: [[f32; 3]; 3]) -> HomographyFit
 }
 
 // The scalings s and d taken back from the map m between the scaled points.
-fn denormalize_homography(m: [[f32; 3]; 3], s: [[f32; 3]; 3], d: [[f32; 3]; 3]) -> HomographyFit
+fn denormalize_homography(
+    m: [[f32; 3]; 3],
+    s: [[f32; 3]; 3],
+    d: [[f32; 3]; 3],
+) -> Option<Homography>
     ensures { result ≡ denormalized_map m s d }
 {
     let det = matrix::determinant(d);
     if det == 0.0 {
-        return HomographyFit::NoFit;
+        return None;
     }
     normalize_homography(matrix::product(matrix::product(matrix::inverse(d, det), m), s))
 }
 
-// The map that takes the four points p to the four points q.
-pub fn homography_from_4pt(p: [PlanePoint; 4], q: [PlanePoint; 4]) -> HomographyFit
+// The map that takes the four points p to the four points q, if there is one.
+pub fn homography_from_4pt(p: [PlanePoint; 4], q: [PlanePoint; 4]) -> Option<Homography>
     ensures { result ≡ homography_from4pt p q }
 {
     let s = normalization(p);
     let d = normalization(q);
     let sources = normalized(s, p);
     let targets = normalized(d, q);
-    let solution = linear::solve(equations(sources, targets), right_side(targets));
-    if solution.found {
-        let x = solution.x;
-        return denormalize_homography(matrix_of(x), s, d);
-    }
-    HomographyFit::NoFit
+    let x = linear::solve(equations(sources, targets), right_side(targets))?;
+    denormalize_homography(matrix_of(x), s, d)
 }
 
 // Where the map h takes p.

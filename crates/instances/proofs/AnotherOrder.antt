@@ -1,4 +1,5 @@
 -- Demand 3 (b), another order, of the sheet of five points; and of a file with another setting. Assumes nothing.
+use Rattle.std.specs.Prelude.{Some}
 use mathlib.Core.Path.{◌≡◌, refl, sym, ap, ◌∙◌}
 use mathlib.Core.List.Permᴰ
 use mathlib.Core.List.{List, [], ◌∷◌, ◌++◌, Permᴰ}
@@ -9,7 +10,6 @@ use Rattle.folds.specs.Below.{every}
 use Rattle.cells.specs.Points.{Point}
 use Rattle.sheet_file.specs.Bytes.{Bytes}
 use Rattle.sheet_file.specs.Frame.{framing_of, layout_of}
-use Rattle.sheet_file.specs.declared.Framing.TheVariants.{Framed}
 use Rattle.sheet_file.specs.declared.Layout.{Layout}
 use Rattle.ruling.specs.Order.{records_in, Relisted}
 use Rattle.ruling.proofs.Weights.{bytes-by, headed-by}
@@ -31,7 +31,7 @@ file-is = refl
 abbrev pub turned : List ℕ
 turned = short_file 0x42C8_0000 (ten ∷ fourteen ∷ twelve ∷ eleven ∷ thirteen ∷ [])
 
-pub framed : framing_of file ≡ Framed (layout_of file)
+pub framed : framing_of file ≡ Some (layout_of file)
 unfolding file-computes
 framed = refl
 
@@ -68,7 +68,7 @@ near_file = short_file 0x42C8_0000 near
 abbrev pub zero_size_file : List ℕ
 zero_size_file = short_file 0 near
 
-pub near-framed : framing_of near_file ≡ Framed (layout_of near_file)
+pub near-framed : framing_of near_file ≡ Some (layout_of near_file)
 unfolding file-computes
 near-framed = refl
 
@@ -97,7 +97,7 @@ not_same : SameResult near_file zero_size_file → ⊥
 not_same r = let z : ◌≡◌ {A = ℕ} 1 0 = ap answered_components (sym zero-size-answered ∙ r.answer 56 ∙ near-answered) in omega arith
 
 -- so the promise needs its condition on the rest of the file
-pub rest-needed : ((file other : List ℕ) (f : Layout) → Bytes file → framing_of file ≡ Framed f
+pub rest-needed : ((file other : List ℕ) (f : Layout) → Bytes file → framing_of file ≡ Some f
     → Permᴰ (records_in file f) (records_in other f) → SameResult file other) → ⊥
 rest-needed f =
     let l = layout_of near_file in

@@ -1,5 +1,6 @@
 -- "A map on one page": its lines, its numbers and its characters, of small files, one with strengths; another order; and of files without the
 -- conditions. Assumes nothing.
+use Rattle.std.specs.Prelude.{Some}
 use mathlib.Core.Path.{◌≡◌, refl, sym, ap, ◌∙◌}
 use mathlib.Core.Bool.{true, false}
 use mathlib.Core.Logic.{inl, inr}
@@ -15,7 +16,6 @@ use Rattle.cells.specs.Cell.{Cell, cells_of}
 use Rattle.cells.proofs.Edges.{cell_at}
 use Rattle.sheet_file.specs.Bytes.{Bytes}
 use Rattle.sheet_file.specs.Frame.{framing_of, layout_of}
-use Rattle.sheet_file.specs.declared.Framing.TheVariants.{Framed}
 use Rattle.sheet_file.specs.declared.Layout.{Layout}
 use Rattle.sheet_file.specs.declared.Settings.{Settings}
 use Rattle.ruling.specs.Ruling.{refused, accepted, points_of, ruling_of, rows_size}
@@ -151,7 +151,7 @@ unfolding map_of cells_of
 zero-size-drawn = drawn-by zero_size_file zero_size near (0 ∷ 0 ∷ []) zero-size-accepted near-narrow zero-size-marks
 
 -- so the same map needs the condition on the rest of the file
-pub rest-needed-for-map : ((file other : List ℕ) (f : Layout) → Bytes file → framing_of file ≡ Framed f
+pub rest-needed-for-map : ((file other : List ℕ) (f : Layout) → Bytes file → framing_of file ≡ Some f
     → Permᴰ (records_in file f) (records_in other f) → map_text_of other ≡ map_text_of file) → ⊥
 rest-needed-for-map f =
     let l = layout_of near_file in

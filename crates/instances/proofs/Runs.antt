@@ -1,5 +1,6 @@
 -- "totals of a run": three small files, one of them refused, in two orders and in another listing; records near their limits, where an order
 -- matters. Assumes nothing.
+use Rattle.std.specs.Prelude.{Some}
 use mathlib.Core.Path.{◌≡◌, refl, sym, ap, ◌∙◌}
 use mathlib.Core.Bool.{false}
 use mathlib.Core.Logic.{inl, inr}
@@ -14,7 +15,6 @@ use borrow.Author.Tests.{leb-false}
 use Rattle.folds.specs.Among.{any_in}
 use Rattle.sheet_file.specs.Bytes.{Bytes}
 use Rattle.sheet_file.specs.Frame.{framing_of, layout_of}
-use Rattle.sheet_file.specs.declared.Framing.TheVariants.{Framed}
 use Rattle.sheet_file.specs.declared.Layout.{Layout}
 use Rattle.ruling.specs.Order.{records_in, Relisted}
 use Rattle.ruling.proofs.Weights.{bytes-by}
@@ -174,7 +174,7 @@ unfolding runs-compute
 zero-size-run = refl
 
 -- so the promise on listings needs its condition on the rest of the file
-pub rest-needed-for-run : ((r : Run) (c d : Call) (f : Layout) → Bytes c.file → framing_of c.file ≡ Framed f
+pub rest-needed-for-run : ((r : Run) (c d : Call) (f : Layout) → Bytes c.file → framing_of c.file ≡ Some f
     → Permᴰ (records_in c.file f) (records_in d.file f) → length d.buffer ≡ length c.buffer → SameRun r (c ∷ []) (d ∷ [])) → ⊥
 rest-needed-for-run f =
     let l = layout_of near_file in
@@ -192,7 +192,7 @@ unfolding runs-compute
 long-run = refl
 
 -- so it needs its condition on the length of the buffer too
-pub room-needed-for-run : ((r : Run) (c d : Call) (f : Layout) → Bytes c.file → framing_of c.file ≡ Framed f → Relisted c.file d.file f → SameRun r (c ∷ []) (d ∷ [])) → ⊥
+pub room-needed-for-run : ((r : Run) (c d : Call) (f : Layout) → Bytes c.file → framing_of c.file ≡ Some f → Relisted c.file d.file f → SameRun r (c ∷ []) (d ∷ [])) → ⊥
 room-needed-for-run f =
     let same = f new_run (call_on file 140) (call_on turned 139) (layout_of file) file-bytes framed is-relisted in
     let z : ◌≡◌ {A = ℕ} 0 1 = ap (λ (r : Run). r.sheets) (sym short-turned ∙ same.record_same ∙ long-run) in

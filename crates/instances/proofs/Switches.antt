@@ -1,6 +1,7 @@
 -- Demand 3 (d), the switches, of a file of which each filter that goes without strengths marks some point with the one switches or the
 -- other. No file shows what its condition, settings of length 21, is for: those of length 4 have no switches, "the rest is `ValidationParams::default` with both switches 1".
 -- Assumes nothing.
+use Rattle.std.specs.Prelude.{Some}
 use mathlib.Core.Path.{◌≡◌, refl, sym, ap, ◌∙◌}
 use mathlib.Core.Bool.{true, false}
 use mathlib.Core.List.{List, [], ◌∷◌}
@@ -17,7 +18,6 @@ use Rattle.cells.specs.Points.{Point}
 use Rattle.sheet_file.specs.Bytes.{Bytes, byte_at}
 use Rattle.sheet_file.specs.Frame.{layout_of}
 use Rattle.sheet_file.specs.Refusals.{defaults_for, settings_in, gate_in, no_flag}
-use Rattle.sheet_file.specs.declared.EdgeGate.TheVariants.{On}
 use Rattle.sheet_file.specs.declared.Fraction.TheVariants.{Missing}
 use Rattle.sheet_file.specs.declared.Settings.{Settings}
 use Rattle.edge_shape.specs.Figures.{index_figures}
@@ -63,7 +63,7 @@ largest_only = gated_file 0x42C8_0000 0 1 1 points
 abbrev settings : Settings
 settings =
     defaults_for (f32 0x42C8_0000)
-    (On
+    (Some
     (record {
       min_cardinal_degree = 1;
       continuation_cos_min = f32 0;

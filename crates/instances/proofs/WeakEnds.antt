@@ -1,5 +1,6 @@
 -- "Weak ends of a patch": files with tag 4 of two to five points, of another order, a whole move, the switches and the kept patch; and of files
 -- without the conditions. Assumes nothing.
+use Rattle.std.specs.Prelude.{None, Some, is_some}
 use mathlib.Core.Path.{◌≡◌, refl, sym, ap, ◌∙◌, subst}
 use mathlib.Core.Bool.{Bool, true, false, not, ◌&&◌, true≢false}
 use mathlib.Core.List.{List, [], ◌∷◌, ◌++◌, Permᴰ}
@@ -18,9 +19,7 @@ use Rattle.grid.specs.Views.{view_of}
 use Rattle.sheet_file.specs.Bytes.{Bytes}
 use Rattle.sheet_file.specs.Frame.{framing_of, layout_of}
 use Rattle.sheet_file.specs.Refusals.{defaults_for, settings_in}
-use Rattle.sheet_file.specs.declared.EdgeGate.TheVariants.{Off}
 use Rattle.sheet_file.specs.declared.Fraction.TheVariants.{Given}
-use Rattle.sheet_file.specs.declared.Framing.TheVariants.{Framed}
 use Rattle.sheet_file.specs.declared.Layout.{Layout}
 use Rattle.sheet_file.specs.declared.Settings.{Settings}
 use Rattle.ruling.specs.Header.{Headed}
@@ -58,7 +57,7 @@ on_row u i x s = record { u = u; v = 0; index = i; x = x; y = 0; strength = s }
 
 -- a short file's settings, with the patterns of the cell size and the fraction
 abbrev weighed : ℕ → ℕ → Settings
-weighed size fraction = defaults_for (f32 size) Off (Given (f32 fraction))
+weighed size fraction = defaults_for (f32 size) None (Given (f32 fraction))
 
 -- ---- the row of three points with cell size 7, fraction 2 and strengths 1, 1 and 2
 
@@ -98,7 +97,7 @@ row-rounds = refl
 abbrev pub turned_row : List ℕ
 turned_row = short_weighed seven two (on_row 0 0 0 one ∷ on_row 2 2 0x4160_0000 two ∷ on_row 1 1 seven one ∷ [])
 
-row-framed : framing_of row_file ≡ Framed (layout_of row_file)
+row-framed : framing_of row_file ≡ Some (layout_of row_file)
 unfolding file-computes
 row-framed = refl
 
@@ -139,7 +138,7 @@ unfolding file-computes every
 left-behind-headed = headed-by row_file left_behind (layout_of row_file) refl refl refl
 
 -- "points listed in another order take their strengths with them": the promise needs it
-pub strengths-needed : ((file other : List ℕ) (f : Layout) → Bytes file → framing_of file ≡ Framed f → Headed file other f → Permᴰ (without_strengths file f) (without_strengths other f)
+pub strengths-needed : ((file other : List ℕ) (f : Layout) → Bytes file → framing_of file ≡ Some f → Headed file other f → Permᴰ (without_strengths file f) (without_strengths other f)
     → SameResult file other) → ⊥
 unfolding file-computes records_in
 strengths-needed f =
@@ -406,7 +405,7 @@ pub first_two : 2 ≤ live_neighbours bent_settings square 0
 first_two = (weak-ends square_file 112 bent_settings square (bytes-by square_file refl) square-accepted).left-two 0 first-left first-weak
 
 -- the five points of the kept patch, without tag 4
-five-unweighed : (layout_of file).weighed ≡ false
+five-unweighed : is_some (layout_of file).weights ≡ false
 unfolding file-computes
 five-unweighed = refl
 

@@ -1,12 +1,11 @@
 -- The bytes of small sheet files; the sheet of five points; settings with cell size 0; the marks of points, and the component count and the
 -- rounds of an answer; a repeated index; a file cut short. Assumes nothing.
-use Rattle.std.specs.Prelude.{List, [], ◌∷◌, ◌++◌, ℕ, length, take}
+use Rattle.std.specs.Prelude.{List, [], ◌∷◌, ◌++◌, ℕ, length, take, None}
 use Rattle.folds.specs.Arith.{f32}
 use Rattle.cells.specs.Points.{Point}
 use Rattle.sheet_file.specs.Bytes.{little_endian}
 use Rattle.sheet_file.specs.Grammar.{field}
 use Rattle.sheet_file.specs.Refusals.{defaults_for}
-use Rattle.sheet_file.specs.declared.EdgeGate.TheVariants.{Off}
 use Rattle.sheet_file.specs.declared.Fraction.TheVariants.{Missing}
 use Rattle.sheet_file.specs.declared.Settings.{Settings}
 use Rattle.judging.specs.Judging.{judged_for}
@@ -80,7 +79,7 @@ five = ten ∷ twelve ∷ eleven ∷ thirteen ∷ fourteen ∷ []
 
 -- the settings of a short file with cell size 0: no two points are too close, and no line flags a point that lies on it
 abbrev pub zero_size : Settings
-zero_size = defaults_for (f32 0) Off Missing
+zero_size = defaults_for (f32 0) None Missing
 
 -- "Byte 0: marks, bit 0 validate, 1 orientation, 2 wrong label, 3 component", and bit 4 leaf: of each of the points, in cell order
 abbrev pub marks_of : Settings → List Point → List ℕ

@@ -1,9 +1,10 @@
 -- A judged sheet: what the filters find of its points, by rank. Assumes nothing.
-use Rattle.std.specs.Prelude.{List, ℕ, Float}
+use Rattle.std.specs.Prelude.{List, ℕ, replicate}
+use Rattle.view.specs.View.{max_points}
 use Rattle.local_h.specs.declared.Residual.{Residual}
 use Rattle.edge_shape.specs.declared.Figures.{Figures}
+use Rattle.edge_shape.specs.Figures.{no_figures}
 use Rattle.judged.specs.declared.Findings.{Findings}
-use Rattle.judged.specs.Columns.{figures_in}
 
 pub record Judged : Type 0 where
   -- the byte of marks of each rank's index
@@ -20,16 +21,19 @@ pub record Judged : Type 0 where
   pub figures : List Figures
   pub boundary : List ℕ
 
+-- no figures yet
+abbrev pub blank_figures : List Figures
+blank_figures = replicate max_points no_figures
+
 -- as the code holds it
-unfoldable pub judged_from : Findings → List ℕ → List Float → Judged
-unfolding figures_in
-judged_from f counts measures =
+unfoldable pub judged_from : Findings → List Figures → Judged
+judged_from f figures =
     record {
       marks = f.marks;
       components = f.components;
       rounds = f.rounds;
       tally = f.tally;
       residuals = f.residuals;
-      figures = figures_in counts measures;
+      figures = figures;
       boundary = f.boundary;
     }

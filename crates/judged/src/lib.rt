@@ -6,18 +6,10 @@ pub mod figures;
 
 use local_h::ResidualColumn;
 use marks::Tally;
-use sheet_file::Settings;
 use view::Marks;
 
-// The settings of a sheet, and how many points it has.
-#[derive(Clone, Copy)]
-pub struct Terms {
-    pub settings: Settings,
-    pub count: usize,
-}
-
-// What the filters find that go by the points themselves, but for the residuals and for the edge figures, which stand in the tables of
-// `figures`: the byte of marks of each rank's index, and the box boundary that is held under its index.
+// What the filters find that go by the points themselves, but for the residuals and the edge figures, which go into columns that the caller
+// lends: the byte of marks of each rank's index, and the box boundary that is held under its index.
 #[derive(Drop)]
 pub struct Measured {
     pub marks: Marks,

@@ -35,14 +35,14 @@ use Rattle.judging.specs.Judging.{Arrays, judged_by, judged_for, fills_for}
 
 -- what the filters ask of the arrays
 module _ (n : ℕ) (keys idx : List ℕ) (xs ys strength : List Float) {ranks : List ℕ} (a : Arrays n keys xs ys strength) (e : ranks ≡ ranks_of n keys idx) where
-  are-ranked : Ranked n ranks
+  pub are-ranked : Ranked n ranks
   are-ranked = rw e (ranks-ranked n keys idx a.keyed.few)
 
-  pub celled : Celled n ranks keys xs ys
-  celled = record { ready = record { ranked = are-ranked; finite-x = a.finite-x; finite-y = a.finite-y }; cells = keys-small keys n a.keyed }
+  pub celled : Celled n keys xs ys
+  celled = record { finite-x = a.finite-x; finite-y = a.finite-y; cells = keys-small keys n a.keyed }
 
-  pub weighed : Weighed n ranks strength
-  weighed = record { ranked = are-ranked; mirrored = rw e (record { back = ranks-mirrored n keys idx a.keyed }); finite = a.finite-strength }
+  pub weighed : Weighed (view_at n ranks xs ys) strength
+  weighed = record { mirrored = rw e (record { back = ranks-mirrored n keys idx a.keyed }); finite = a.finite-strength }
 
 -- what is judged with the table of ranks is what is judged of the arrays
 pub ranked-by : (s : Settings) (n : ℕ) (keys idx : List ℕ) (xs ys strength : List Float) {ranks : List ℕ} → ranks ≡ ranks_of n keys idx

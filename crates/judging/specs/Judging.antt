@@ -7,7 +7,7 @@ use Rattle.grid.specs.Tables.{Keys, ranks_of}
 use Rattle.grid.specs.Views.{view_of}
 use Rattle.sheet_file.specs.declared.Settings.{Settings}
 use Rattle.predict.specs.Fills.{fills_of}
-use Rattle.predict.specs.declared.Prediction.{Prediction}
+use Rattle.predict.specs.Predict.{Prediction}
 use Rattle.drop_set.specs.Filters.{sides_of, judged_of}
 use Rattle.judged.specs.Judged.{Judged}
 

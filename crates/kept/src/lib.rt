@@ -6,10 +6,10 @@ ghost use Rattle.ruling.specs.Ruling.{ruling_of};
 ghost use Rattle.ruling.specs.Sheet.{Ruled};
 ghost use Rattle.kept.specs.Answer.{answer_of, kept_of, rows_after};
 
-use judged::Terms;
-use judged::figures::{FIGURE_COUNTS_SIZE, FIGURE_MEASURES_SIZE};
+use edge_shape::NO_FIGURES;
 use marks::{COUNTS, Tally};
 use ruling::Sheet;
+use view::MAX_POINTS;
 
 #[derive(Clone, Copy)]
 pub struct Counts {
@@ -32,35 +32,24 @@ pub struct Kept {
 }
 
 // Writes the rows of a sheet that was read of a file, and gives the counts; or the number of a refusal, and writes nothing.
+#[inline(never)]
 fn keep_sheet(file: &[u8], sheet: Sheet, rows: &mut [u8]) -> Kept
     requires { Ruled (ruling_of file.now (length rows.old)) sheet }
     ensures answer { result ≡ kept_of file.now (length rows.old) }
     ensures rows { rows.new ≡ rows_after file.now rows.old }
 {
-    let settings = sheet.settings;
     let n = sheet.count;
-    let terms = Terms { settings, count: n };
     let number = sheet.table.number;
     if number == 0 {
-        let mut counts = [0u8; FIGURE_COUNTS_SIZE];
-        let mut measures = [0.0f32; FIGURE_MEASURES_SIZE];
-        let j = judging::judge(
-            terms,
-            &sheet.table.keys,
-            &sheet.table.idx,
-            &sheet.table.x,
-            &sheet.table.y,
-            &sheet.table.strength,
-            &mut counts,
-            &mut measures,
-        );
+        let mut figures = [NO_FIGURES; MAX_POINTS];
+        let j = judging::judge(&sheet, &mut figures);
         let answer = Answer::Accepted(Counts {
             points: n,
             components: j.components,
             rounds: j.rounds,
         });
         let tally = j.tally;
-        rows::write_rows(j, &counts, &measures, n, rows);
+        rows::write_rows(j, &figures, n, rows);
         return Kept { answer, tally };
     }
     let answer = Answer::Refused(number);

@@ -9,6 +9,7 @@ use native.Mathlib.Omega.{arith}
 use lib.Dec.{ltb}
 use lib.Ieee.{Float, lt, le}
 use borrow.Author.Tests.{lt-ltb, le-ltb}
+use Rattle.std.proofs.Common.{Some, None}
 use Rattle.folds.specs.Below.{first, first_in}
 use Rattle.folds.proofs.Below.{not-true, first_more, first-from}
 use Rattle.folds.specs.Run.{run, up_to}
@@ -29,7 +30,7 @@ module _ (m : List (List Float)) (i best k : ℕ) {largest size : Float} (h : k 
   next-passed e = sym (first_more (larger_than m i best) k 8 h ∙ rw (← by-magnitude (entry m best i) (entry m k i), ← p, ← q, e))
 
 -- the pivot's row, where k is the next row with a larger entry than row best's, or 8
-abbrev pub searched : List (List Float) → ℕ → ℕ → ℕ → ℕ
+abbrev searched : List (List Float) → ℕ → ℕ → ℕ → ℕ
 searched m i best k = cond (ltb k 8) (run (better_row m i) (k + 1) 8 k) best
 
 up_to-next : (m : List (List Float)) (i best n from : ℕ) → from + n ≡ 8 → up_to (better_row m i) n from best ≡ searched m i best (first_in (larger_than m i best) n from)
@@ -42,23 +43,40 @@ up_to-next m i best (suc n) from e = go (larger_than m i best from) (up_to-next 
     go true h = let l : n ≡ 8 - (from + 1) = omega arith in rw (lt-ltb from 8 (omega arith), l)
     go false h = h
 
-search-next : (m : List (List Float)) (i best from : ℕ) → from ≤ 8 → run (better_row m i) from 8 best ≡ searched m i best (next_larger m i best from)
-unfolding run next_larger first
+search-next : (m : List (List Float)) (i best from : ℕ) → from ≤ 8 → run (better_row m i) from 8 best ≡ searched m i best (first (larger_than m i best) from 8)
+unfolding run first
 search-next m i best from h = up_to-next m i best (8 - from) from (omega arith)
 
-pub search-starts : (m : List (List Float)) (i : ℕ) → i < 8 → searched m i i (next_larger m i i (i + 1)) ≡ pivot_row m i
-unfolding pivot_row
-search-starts m i h = sym (search-next m i i (i + 1) (omega arith))
+module _ (m : List (List Float)) (i best : ℕ) where
+  pub search-goes-on : (k : ℕ) → best < 8 → next_larger m i best ≡ Some k → run (better_row m i) (best + 1) 8 best ≡ run (better_row m i) (k + 1) 8 k
+  unfolding next_larger
+  search-goes-on k h e = search-next m i best (best + 1) (omega arith) ∙ go (ltb n 8) e
+    where
+      n : ℕ
+      n = first (larger_than m i best) (best + 1) 8
 
-pub search-goes-on : (m : List (List Float)) (i best k : ℕ) → k < 8 → searched m i k (next_larger m i k (k + 1)) ≡ searched m i best k
-search-goes-on m i best k h = sym (rw (lt-ltb k 8 h) (search-next m i k (k + 1) (omega arith)))
+      go : (t : Bool) → cond t (Some n) None ≡ Some k → cond t (run (better_row m i) (n + 1) 8 n) best ≡ run (better_row m i) (k + 1) 8 k
+      go true q = let z : n ≡ k = cc in rw z
+      go false q = cc
 
-pub search-ends : (m : List (List Float)) (i best k : ℕ) → 8 ≤ k → searched m i best k ≡ best
-search-ends m i best k h = rw (le-ltb k 8 h)
+  pub search-ends : best < 8 → next_larger m i best ≡ None → run (better_row m i) (best + 1) 8 best ≡ best
+  unfolding next_larger
+  search-ends h e = search-next m i best (best + 1) (omega arith) ∙ go (ltb n 8) e
+    where
+      n : ℕ
+      n = first (larger_than m i best) (best + 1) 8
 
-pub next-after : (m : List (List Float)) (i best from : ℕ) → from ≤ next_larger m i best from
-unfolding next_larger
-next-after m i best from = first-from (larger_than m i best) from 8
+      go : (t : Bool) → cond t (Some n) None ≡ None → cond t (run (better_row m i) (n + 1) 8 n) best ≡ best
+      go true q = cc
+      go false q = refl
+
+  pub next-after : (k : ℕ) → next_larger m i best ≡ Some k → best < k
+  unfolding next_larger
+  next-after k e = go (first (larger_than m i best) (best + 1) 8) (ltb _ 8) (first-from (larger_than m i best) (best + 1) 8) e
+    where
+      go : (n : ℕ) (t : Bool) → best + 1 ≤ n → cond t (Some n) None ≡ Some k → best < k
+      go n true l q = let z : n ≡ k = cc in omega arith
+      go n false l q = cc
 
 -- ---- the search
 

@@ -1,10 +1,10 @@
 -- A system of eight equations with no zero among its entries, solved by the definitions: checked by computing. Assumes nothing.
-use mathlib.Core.Bool.{true}
 use mathlib.Core.List.{List, [], ◌∷◌}
 use mathlib.Core.Path.{◌≡◌, refl}
 use Prim.Native.Nat.{ℕ}
 use lib.IntN.{pos}
 use lib.Ieee.{Float, binary32, of_int, neg}
+use Rattle.std.proofs.Common.{Some}
 use Rattle.folds.specs.Arith.{f32}
 use Rattle.linear.specs.Linear.{solution_of, solution-computes}
 
@@ -28,6 +28,6 @@ dense =
     ∷ []
 
 pub dense-solved : solution_of dense (p 6 ∷ n 9 ∷ n 8 ∷ p 7 ∷ p 7 ∷ n 8 ∷ p 1 ∷ n 2 ∷ [])
-    ≡ (record { found = true; x = f32 0x4012_38CF ∷ f32 0x3F4E_7727 ∷ f32 0x3EC3_3BF8 ∷ f32 0xBF1B_3850 ∷ f32 0xBE32_FE41 ∷ f32 0x3F5F_F3B7 ∷ f32 0x3F0E_B231 ∷ f32 0x3F2B_190F ∷ [] })
+    ≡ (Some (f32 0x4012_38CF ∷ f32 0x3F4E_7727 ∷ f32 0x3EC3_3BF8 ∷ f32 0xBF1B_3850 ∷ f32 0xBE32_FE41 ∷ f32 0x3F5F_F3B7 ∷ f32 0x3F0E_B231 ∷ f32 0x3F2B_190F ∷ []))
 unfolding solution-computes of_int
 dense-solved = refl

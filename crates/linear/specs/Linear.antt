@@ -1,7 +1,7 @@
 -- Eight equations. "The source's eight equations are solved by elimination over eight rows of eight with their right side: pivot of largest
 -- magnitude, first of equals; an all-zero column is passed over; multiplier = entry times 1/pivot; columnwise substitution. A zero diagonal
 -- .. means no fit." Assumes nothing.
-use Rattle.std.specs.Prelude.{ℕ, ◌+◌, Bool, true, false, cond, List, set, replicate, Float}
+use Rattle.std.specs.Prelude.{ℕ, ◌+◌, Bool, true, cond, List, set, ltb, Float, Option, Some, None}
 use Rattle.std.specs.Int.Count.{count_trailing_zeros}
 use Rattle.std.specs.Float.Ieee.{add, sum, sub, mul, div, neg, lt, eq, of_bits, odd, round, units, size, span, climb}
 use Rattle.folds.specs.Arith.{◌⊕◌, ◌⊗◌, ◌⊘◌, zero_f}
@@ -10,7 +10,6 @@ use Rattle.folds.specs.Below.{some, first}
 use Rattle.float.specs.Constants.{one}
 use Rattle.float.specs.Scalar.{abs_of}
 use Rattle.linear.specs.Rows.{entry_at, matrix_row, entry, with_entry}
-use Rattle.linear.specs.declared.Solution.{Solution}
 
 -- ---- "pivot of largest magnitude, first of equals"
 
@@ -22,9 +21,13 @@ larger_than m i best k = lt (abs_of (entry m best i)) (abs_of (entry m k i))
 unfoldable pub better_row : List (List Float) → ℕ → ℕ → ℕ → ℕ
 better_row m i k best = cond (larger_than m i best k) k best
 
--- the first row from `from` on with a larger entry, or 8
-unfoldable pub next_larger : List (List Float) → ℕ → ℕ → ℕ → ℕ
-next_larger m i best from = first (larger_than m i best) from 8
+-- a row's number, if there is such a row
+abbrev pub row_below : ℕ → Option ℕ
+row_below k = cond (ltb k 8) (Some k) None
+
+-- the first row below row `best` with a larger entry
+unfoldable pub next_larger : List (List Float) → ℕ → ℕ → Option ℕ
+next_larger m i best = row_below (first (larger_than m i best) (best + 1) 8)
 
 -- the row of column i's pivot, of the rows from i on
 unfoldable pub pivot_row : List (List Float) → ℕ → ℕ
@@ -96,18 +99,15 @@ zero_at m i = eq (entry m i i) zero_f
 unfoldable pub zero_diagonal : List (List Float) → Bool
 zero_diagonal m = some (zero_at m) 8
 
-unfoldable pub substituted : System → Solution
-substituted s =
-    cond (zero_diagonal s.rows)
-    (record { found = false; x = replicate 8 zero_f })
-    (record { found = true; x = backward_by s.rows (forward_by s.rows s.right) })
+unfoldable pub substituted : System → Option (List Float)
+substituted s = cond (zero_diagonal s.rows) None (Some (backward_by s.rows (forward_by s.rows s.right)))
 
 -- the equations m x = b after elimination
 unfoldable pub eliminated : List (List Float) → List Float → System
 eliminated m b = run eliminate_column 0 8 (record { rows = m; right = b })
 
--- the x with m x = b
-unfoldable pub solution_of : List (List Float) → List Float → Solution
+-- the x with m x = b, if there is one
+unfoldable pub solution_of : List (List Float) → List Float → Option (List Float)
 solution_of m b = substituted (eliminated m b)
 
 -- This name on an `unfolding` line opens every definition that a solution computes by.

@@ -2,31 +2,23 @@
 // elimination: a call that takes and returns it would copy it.
 #![tactic(auto)]
 
-ghost use Rattle.std.specs.Prelude.{◌≡◌, ◌<◌, ◌≤◌};
+ghost use Rattle.std.specs.Prelude.{◌≡◌, ◌<◌, ◌≤◌, IfSome};
 ghost use Rattle.folds.specs.Run.{run};
 ghost use Rattle.linear.specs.Linear.{next_larger, pivot_row, reduce_entry, reduce_row, reduce_rows, eliminate_column, less_entry, forward_by, backward_by, zero_diagonal, substituted, solution_of};
 
-// The solution x, where there is one.
-#[derive(Clone, Copy)]
-pub struct Solution {
-    pub found: bool,
-    pub x: [f32; 8],
-}
-
-// The first row from `from` on whose entry of column i is larger than that of row `best`, or 8.
-fn next_larger(m: &[[f32; 8]; 8], i: usize, best: usize, from: usize) -> usize
+// The first row below row `best` whose entry of column i is larger than that of row `best`.
+fn next_larger(m: &[[f32; 8]; 8], i: usize, best: usize) -> Option<usize>
     requires { (i < 8) × (best < 8) }
-    ensures { result ≡ next_larger m.now i best from }
+    ensures value { result ≡ next_larger m.now i best }
+    ensures inside { IfSome result (λ k. k < 8) }
 {
     let largest = float::magnitude(m[best][i]);
-    let mut k = from;
-    while k < 8 {
+    for k in best + 1..8 {
         if largest < float::magnitude(m[k][i]) {
-            return k;
+            return Some(k);
         }
-        k += 1;
     }
-    k
+    None
 }
 
 // The row of column i's pivot. The search starts anew after each larger entry: so it is compiled to jumps, which the processor foresees, and the
@@ -36,10 +28,8 @@ fn pivot_row(m: &[[f32; 8]; 8], i: usize) -> usize
     ensures { (result < 8) × (result ≡ pivot_row m.now i) }
 {
     let mut best = i;
-    let mut k = next_larger(m, i, best, i + 1);
-    while k < 8 {
+    while let Some(k) = next_larger(m, i, best) {
         best = k;
-        k = next_larger(m, i, best, k + 1);
     }
     best
 }
@@ -49,10 +39,8 @@ fn reduce_entries(m: &mut [[f32; 8]; 8], p: &[f32; 8], k: usize, t: f32, from: u
     requires { (k < 8) × (end ≤ 8) }
     ensures { m.new ≡ run (reduce_entry p.now k t) from end m.old }
 {
-    let mut j = from;
-    while j < end {
+    for j in from..end {
         m[k][j] = m[k][j] + (-p[j]) * t;
-        j += 1;
     }
 }
 
@@ -67,9 +55,9 @@ fn reduce_row(m: &mut [[f32; 8]; 8], p: &[f32; 8], i: usize, inverse: f32, k: us
     if i < 4 {
         reduce_entries(m, p, k, t, i + 1, 4);
         reduce_entries(m, p, k, t, 4, 8);
-        return;
+    } else {
+        reduce_entries(m, p, k, t, i + 1, 8);
     }
-    reduce_entries(m, p, k, t, i + 1, 8);
 }
 
 // The rows below row i.
@@ -77,10 +65,8 @@ fn reduce_rows(m: &mut [[f32; 8]; 8], p: &[f32; 8], i: usize, inverse: f32)
     requires { i < 8 }
     ensures { m.new ≡ reduce_rows p.now i inverse m.old }
 {
-    let mut k = i + 1;
-    while k < 8 {
+    for k in i + 1..8 {
         reduce_row(m, p, i, inverse, k);
-        k += 1;
     }
 }
 
@@ -94,24 +80,19 @@ fn eliminate(m: &mut [[f32; 8]; 8], y: &mut [f32; 8], i: usize)
     if pivot == 0.0 {
         return;
     }
-    let p = m[best];
-    m[best] = m[i];
-    m[i] = p;
-    let t = y[best];
-    y[best] = y[i];
-    y[i] = t;
+    m.swap(best, i);
+    y.swap(best, i);
+    let p = m[i];
     reduce_rows(m, &p, i, 1.0 / pivot);
 }
 
 fn zero_diagonal(m: [[f32; 8]; 8]) -> bool
     ensures { result ≡ zero_diagonal m }
 {
-    let mut i = 0;
-    while i < 8 {
+    for i in 0..8 {
         if m[i][i] == 0.0 {
             return true;
         }
-        i += 1;
     }
     false
 }
@@ -121,10 +102,8 @@ fn less_column(m: &[[f32; 8]; 8], i: usize, t: f32, x: &mut [f32; 8], from: usiz
     requires { (i < 8) × (end ≤ 8) }
     ensures { x.new ≡ run (less_entry m.now i t) from end x.old }
 {
-    let mut k = from;
-    while k < end {
+    for k in from..end {
         x[k] = x[k] + (-t) * m[k][i];
-        k += 1;
     }
 }
 
@@ -132,11 +111,9 @@ fn forward(m: [[f32; 8]; 8], b: [f32; 8]) -> [f32; 8]
     ensures { result ≡ forward_by m b }
 {
     let mut x = b;
-    let mut i = 0;
-    while i < 8 {
+    for i in 0..8 {
         let t = x[i];
         less_column(&m, i, t, &mut x, i + 1, 8);
-        i += 1;
     }
     x
 }
@@ -145,39 +122,32 @@ fn backward(m: [[f32; 8]; 8], b: [f32; 8]) -> [f32; 8]
     ensures { result ≡ backward_by m b }
 {
     let mut x = b;
-    let mut n = 8;
-    while 0 < n {
-        n -= 1;
-        let t = x[n] / m[n][n];
-        x[n] = t;
-        less_column(&m, n, t, &mut x, 0, n);
+    for i in (0..8).rev() {
+        let t = x[i] / m[i][i];
+        x[i] = t;
+        less_column(&m, i, t, &mut x, 0, i);
     }
     x
 }
 
-fn substitute(m: [[f32; 8]; 8], b: [f32; 8]) -> Solution
+fn substitute(m: [[f32; 8]; 8], b: [f32; 8]) -> Option<[f32; 8]>
     ensures { result ≡ substituted (record { rows = m; right = b }) }
 {
     if zero_diagonal(m) {
-        return Solution {
-            found: false,
-            x: [0.0; 8],
-        };
+        return None;
     }
     let y = forward(m, b);
-    let x = backward(m, y);
-    Solution { found: true, x: x }
+    Some(backward(m, y))
 }
 
-pub fn solve(a: [[f32; 8]; 8], b: [f32; 8]) -> Solution
+// The solution x, where there is one.
+pub fn solve(a: [[f32; 8]; 8], b: [f32; 8]) -> Option<[f32; 8]>
     ensures { result ≡ solution_of a b }
 {
     let mut m = a;
     let mut y = b;
-    let mut i = 0;
-    while i < 8 {
+    for i in 0..8 {
         eliminate(&mut m, &mut y, i);
-        i += 1;
     }
     substitute(m, y)
 }

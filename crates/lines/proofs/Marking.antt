@@ -12,7 +12,8 @@ use lib.ListN.{length, get_or, set, replicate, length-replicate, get_or-eq_defau
 use Rattle.folds.specs.Below.{fold, some, tally}
 use Rattle.folds.proofs.Below.{some_one, some-no, some-ext, tally-ext, and-false, and-true}
 use Rattle.folds.specs.Lists.{over, gather}
-use Rattle.folds.proofs.Lists.{over-listed}
+use Rattle.folds.proofs.Lists.{over_none, over-listed}
+use Rattle.std.proofs.lemmas.List.{take_all}
 use Rattle.folds.specs.Marked.{bit, Marked}
 use Rattle.folds.proofs.Marked.{marked-none, marked-one, marked-as, marked-then, marked_more, marked-column, bit_is}
 use Rattle.folds.specs.Column.{column}
@@ -40,7 +41,11 @@ flagged-is : (rule : LineRule) (minimum : ℕ) (l : List ℕ) (k : ℕ) → flag
 unfolding flagged_by
 flagged-is rule minimum l k = refl
 
--- a line with too few members marks none
+-- a line with no members marks none
+pub no-members : (step : List ℕ → ℕ → List ℕ) (a l : List ℕ) → length l ≡ 0 → a ≡ over step a l
+no-members step a l h = sym (over_none step a l) ∙ ap (over step a) (take_all 0 l (omega arith))
+
+-- nor does one with too few
 pub short-line : (rule : LineRule) (minimum : ℕ) (a l : List ℕ) → length l < minimum → a ≡ over (mark_if (flagged_by rule minimum l)) a l
 short-line rule minimum a l h =
     sym (over-ext (flagged_by rule minimum l) (λ k. false) a l (λ k. flagged-is rule minimum l k ∙ rw (lt-leb minimum (length l) h)) ∙ over-same a l)

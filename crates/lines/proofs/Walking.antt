@@ -1,27 +1,29 @@
 -- The chain of each line, as it is made from the last rank down and walked from the first rank up. Assumes nothing.
 use mathlib.Core.Path.{◌≡◌, sym, ap, ◌∙◌}
-use mathlib.Core.Bool.{Bool, true, false}
-use mathlib.Core.List.{List, []}
+use mathlib.Core.Bool.{Bool, false}
+use mathlib.Core.List.{List}
 use Prim.Native.Nat.{ℕ, zero, suc, ◌+◌, ◌-◌, ◌≤◌, ◌<◌}
 use Prim.{Dec, yes, no}
 use native.Mathlib.Decide.{ℕ_discrete}
 use native.Mathlib.Omega.{arith}
 use borrow.Author.Tests.{eq-eqb, ne_eqb, eqb-true}
-use lib.ListN.{get_or, set, length-set, replicate, length-replicate}
+use lib.ListN.{length, get_or, set, take, length-set, replicate, length-replicate}
+use Rattle.std.proofs.lemmas.List.{length-take-le, get_or-take}
 use lib.Seq.{get_or-set_same, get_or-set_other}
 use Rattle.folds.specs.Below.{first}
 use Rattle.folds.proofs.Below.{first_more, first-end, first-le, first-before, first-from}
 use Rattle.folds.specs.Lists.{Gathered}
 use Rattle.folds.proofs.Lists.{gathered-skip, get_d_any}
 use Rattle.folds.proofs.Column.{replicate-at}
-use Rattle.view.specs.View.{max_points, view_at, Ranked}
-use Rattle.lines.specs.Flags.{line_number, is_on}
-use Rattle.lines.specs.Lines.{Chained, Onward, Linked}
+use Rattle.view.specs.View.{max_points}
+use Rattle.lines.specs.Flags.{is_on}
+use Rattle.lines.specs.Lines.{Members, Chained, Onward, Linked}
 
--- rows and columns are ranks
-pub line-below : {n : ℕ} {ranks : List ℕ} → Ranked n ranks → (rows : Bool) (k : ℕ) → k < n → line_number (view_at n ranks [] []) rows k < n
-line-below r true k h = r.rows k h
-line-below r false k h = r.columns k h
+-- the members of a line are ranks
+pub members-ranks : {p : ℕ → Bool} {n : ℕ} {l : List ℕ} {c : ℕ} → Gathered p n l c → n ≤ max_points → n ≤ length l → Members (take c l)
+members-ranks {p} {n} {l} {c} g few size =
+    let long : length (take c l) ≡ c = length-take-le c l (omega (arith, g.few)) in
+    record { few = omega (arith, long, g.few); ranks = λ i h. let lt : i < c = omega (arith, long) in rw get_or-take (omega (arith, g.each i lt)) }
 
 module _ (n : ℕ) (line : ℕ → ℕ) where
   -- no rank is chained yet

@@ -1,12 +1,12 @@
 -- Which ranks their rows and their columns flag, and how many flags an index has. Assumes nothing.
-use Rattle.std.specs.Prelude.{Bool, true, false, cond, ◌&&◌, List, ℕ, ◌+◌, eqb, leb, length, Float}
+use Rattle.std.specs.Prelude.{Bool, ◌&&◌, List, ℕ, ◌+◌, eqb, leb, length, Float}
 use Rattle.std.specs.Float.Ieee.{lt, mul}
 use Rattle.folds.specs.Arith.{◌⊗◌}
 use Rattle.folds.specs.Below.{tally}
 use Rattle.folds.specs.Lists.{listed, gather}
 use Rattle.folds.specs.Scattered.{counts}
 use Rattle.view.specs.View.{View}
-use Rattle.lines.specs.Fit.{value_at, fit_of, distance_of}
+use Rattle.lines.specs.Fit.{fit_of, distance_of}
 use Rattle.lines.specs.declared.Line.{Line}
 
 -- what a distance is held against: the positions, the scale of each rank's index, and the line tolerance
@@ -15,9 +15,6 @@ pub record LineRule : Type 0 where
   pub y : ℕ → Float
   pub scale : ℕ → Float
   pub tolerance : Float
-
-abbrev pub rule_by : List Float → List Float → List Float → Float → LineRule
-rule_by xs ys scales tolerance = record { x = value_at xs; y = value_at ys; scale = value_at scales; tolerance = tolerance }
 
 -- rank k is "farther than tolerance times scale" from a line
 unfoldable pub is_far : LineRule → Line → ℕ → Bool
@@ -29,11 +26,7 @@ unfoldable pub flagged_by : LineRule → ℕ → List ℕ → ℕ → Bool
 unfolding is_far fit_of
 flagged_by rule minimum l k = leb minimum (length l) && is_far rule (fit_of rule.x rule.y l) k
 
--- the line of each rank: its row, or its column, by the line's first rank
-abbrev pub line_number : View → Bool → ℕ → ℕ
-line_number w rows = cond rows w.row w.column
-
--- the line with this number has rank k
+-- the line with this number has rank k; a row or a column goes by its first rank
 abbrev pub is_on : (ℕ → ℕ) → ℕ → ℕ → Bool
 is_on line number k = eqb (line k) number
 
@@ -52,4 +45,4 @@ flag_count by_idx rule minimum line n m = tally (counts by_idx (is_flagged rule 
 abbrev pub flags_at : View → (ℕ → Float) → Float → ℕ → ℕ → ℕ
 flags_at w scale tolerance minimum m =
     let rule : LineRule = record { x = w.x; y = w.y; scale = scale; tolerance = tolerance } in
-    flag_count w.by_idx rule minimum (line_number w true) w.count m + flag_count w.by_idx rule minimum (line_number w false) w.count m
+    flag_count w.by_idx rule minimum w.row w.count m + flag_count w.by_idx rule minimum w.column w.count m

@@ -2,13 +2,23 @@
 use Rattle.std.specs.Prelude.{◌≡◌, Bool, true, cond, List, ℕ, ◌+◌, ◌≤◌, ◌<◌, length, get_or, set}
 use Rattle.folds.specs.Below.{first}
 use Rattle.view.specs.View.{max_points}
-use Rattle.lines.specs.Flags.{is_on}
+use Rattle.lines.specs.Fit.{value_at}
+use Rattle.lines.specs.Flags.{LineRule, is_on}
+use Rattle.lines.specs.declared.Rule.{Rule}
 
--- the first c of l are ranks
-pub record Members (l : List ℕ) (c : ℕ) : Type 0 where
-  pub few : c ≤ max_points
-  pub size : length l ≡ max_points
-  pub ranks : (i : ℕ) → i < c → get_or l i 0 < max_points
+-- what the code's rule holds points against
+abbrev pub rule_in : Rule → LineRule
+rule_in r = record { x = value_at r.x.now; y = value_at r.y.now; scale = value_at r.scale.now; tolerance = r.tolerance }
+
+-- the members of a line are ranks
+pub record Members (l : List ℕ) : Type 0 where
+  pub few : length l ≤ max_points
+  pub ranks : (i : ℕ) → i < length l → get_or l i 0 < max_points
+
+-- `line` is the number of each rank's line, where `given k r` says that r was found for rank k; the numbers are ranks
+pub record Numbered (n : ℕ) (given : ℕ → ℕ → Type 0) (line : ℕ → ℕ) : Type 0 where
+  pub is : (k r : ℕ) → k < n → given k r → r ≡ line k
+  pub inside : (k : ℕ) → k < n → line k < n
 
 -- The ranks from i on are chained: each has the next rank on its line, and each line its first rank from i on; n is none.
 pub record Chained (n : ℕ) (line : ℕ → ℕ) (i : ℕ) (head next : List ℕ) : Type 0 where

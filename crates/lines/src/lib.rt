@@ -1,19 +1,20 @@
 // Rows and columns of points: the line fitted to each, and the points that lie off it.
 #![tactic(auto)]
 
-ghost use Rattle.std.specs.Prelude.{◌≡◌, Bool, true, ℕ, ◌+◌, ◌≤◌, ◌<◌, length, get_or, take, replicate, []};
+ghost use Rattle.std.specs.Prelude.{◌≡◌, Bool, ℕ, ◌≤◌, ◌<◌, length, get_or};
 ghost use Rattle.folds.specs.Below.{first};
 ghost use Rattle.folds.specs.Lists.{Gathered, over};
 ghost use Rattle.folds.specs.Marked.{bit};
 ghost use Rattle.folds.specs.Column.{column as column_of};
 ghost use Rattle.folds.specs.Scattered.{Scattered, one_more};
-ghost use Rattle.view.specs.View.{max_points, view_at, Ranked};
+ghost use Rattle.view.specs.View.{max_points};
+ghost use Rattle.view.specs.Seen.{view_in};
 ghost use Rattle.marks.specs.Marks.{is_set};
 ghost use Rattle.lines.specs.Fit.{value_at, larger_eigenvalue, direction_of, line_through, centre_of, line_around, fit_of, distance_of};
-ghost use Rattle.lines.specs.Flags.{rule_by, is_far, flagged_by, line_number, is_flagged, flags_at};
-ghost use Rattle.lines.specs.Lines.{Members, Chained, Onward, Linked, mark_if};
+ghost use Rattle.lines.specs.Flags.{is_far, flagged_by, is_flagged, flags_at};
+ghost use Rattle.lines.specs.Lines.{rule_in, Members, Numbered, Chained, Onward, Linked, mark_if};
 
-use view::{Floats, MAX_POINTS, Marks, Places, Ranks, wide};
+use view::{Floats, MAX_POINTS, Marks, Places, View};
 
 // A line: its centre and its unit direction.
 #[derive(Clone, Copy)]
@@ -28,6 +29,23 @@ struct Line {
 struct Vector {
     x: f32,
     y: f32,
+}
+
+// What points are held against: where they are seen, the scale of each rank's index, the line tolerance and the line minimum.
+#[derive(Clone, Copy)]
+struct Rule<'a> {
+    x: &'a Floats,
+    y: &'a Floats,
+    scale: &'a Floats,
+    tolerance: f32,
+    minimum: u16,
+}
+
+// The ranks of each line, chained: the first on each line, and for each rank the next on its line; n is none.
+#[derive(Drop)]
+struct Chain {
+    heads: Places,
+    nexts: Places,
 }
 
 fn larger_eigenvalue(sxx: f32, sxy: f32, syy: f32) -> f32
@@ -75,202 +93,157 @@ fn distance(line: Line, x: f32, y: f32) -> f32
     float::abs(dx * (-line.uy) + dy * line.ux)
 }
 
-// The centre of the points whose ranks are the first c of l.
-fn centre(x: &Floats, y: &Floats, l: &Places, c: usize) -> Vector
-    requires { Members l.now c }
-    ensures { result ≡ centre_of (value_at x.now) (value_at y.now) (take c l.now) }
+// The centre of the points with these ranks.
+fn centre(x: &Floats, y: &Floats, members: &[u16]) -> Vector
+    requires { Members members.now }
+    ensures { result ≡ centre_of (value_at x.now) (value_at y.now) members.now }
 {
     let mut cx = 0.0;
     let mut cy = 0.0;
-    let mut i: usize = 0;
-    while i < c {
-        let j = wide(l[i]);
-        cx = cx + x[j];
-        cy = cy + y[j];
-        i += 1;
+    for j in members {
+        let j = usize::from(*j);
+        cx += x[j];
+        cy += y[j];
     }
-    let n = c as f32;
+    let n = members.len() as f32;
     Vector {
         x: cx / n,
         y: cy / n,
     }
 }
 
-// The line through v fitted to the points whose ranks are the first c of l.
-fn line_around(x: &Floats, y: &Floats, v: Vector, l: &Places, c: usize) -> Line
-    requires { Members l.now c }
-    ensures { result ≡ line_around (value_at x.now) (value_at y.now) v (take c l.now) }
+// The line through v fitted to the points with these ranks.
+fn line_around(x: &Floats, y: &Floats, v: Vector, members: &[u16]) -> Line
+    requires { Members members.now }
+    ensures { result ≡ line_around (value_at x.now) (value_at y.now) v members.now }
 {
-    let cx = v.x;
-    let cy = v.y;
     let mut sxx = 0.0;
     let mut sxy = 0.0;
     let mut syy = 0.0;
-    let mut i: usize = 0;
-    while i < c {
-        let j = wide(l[i]);
-        let dx = x[j] - cx;
-        let dy = y[j] - cy;
-        sxx = sxx + dx * dx;
-        sxy = sxy + dx * dy;
-        syy = syy + dy * dy;
-        i += 1;
+    for j in members {
+        let j = usize::from(*j);
+        let dx = x[j] - v.x;
+        let dy = y[j] - v.y;
+        sxx += dx * dx;
+        sxy += dx * dy;
+        syy += dy * dy;
     }
     line_through(v, direction(sxx, sxy, syy))
 }
 
-// The line fitted to the points whose ranks are the first c of l.
-fn fit(x: &Floats, y: &Floats, l: &Places, c: usize) -> Line
-    requires { Members l.now c }
-    ensures { result ≡ fit_of (value_at x.now) (value_at y.now) (take c l.now) }
+// The line fitted to the points with these ranks.
+fn fit(x: &Floats, y: &Floats, members: &[u16]) -> Line
+    requires { Members members.now }
+    ensures { result ≡ fit_of (value_at x.now) (value_at y.now) members.now }
 {
-    let v = centre(x, y, l, c);
-    line_around(x, y, v, l, c)
+    line_around(x, y, centre(x, y, members), members)
 }
 
-// Whether rank j is too far from a line.
-fn is_far(x: &Floats, y: &Floats, scale: &Floats, tolerance: f32, line: Line, j: usize) -> bool
-    requires { j < max_points }
-    ensures { result ≡ is_far (rule_by x.now y.now scale.now tolerance) line j }
-{
-    let limit = tolerance * scale[j];
-    distance(line, x[j], y[j]) > limit
-}
+impl Rule<'_> {
+    // Whether rank j is too far from a line.
+    fn is_far(&self, line: Line, j: usize) -> bool
+        requires { j < max_points }
+        ensures { result ≡ is_far (rule_in self.now) line j }
+    {
+        distance(line, self.x[j], self.y[j]) > self.tolerance * self.scale[j]
+    }
 
-// Sets the marks of those members of a line that it flags; its members are the first c ranks of l.
-fn mark_flagged(
-    x: &Floats,
-    y: &Floats,
-    scale: &Floats,
-    tolerance: f32,
-    minimum: u16,
-    l: &Places,
-    c: usize,
-    out: &mut Marks,
-)
-    requires { Members l.now c × (length out.old ≡ max_points) }
-    ensures { out.new ≡ over (mark_if (flagged_by (rule_by x.now y.now scale.now tolerance) minimum (take c l.now))) out.old (take c l.now) }
-{
-    if c == 0 {
-        return;
-    }
-    if c < wide(minimum) {
-        return;
-    }
-    let line = fit(x, y, l, c);
-    let mut i: usize = 0;
-    while i < c {
-        let j = wide(l[i]);
-        i += 1;
-        if is_far(x, y, scale, tolerance, line, j) {
-            out[j] = 1;
+    // Sets the marks of those members of a line that it flags.
+    fn mark_flagged(&self, members: &[u16], out: &mut Marks)
+        requires { Members members.now }
+        ensures { out.new ≡ over (mark_if (flagged_by (rule_in self.now) self.now.minimum members.now)) out.old members.now }
+    {
+        if members.is_empty() || members.len() < usize::from(self.minimum) {
+            return;
+        }
+        let line = fit(self.x, self.y, members);
+        for j in members {
+            let j = usize::from(*j);
+            if self.is_far(line, j) {
+                out[j] = 1;
+            }
         }
     }
 }
 
-// The line of rank k: the first rank of its row, or of its column.
-fn line_of(ranks: &Ranks, rows: bool, k: usize) -> usize
-    requires { k < max_points }
-    ensures { result ≡ line_number (view_at 0 ranks.now [] []) rows k }
+// The chain of n ranks, whose lines are given by numbers that are ranks.
+fn chained<F: Fn(usize) -> usize>(line: F, n: usize) -> Chain
+    requires few { n ≤ max_points }
+    requires callable { (k : ℕ) → k < n → F.pre line k }
+    requires numbered { (g : ℕ → ℕ) × Numbered n (F.post line) g }
+    ensures { (g : ℕ → ℕ) → Numbered n (F.post line) g → Chained n g 0 result.heads result.nexts }
 {
-    if rows {
-        return view::row_of(ranks, k);
+    let mut heads = [n as u16; MAX_POINTS];
+    let mut nexts = [0u16; MAX_POINTS];
+    for i in (0..n).rev() {
+        let number = line(i);
+        nexts[i] = heads[number];
+        heads[number] = i as u16;
     }
-    view::column_of(ranks, k)
-}
-
-// The next rank on the same line, for each rank, or n where there is none; and in `head` the first rank of each line.
-fn chain(ranks: &Ranks, rows: bool, n: usize, head: &mut Places) -> Places
-    requires { Ranked n ranks.now × (head.old ≡ replicate max_points n) }
-    ensures { Chained n (line_number (view_at n ranks.now [] []) rows) 0 head.new result }
-{
-    let mut next = [0u16; MAX_POINTS];
-    let mut i = n;
-    while 0 < i {
-        i -= 1;
-        let number = line_of(ranks, rows, i);
-        next[i] = head[number];
-        head[number] = i as u16;
-    }
-    next
+    Chain { heads, nexts }
 }
 
 // Writes the ranks from `from` on along the chain, and returns how many they are.
-fn members(next: &Places, n: usize, from: usize, out: &mut Places) -> usize
-    requires { (n ≤ max_points) × Onward n next.now × (from ≤ n) × (length out.old ≡ max_points) }
-    ensures { (length out.new ≡ max_points) × ((p : ℕ → Bool) → Linked p n next.now → first p 0 n ≡ from → Gathered p n out.new result) }
+fn members(nexts: &Places, n: usize, from: usize, out: &mut Places) -> usize
+    requires { (n ≤ max_points) × Onward n nexts.now × (from ≤ n) }
+    ensures { (p : ℕ → Bool) → Linked p n nexts.now → first p 0 n ≡ from → Gathered p n out.new result }
 {
     let mut c: usize = 0;
     let mut k = from;
     while k < n {
         out[c] = k as u16;
         c += 1;
-        k = wide(next[k]);
+        k = usize::from(nexts[k]);
     }
     c
 }
 
-// 1 for each rank that its row, or its column, flags, else 0.
-fn flagged(
-    ranks: &Ranks,
-    rows: bool,
-    x: &Floats,
-    y: &Floats,
-    scale: &Floats,
-    n: usize,
-    tolerance: f32,
-    minimum: u16,
-) -> Marks
-    requires { Ranked n ranks.now }
-    ensures { result ≡ column_of max_points 0 n (λ (k : ℕ). bit (is_flagged (rule_by x.now y.now scale.now tolerance) minimum (line_number (view_at n ranks.now [] []) rows) n k)) }
+// 1 for each rank that its line flags, else 0; the lines are given by numbers that are ranks.
+fn flagged<F: Fn(usize) -> usize>(rule: &Rule, n: usize, line: F) -> Marks
+    requires few { n ≤ max_points }
+    requires callable { (k : ℕ) → k < n → F.pre line k }
+    requires numbered { (g : ℕ → ℕ) × Numbered n (F.post line) g }
+    ensures { (g : ℕ → ℕ) → Numbered n (F.post line) g → result ≡ column_of max_points 0 n (λ (k : ℕ). bit (is_flagged (rule_in rule.now) rule.now.minimum g n k)) }
 {
-    let mut head = [n as u16; MAX_POINTS];
-    let next = chain(ranks, rows, n, &mut head);
+    let Chain { heads, nexts } = chained(line, n);
     let mut l = [0u16; MAX_POINTS];
     let mut out = [0u8; MAX_POINTS];
-    let mut number: usize = 0;
-    while number < n {
-        let from = wide(head[number]);
-        let c = members(&next, n, from, &mut l);
-        mark_flagged(x, y, scale, tolerance, minimum, &l, c, &mut out);
-        number += 1;
+    for number in 0..n {
+        let c = members(&nexts, n, usize::from(heads[number]), &mut l);
+        rule.mark_flagged(&l[..c], &mut out);
     }
     out
 }
 
 // Adds to the count of each index its ranks with a mark.
-fn count(mark: &Marks, ranks: &Ranks, n: usize, flags: &mut Places)
-    requires { Ranked n ranks.now × (length flags.old ≡ max_points) × ((m : ℕ) → m < max_points → get_or flags.old m 0 ≤ max_points) }
-    ensures { Scattered 0 (view_at n ranks.now [] []).by_idx (is_set mark.now) one_more flags.old n flags.new }
+fn count(view: &View, mark: &Marks, flags: &mut Places)
+    requires { (m : ℕ) → m < max_points → get_or flags.old m 0 ≤ max_points }
+    ensures { Scattered 0 (view_in view.now).by_idx (is_set mark.now) one_more flags.old view.now.lattice.count flags.new }
 {
-    let mut i: usize = 0;
-    while i < n {
-        let k = i;
-        i += 1;
+    for k in 0..view.lattice.count {
         if mark[k] == 1 {
-            let m = view::index_of(ranks, k);
-            flags[m] = flags[m] + 1;
+            flags[view.lattice.index(k)] += 1;
         }
     }
 }
 
 // How many flags each index has from the rows and columns of its cells, at the last of its ranks.
-pub fn line_flags(
-    ranks: &Ranks,
-    x: &Floats,
-    y: &Floats,
-    scale: &Floats,
-    n: usize,
-    tolerance: f32,
-    minimum: u16,
-) -> Places
-    requires { Ranked n ranks.now }
-    ensures { result ≡ column_of max_points 0 n (flags_at (view_at n ranks.now x.now y.now) (value_at scale.now) tolerance minimum) }
+#[inline(never)]
+pub fn line_flags(view: &View, scale: &Floats, tolerance: f32, minimum: u16) -> Places
+    ensures { result ≡ column_of max_points 0 view.now.lattice.count (flags_at (view_in view.now) (value_at scale.now) tolerance minimum) }
 {
-    let rows = flagged(ranks, true, x, y, scale, n, tolerance, minimum);
-    let columns = flagged(ranks, false, x, y, scale, n, tolerance, minimum);
+    let rule = Rule {
+        x: view.x,
+        y: view.y,
+        scale,
+        tolerance,
+        minimum,
+    };
+    let lattice = &view.lattice;
+    let rows = flagged(&rule, lattice.count, |k| lattice.row(k));
+    let columns = flagged(&rule, lattice.count, |k| lattice.column(k));
     let mut flags = [0u16; MAX_POINTS];
-    count(&rows, ranks, n, &mut flags);
-    count(&columns, ranks, n, &mut flags);
+    count(view, &rows, &mut flags);
+    count(view, &columns, &mut flags);
     flags
 }

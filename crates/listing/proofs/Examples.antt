@@ -15,7 +15,7 @@ use Rattle.local_h.specs.declared.Residual.{Residual}
 use Rattle.local_h.specs.declared.Residual.TheVariants.{Value, NoFit}
 use Rattle.judged.specs.Shown.{shown_at}
 use Rattle.judged.specs.Judged.{Judged}
-use Rattle.predict.specs.declared.Prediction.TheVariants.{NoPair, Pairs}
+use Rattle.std.specs.Prelude.{None, Some}
 use Rattle.text.specs.Text.{bytes, each, digits, decimal, whole, hex}
 use Rattle.listing.specs.Listing.{cell_text, marks_text, distance_text, residual_text, shown_text, line_text, head_text, tally_text, position_text, fill_text, fill_line, listing_of}
 
@@ -66,9 +66,9 @@ unfolding distance_text hex of_bits root_of whole_root_of root
 special-residuals = (refl, refl, refl, refl)
 
 -- the line of a dropped point with two pairs, one with none, and that of a kept one, which has no line
-fill-lines : (fill_line (cell_at (negsuc 7999) (pos 12)) 5 (Pairs (record { x = of_bits binary32 0x43fa_0000; y = of_bits binary32 0x8000_0000; n_axis_pairs = 2 })) ≡ bytes "-8000 12 2 43FA0000 80000000\n")
-    × (fill_line (cell_at (pos 5) (pos 5)) 8 NoPair ≡ bytes "5 5 0\n")
-    × (fill_line (cell_at (pos 5) (pos 5)) 0 NoPair ≡ [])
+fill-lines : (fill_line (cell_at (negsuc 7999) (pos 12)) 5 (Some (record { x = of_bits binary32 0x43fa_0000; y = of_bits binary32 0x8000_0000; n_axis_pairs = 2 })) ≡ bytes "-8000 12 2 43FA0000 80000000\n")
+    × (fill_line (cell_at (pos 5) (pos 5)) 8 None ≡ bytes "5 5 0\n")
+    × (fill_line (cell_at (pos 5) (pos 5)) 0 None ≡ [])
 unfolding fill_text position_text cell_text decimal digits whole hex each fold of_bits
 fill-lines = (refl, refl, refl)
 

@@ -23,8 +23,8 @@ use Rattle.judged.specs.Shown.{Shown, shown_at}
 use Rattle.judged.specs.Judged.{Judged}
 use Rattle.edge_shape.specs.Figures.{reason_number}
 use Rattle.predict.specs.declared.PredictedPosition.{PredictedPosition}
-use Rattle.predict.specs.declared.Prediction.{Prediction}
-use Rattle.predict.specs.declared.Prediction.TheVariants.{NoPair, Pairs}
+use Rattle.predict.specs.Predict.{Prediction}
+use Rattle.std.specs.Prelude.{None, Some}
 use Rattle.marks.specs.Filters.{filter_count, filter_at}
 use Rattle.marks.specs.Byte.{has_mark}
 use Rattle.listing.specs.Listing.{cell_text, mark_text, marks_text, distance_text, residual_text, shown_text, line_text, line_of, head_text, count_text, tally_text, position_text, prediction_text, fill_text, fill_line, listing_of, line_size, fill_line_size, listing_size}
@@ -110,15 +110,15 @@ tally-size counts h =
 
 -- fills with at most nine pairs
 abbrev OneDigit : List Prediction → Type 0
-OneDigit fills = (k : ℕ) (p : PredictedPosition) → get_or fills k NoPair ≡ Pairs p → p.n_axis_pairs < 10
+OneDigit fills = (k : ℕ) (p : PredictedPosition) → get_or fills k None ≡ Some p → p.n_axis_pairs < 10
 
-prediction-size : (x : Prediction) → ((p : PredictedPosition) → x ≡ Pairs p → p.n_axis_pairs < 10) → AtMost 19 (prediction_text x)
+prediction-size : (x : Prediction) → ((p : PredictedPosition) → x ≡ Some p → p.n_axis_pairs < 10) → AtMost 19 (prediction_text x)
 unfolding position_text
-prediction-size NoPair h = record { within = omega arith }
-prediction-size (Pairs p) h =
+prediction-size None h = record { within = omega arith }
+prediction-size (Some p) h =
     join (join (join (join (number 0 p.n_axis_pairs (h p refl)) (known (bytes " "))) (float_size p.x)) (known (bytes " "))) (float_size p.y)
 
-fill-size : (key marks : ℕ) (x : Prediction) → key < 2 ^ 32 → ((p : PredictedPosition) → x ≡ Pairs p → p.n_axis_pairs < 10) → AtMost fill_line_size (fill_line (cell_of_key key) marks x)
+fill-size : (key marks : ℕ) (x : Prediction) → key < 2 ^ 32 → ((p : PredictedPosition) → x ≡ Some p → p.n_axis_pairs < 10) → AtMost fill_line_size (fill_line (cell_of_key key) marks x)
 unfolding fill_text
 fill-size key marks x h e =
     either (eqb marks 0) (record { within = omega arith }) (join (join (join (cell-size key h) (known (bytes " "))) (prediction-size x e)) (known (bytes "\n")))
@@ -129,6 +129,6 @@ pub listing-fits : (n : ℕ) (keys idx : List ℕ) (j : Judged) (fills : List Pr
 unfolding listing_of
 listing-fits n keys idx j fills h g r t f e d =
     let lines = all (λ k. line_of (cells_at keys k) (get_or idx k 0) (shown_at j k)) line_size n (λ k l. line-size (get_or keys k 0) (get_or idx k 0) (shown_at j k) (f k) (e k)) in
-    let last = all (λ k. fill_line (cells_at keys k) (get_or j.marks k 0) (get_or fills k NoPair)) fill_line_size n (λ k l. fill-size (get_or keys k 0) (get_or j.marks k 0) (get_or fills k NoPair) (f k) (d k)) in
+    let last = all (λ k. fill_line (cells_at keys k) (get_or j.marks k 0) (get_or fills k None)) fill_line_size n (λ k l. fill-size (get_or keys k 0) (get_or j.marks k 0) (get_or fills k None) (f k) (d k)) in
     let whole = join (join (join (head-size n j.components j.rounds h g r) lines) (tally-size j.tally t)) last in
     omega (arith, whole.within)

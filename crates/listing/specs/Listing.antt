@@ -14,8 +14,8 @@ use Rattle.judged.specs.Judged.{Judged}
 use Rattle.marks.specs.Filters.{filter_at, filter_count}
 use Rattle.marks.specs.Byte.{has_mark}
 use Rattle.predict.specs.declared.PredictedPosition.{PredictedPosition}
-use Rattle.predict.specs.declared.Prediction.{Prediction}
-use Rattle.predict.specs.declared.Prediction.TheVariants.{NoPair, Pairs}
+use Rattle.predict.specs.Predict.{Prediction}
+use Rattle.std.specs.Prelude.{None, Some}
 use Rattle.text.specs.Text.{bytes, each, digit, decimal, whole, hex}
 
 -- "u, v"
@@ -84,8 +84,8 @@ unfolding decimal hex to_bits
 position_text p = decimal p.n_axis_pairs ++ bytes " " ++ hex 8 (to_bits binary32 p.x) ++ bytes " " ++ hex 8 (to_bits binary32 p.y)
 
 abbrev pub prediction_text : Prediction → List ℕ
-prediction_text NoPair = bytes "0"
-prediction_text (Pairs p) = position_text p
+prediction_text None = bytes "0"
+prediction_text (Some p) = position_text p
 
 unfoldable pub fill_text : Cell → Prediction → List ℕ
 unfolding cell_text position_text
@@ -97,7 +97,7 @@ fill_line cell marks fill = cond (eqb marks 0) [] (fill_text cell fill)
 
 -- "It is listed after the tally in cell order"
 abbrev pub fill_lines : (ℕ → Cell) → List ℕ → List Prediction → ℕ → List ℕ
-fill_lines cell marks fills n = each (λ k. fill_line (cell k) (get_or marks k 0) (get_or fills k NoPair)) n
+fill_lines cell marks fills n = each (λ k. fill_line (cell k) (get_or marks k 0) (get_or fills k None)) n
 
 -- the first line, a line for each rank in cell order, the tally, and a line for each dropped one
 unfoldable pub listing_of : ℕ → (ℕ → Cell) → List ℕ → Judged → List Prediction → List ℕ

@@ -4,36 +4,37 @@ ghost use Rattle.text.specs.Stored.{Stored};
 ghost use Rattle.listing.specs.Listing.{position_text, prediction_text, fill_line};
 
 use crate::line;
-use predict::{PredictedPosition, Prediction};
+use predict::PredictedPosition;
+use text::Writer;
 
-fn put_position(p: PredictedPosition, out: &mut [u8], at: usize) -> usize
-    ensures { Stored out.old at (position_text p) out.new result }
+fn put_position(w: &mut Writer, p: PredictedPosition)
+    ensures { Stored w.old (position_text p) w.new }
 {
-    let a = text::put_decimal(p.n_axis_pairs as usize, out, at);
-    let b = text::put_byte(b' ', out, a);
-    let c = text::put_hex(8, float::to_bits(p.x), out, b);
-    let d = text::put_byte(b' ', out, c);
-    text::put_hex(8, float::to_bits(p.y), out, d)
+    w.decimal(p.n_axis_pairs as usize);
+    w.byte(b' ');
+    w.hex(8, float::to_bits(p.x));
+    w.byte(b' ');
+    w.hex(8, float::to_bits(p.y));
 }
 
-fn put_prediction(p: Prediction, out: &mut [u8], at: usize) -> usize
-    ensures { Stored out.old at (prediction_text p) out.new result }
+fn put_prediction(w: &mut Writer, p: Option<PredictedPosition>)
+    ensures { Stored w.old (prediction_text p) w.new }
 {
     match p {
-        Prediction::NoPair => text::put_byte(b'0', out, at),
-        Prediction::Pairs(position) => put_position(position, out, at),
+        None => w.byte(b'0'),
+        Some(position) => put_position(w, position),
     }
 }
 
 // The line of the point whose cell has this key, if it has a mark.
-pub(crate) fn put_fill(key: u32, marks: u8, fill: Prediction, out: &mut [u8], at: usize) -> usize
-    ensures { Stored out.old at (fill_line (cell_of_key key) marks fill) out.new result }
+pub(crate) fn put_fill(w: &mut Writer, key: u32, marks: u8, fill: Option<PredictedPosition>)
+    ensures { Stored w.old (fill_line (cell_of_key key) marks fill) w.new }
 {
     if marks == 0 {
-        return at;
+        return;
     }
-    let a = line::put_cell(key, out, at);
-    let b = text::put_byte(b' ', out, a);
-    let c = put_prediction(fill, out, b);
-    text::put_byte(b'\n', out, c)
+    line::put_cell(w, key);
+    w.byte(b' ');
+    put_prediction(w, fill);
+    w.byte(b'\n');
 }

@@ -4,7 +4,7 @@
 mod fill;
 mod line;
 
-ghost use Rattle.std.specs.Prelude.{◌≡◌, List, ◌≤◌, get_or, Float};
+ghost use Rattle.std.specs.Prelude.{◌≡◌, ◌≤◌, get_or};
 ghost use Rattle.view.specs.View.{max_points};
 ghost use Rattle.cells.specs.Cell.{cells_at};
 ghost use Rattle.marks.specs.Filters.{filter_count};
@@ -15,11 +15,11 @@ ghost use Rattle.judged.specs.Judged.{judged_from};
 ghost use Rattle.listing.specs.Listing.{head_text, lines_of, tally_text, fill_lines, listing_of, listing_size, count_text};
 
 use judged::Findings;
-use judged::figures::FigureCounts;
+use judged::figures::FigureColumn;
 use marks::Tally;
-use marks::filters::FILTERS;
+use marks::filters::{FILTERS, Filter};
 use predict::Fills;
-use text::Written;
+use text::{NoRoom, Writer};
 use view::{MAX_POINTS, Marks, Words};
 
 // A buffer of this size has room for every listing: the first line, a line for each point, the tally, a line for each dropped point.
@@ -35,85 +35,62 @@ pub fn listing_size() -> usize
     LISTING_SIZE
 }
 
-fn put_head(n: usize, components: usize, rounds: usize, out: &mut [u8], at: usize) -> usize
-    ensures { Stored out.old at (head_text n components rounds) out.new result }
+fn put_head(w: &mut Writer, n: usize, components: usize, rounds: usize)
+    ensures { Stored w.old (head_text n components rounds) w.new }
 {
-    let a = text::put_text(b"points ", out, at);
-    let b = text::put_decimal(n, out, a);
-    let c = text::put_text(b" components ", out, b);
-    let d = text::put_decimal(components, out, c);
-    let e = text::put_text(b" rounds ", out, d);
-    let f = text::put_decimal(rounds, out, e);
-    text::put_byte(b'\n', out, f)
+    w.text(b"points ");
+    w.decimal(n);
+    w.text(b" components ");
+    w.decimal(components);
+    w.text(b" rounds ");
+    w.decimal(rounds);
+    w.byte(b'\n');
 }
 
 // A line for each point.
 fn put_lines(
+    w: &mut Writer,
     n: usize,
     keys: &Words,
     idx: &Words,
     j: Findings,
-    counts: &FigureCounts,
-    out: &mut [u8],
-    at: usize,
-) -> usize
+    figures: &FigureColumn,
+)
     requires { n ≤ max_points }
-    ensures { (measures : List Float) → Stored out.old at (lines_of (cells_at keys.now) idx.now (judged_from j counts.now measures) n) out.new result }
+    ensures { Stored w.old (lines_of (cells_at keys.now) idx.now (judged_from j figures.now) n) w.new }
 {
-    let mut to = at;
-    let mut k = 0;
-    while k < n {
-        let number = edge_shape::reason_number(judged::figures::reason_from(counts, k));
-        let next = line::put_line(keys[k], idx[k], j.marks[k], number, j.residuals[k], out, to);
-        to = next;
-        k += 1;
+    for k in 0..n {
+        let number = edge_shape::reason_number(figures[k].reason);
+        line::put_line(w, keys[k], idx[k], j.marks[k], number, j.residuals[k]);
     }
-    to
 }
 
-fn put_counts(counts: &Tally, out: &mut [u8], at: usize) -> usize
-    ensures { Stored out.old at (each (λ f. count_text f (get_or counts.now f 0)) filter_count) out.new result }
+fn put_counts(w: &mut Writer, counts: &Tally)
+    ensures { Stored w.old (each (λ f. count_text f (get_or counts.now f 0)) filter_count) w.new }
 {
-    let mut to = at;
-    let mut f = 0;
-    while f < FILTERS {
-        let a = marks::filters::put_word(f, out, to);
-        let b = text::put_decimal(counts[f], out, a);
-        to = b;
-        f += 1;
+    for f in Filter::ALL {
+        w.text(f.word());
+        w.decimal(counts[f.place()]);
     }
-    to
 }
 
-fn put_tally(counts: &Tally, out: &mut [u8], at: usize) -> usize
-    ensures { Stored out.old at (tally_text counts.now) out.new result }
+fn put_tally(w: &mut Writer, counts: &Tally)
+    ensures { Stored w.old (tally_text counts.now) w.new }
 {
-    let a = text::put_text(b"kept ", out, at);
-    let b = text::put_decimal(counts[FILTERS], out, a);
-    let c = put_counts(counts, out, b);
-    text::put_byte(b'\n', out, c)
+    w.text(b"kept ");
+    w.decimal(counts[FILTERS]);
+    put_counts(w, counts);
+    w.byte(b'\n');
 }
 
 // A line for each point with a mark.
-fn put_fills(
-    n: usize,
-    keys: &Words,
-    marks: &Marks,
-    fills: Fills,
-    out: &mut [u8],
-    at: usize,
-) -> usize
+fn put_fills(w: &mut Writer, n: usize, keys: &Words, marks: &Marks, fills: Fills)
     requires { n ≤ max_points }
-    ensures { Stored out.old at (fill_lines (cells_at keys.now) marks.now fills n) out.new result }
+    ensures { Stored w.old (fill_lines (cells_at keys.now) marks.now fills n) w.new }
 {
-    let mut to = at;
-    let mut k = 0;
-    while k < n {
-        let next = fill::put_fill(keys[k], marks[k], fills[k], out, to);
-        to = next;
-        k += 1;
+    for k in 0..n {
+        fill::put_fill(w, keys[k], marks[k], fills[k]);
     }
-    to
 }
 
 // The listing of n points in cell order: the keys of their cells, their indices, what was judged of them, and their fills. Of the edge figures
@@ -124,17 +101,18 @@ pub fn write_listing<'a>(
     idx: &'a Words,
     j: Findings,
     fills: Fills,
-    counts: &FigureCounts,
+    figures: &FigureColumn,
     out: &mut [u8],
-) -> Written
+) -> Result<usize, NoRoom>
     requires { n ≤ max_points }
-    ensures { (measures : List Float) → Shows (listing_of n (cells_at keys.now) idx.now (judged_from j counts.now measures) fills) out.old out.new result }
+    ensures { Shows (listing_of n (cells_at keys.now) idx.now (judged_from j figures.now) fills) out.old out.new result }
 {
     let tally = j.tally;
     let marks = j.marks;
-    let a = put_head(n, j.components, j.rounds, out, 0);
-    let b = put_lines(n, keys, idx, j, counts, out, a);
-    let c = put_tally(&tally, out, b);
-    let d = put_fills(n, keys, &marks, fills, out, c);
-    text::answer(d, out.len())
+    let mut w = Writer::new(out);
+    put_head(&mut w, n, j.components, j.rounds);
+    put_lines(&mut w, n, keys, idx, j, figures);
+    put_tally(&mut w, &tally);
+    put_fills(&mut w, n, keys, &marks, fills);
+    w.answer()
 }

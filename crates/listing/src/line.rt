@@ -3,43 +3,32 @@ ghost use Rattle.std.specs.Prelude.{◌≡◌, cond, [], ◌∷◌, ◌<◌, pos
 ghost use Rattle.cells.specs.Points.{bias};
 ghost use Rattle.cells.specs.Cell.{cell_of_key};
 ghost use Rattle.float.specs.Remainder.{is_exact};
-ghost use Rattle.marks.specs.Filters.{filter_count};
+ghost use Rattle.marks.specs.Places.{place};
 ghost use Rattle.text.specs.Stored.{Stored};
 ghost use Rattle.text.specs.Text.{bytes, whole};
 ghost use Rattle.listing.specs.Listing.{cell_text, mark_text, marks_text, reason_text, distance_text, residual_text, shown_text, line_text};
 
 use float::Distance;
 use local_h::Residual;
-use marks::filters;
-use marks::filters::FILTERS;
+use marks::filters::Filter;
+use text::Writer;
 
-fn wide(x: u32) -> usize
-    ensures { result ≡ x }
+fn mark_byte(marks: u8, f: Filter) -> u8
+    ensures { (result ∷ []) ≡ mark_text marks (place f) }
 {
-    x as usize
+    if f.has_marked(marks) {
+        f.letter()
+    } else {
+        b'-'
+    }
 }
 
-fn mark_byte(marks: u8, f: usize) -> u8
-    requires { f < filter_count }
-    ensures { (result ∷ []) ≡ mark_text marks f }
+fn put_marks(w: &mut Writer, marks: u8)
+    ensures { Stored w.old (marks_text marks) w.new }
 {
-    if filters::has_mark(marks, f) {
-        return filters::letter(f);
+    for f in Filter::ALL {
+        w.byte(mark_byte(marks, f));
     }
-    b'-'
-}
-
-fn put_marks(marks: u8, out: &mut [u8], at: usize) -> usize
-    ensures { Stored out.old at (marks_text marks) out.new result }
-{
-    let mut to = at;
-    let mut f = 0;
-    while f < FILTERS {
-        let next = text::put_byte(mark_byte(marks, f), out, to);
-        to = next;
-        f += 1;
-    }
-    to
 }
 
 fn reason_byte(reason: u8) -> u8
@@ -55,72 +44,63 @@ fn reason_byte(reason: u8) -> u8
 }
 
 // `=` if the remainder is 0.
-fn put_exact(d: Distance, out: &mut [u8], at: usize) -> usize
-    ensures { Stored out.old at (cond (is_exact d) (bytes "=") []) out.new result }
+fn put_exact(w: &mut Writer, d: Distance)
+    ensures { Stored w.old (cond (is_exact d) (bytes "=") []) w.new }
 {
     if float::is_exact(d) {
-        return text::put_byte(b'=', out, at);
+        w.byte(b'=');
     }
-    at
 }
 
-fn put_distance(d: Distance, out: &mut [u8], at: usize) -> usize
-    ensures { Stored out.old at (distance_text d) out.new result }
+fn put_distance(w: &mut Writer, d: Distance)
+    ensures { Stored w.old (distance_text d) w.new }
 {
-    let a = text::put_hex(8, float::to_bits(d.value), out, at);
-    put_exact(d, out, a)
+    w.hex(8, float::to_bits(d.value));
+    put_exact(w, d);
 }
 
-fn put_residual(r: Residual, out: &mut [u8], at: usize) -> usize
-    ensures { Stored out.old at (residual_text r) out.new result }
+fn put_residual(w: &mut Writer, r: Residual)
+    ensures { Stored w.old (residual_text r) w.new }
 {
     match r {
-        Residual::Value(d) => put_distance(d, out, at),
-        Residual::NoFit => text::put_byte(b'-', out, at),
+        Residual::Value(d) => put_distance(w, d),
+        Residual::NoFit => w.byte(b'-'),
     }
 }
 
 // The cell number b - BIAS.
-fn put_cell_number(b: u32, out: &mut [u8], at: usize) -> usize
-    ensures { Stored out.old at (whole (pos b -ℤ pos bias)) out.new result }
+fn put_cell_number(w: &mut Writer, b: u32)
+    ensures { Stored w.old (whole (pos b -ℤ pos bias)) w.new }
 {
-    text::put_difference(wide(b), wide(cells::BIAS), out, at)
+    w.difference(b as usize, cells::BIAS as usize);
 }
 
-pub(crate) fn put_cell(key: u32, out: &mut [u8], at: usize) -> usize
-    ensures { Stored out.old at (cell_text (cell_of_key key)) out.new result }
+pub(crate) fn put_cell(w: &mut Writer, key: u32)
+    ensures { Stored w.old (cell_text (cell_of_key key)) w.new }
 {
-    let a = put_cell_number(cells::u_part(key), out, at);
-    let b = text::put_byte(b' ', out, a);
-    put_cell_number(cells::v_part(key), out, b)
+    put_cell_number(w, cells::u_part(key));
+    w.byte(b' ');
+    put_cell_number(w, cells::v_part(key));
 }
 
-fn put_shown(marks: u8, reason: u8, r: Residual, out: &mut [u8], at: usize) -> usize
-    ensures { Stored out.old at (shown_text marks reason r) out.new result }
+fn put_shown(w: &mut Writer, marks: u8, reason: u8, r: Residual)
+    ensures { Stored w.old (shown_text marks reason r) w.new }
 {
-    let a = put_marks(marks, out, at);
-    let b = text::put_byte(b' ', out, a);
-    let c = text::put_byte(reason_byte(reason), out, b);
-    let d = text::put_byte(b' ', out, c);
-    put_residual(r, out, d)
+    put_marks(w, marks);
+    w.byte(b' ');
+    w.byte(reason_byte(reason));
+    w.byte(b' ');
+    put_residual(w, r);
 }
 
 // The line of the point whose cell has this key.
-pub(crate) fn put_line(
-    key: u32,
-    index: u32,
-    marks: u8,
-    reason: u8,
-    r: Residual,
-    out: &mut [u8],
-    at: usize,
-) -> usize
-    ensures { Stored out.old at (line_text (cell_of_key key) index marks reason r) out.new result }
+pub(crate) fn put_line(w: &mut Writer, key: u32, index: u32, marks: u8, reason: u8, r: Residual)
+    ensures { Stored w.old (line_text (cell_of_key key) index marks reason r) w.new }
 {
-    let a = put_cell(key, out, at);
-    let b = text::put_byte(b' ', out, a);
-    let c = text::put_decimal(wide(index), out, b);
-    let d = text::put_byte(b' ', out, c);
-    let e = put_shown(marks, reason, r, out, d);
-    text::put_byte(b'\n', out, e)
+    put_cell(w, key);
+    w.byte(b' ');
+    w.decimal(index as usize);
+    w.byte(b' ');
+    put_shown(w, marks, reason, r);
+    w.byte(b'\n');
 }

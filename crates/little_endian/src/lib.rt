@@ -4,11 +4,10 @@
 ghost use Rattle.sheet_file.specs.Bytes.{little_endian};
 ghost use Rattle.text.specs.Stored.{Stored};
 
-pub fn put_u32(b: u32, out: &mut [u8], at: usize) -> usize
-    ensures { Stored out.old at (little_endian b) out.new result }
+use text::Writer;
+
+pub fn put_u32(w: &mut Writer, b: u32)
+    ensures { Stored w.old (little_endian b) w.new }
 {
-    let a = text::put_byte((b % 256) as u8, out, at);
-    let c = text::put_byte((b / 256 % 256) as u8, out, a);
-    let d = text::put_byte((b / 65536 % 256) as u8, out, c);
-    text::put_byte((b / 16777216 % 256) as u8, out, d)
+    w.text(&b.to_le_bytes());
 }

@@ -1,32 +1,22 @@
 -- What a base is, and the residual that it gives. Assumes nothing.
 use mathlib.Core.Path.{◌≡◌, ap, ◌∙◌}
 use mathlib.Core.Bool.{Bool, true, false, cond, not, ◌&&◌}
-use mathlib.Core.List.{List, []}
 use Prim.Native.Nat.{ℕ, ◌+◌, ◌≤◌, ◌<◌}
 use Prim.{Dec, yes, no}
 use native.Mathlib.Decide.{dec_lt}
 use native.Mathlib.Omega.{arith}
 use lib.Dec.{ltb}
-use lib.Ieee.{Float}
-use borrow.Author.Tests.{ltb-true, lt-ltb, le-ltb, not-true}
+use borrow.Author.Tests.{ltb-true, not-true}
 use Rattle.folds.specs.Below.{first}
 use Rattle.folds.proofs.Below.{first_more, first-before, first_holds, and_left, and_right, first-from}
 use Rattle.offsets.specs.declared.Offset.{Offset}
-use Rattle.offsets.specs.Offsets.{own}
-use Rattle.cells.specs.Cell.{Cell}
-use Rattle.view.specs.View.{View, max_points, view_at}
-use Rattle.local_h.specs.declared.Base.{Base}
-use Rattle.local_h.specs.declared.Residual.TheVariants.{NoFit}
+use Rattle.view.specs.View.{View}
 use Rattle.local_h.specs.Order.{offset_at, same}
-use Rattle.local_h.specs.Base.{member_at, on_line, is_other_rank, are_others, is_other, is_serving, is_fourth, base_of}
-use Rattle.local_h.specs.Places.{FoundFrom, BaseFound, FiveRanks}
-use Rattle.local_h.specs.declared.Found.{Found}
-use Rattle.local_h.specs.declared.FoundBase.{FoundBase}
-use Rattle.local_h.specs.Residual.{residual_from, residual_at}
+use Rattle.local_h.specs.Base.{member_at, on_line, is_other_rank, is_other, is_serving, is_fourth, FourPlaces, places_of}
 use Rattle.local_h.proofs.Ordered.{offsets-differ}
 
 -- four places of the order, rising, with points of other indices that are not all on one lattice line
-pub record FourOthers (w : View) (k : ℕ) (b : Base) : Type 0 where
+pub record FourOthers (w : View) (k : ℕ) (b : FourPlaces) : Type 0 where
   pub first-second : b.a < b.b
   pub second-third : b.b < b.c
   pub third-fourth : b.c < b.d
@@ -39,7 +29,7 @@ pub record FourOthers (w : View) (k : ℕ) (b : Base) : Type 0 where
 
 -- Of the places before the third only the first and the second have points of other indices, and of those between the third and the fourth
 -- none would have served.
-pub record Four (w : View) (k : ℕ) (b : Base) : Type 0 where
+pub record Four (w : View) (k : ℕ) (b : FourPlaces) : Type 0 where
   pub others : FourOthers w k b
   pub no_other : (p : ℕ) → p < b.c → (p ≡ b.a → ⊥) → (p ≡ b.b → ⊥) → is_other w k p ≡ false
   pub no-fourth : (p : ℕ) → b.c < p → p < b.d → is_fourth w k b.a b.b b.c p ≡ false
@@ -50,8 +40,8 @@ differ p q = same (offset_at p) (offset_at q) ≡ false
 
 -- "Three are taken; the fourth is the next that leaves the four not all on one lattice line."
 module _ (w : View) (k : ℕ) where
-  pub base-four : (base_of w k).d < 24 → Four w k (base_of w k)
-  unfolding base_of is_serving
+  pub base-four : (places_of w k).d < 24 → Four w k (places_of w k)
+  unfolding places_of is_serving
   base-four h = record {
     others = record {
       first-second = omega (arith, bc, cd, ab);
@@ -100,11 +90,8 @@ module _ (w : View) (k : ℕ) where
       between p l na nb (no f) (yes m) = first-before (is_other w k) (a + 1) 24 p (omega (arith, f, na)) m
       between p l na nb (no f) (no g) = first-before (is_other w k) (b + 1) 24 p (omega (arith, g, nb)) l
 
-  pub four-of : (b : Base) → b ≡ base_of w k → b.d < 24 → FourOthers w k b
-  four-of b e h = rw e (base-four (rw e at h)).others
-
   -- the four cells are distinct
-  pub base-distinct : (b : Base) → FourOthers w k b
+  pub base-distinct : (b : FourPlaces) → FourOthers w k b
       → (differ b.a b.b) × (differ b.a b.c) × (differ b.a b.d) × (differ b.b b.c) × (differ b.b b.d) × (differ b.c b.d)
   base-distinct b f =
       let bd : b.b < b.d = omega (arith, f.second-third, f.third-fourth) in
@@ -117,11 +104,6 @@ module _ (w : View) (k : ℕ) where
         offsets-differ b.c b.d f.third-fourth f.within,
       )
 
-  -- whether place p serves, from its offset and the rank there
-  pub serving-is : (leave : Bool) (e f : Offset) (p : ℕ) {o : Offset} {j : ℕ} → o ≡ offset_at p → j ≡ member_at w k p → not (leave && on_line e f o) && is_other_rank w k j ≡ is_serving w k leave e f p
-  unfolding is_serving is_other
-  serving-is leave e f p eo ej = rw (eo, ej)
-
   -- a place with a point of another index has a rank
   pub other-rank : (p : ℕ) → is_other w k p ≡ true → member_at w k p < w.count
   unfolding is_other
@@ -132,71 +114,11 @@ module _ (w : View) (k : ℕ) where
   serving-rank leave e f p h = other-rank p (and_right (not (leave && on_line e f (offset_at p))) (is_other w k p) h)
 
 -- the nearest four are not all on one lattice line
-nearest-base : (w : View) (k : ℕ) → is_other_rank w k (member_at w k 0) ≡ true → is_other_rank w k (member_at w k 1) ≡ true → is_other_rank w k (member_at w k 2) ≡ true → is_other_rank w k (member_at w k 3) ≡ true
-    → ◌≡◌ {A = Base} (record { a = 0; b = 1; c = 2; d = 3 }) (base_of w k)
-unfolding base_of is_serving is_other on_line
+pub nearest-base : (w : View) (k : ℕ) → is_other_rank w k (member_at w k 0) ≡ true → is_other_rank w k (member_at w k 1) ≡ true → is_other_rank w k (member_at w k 2) ≡ true → is_other_rank w k (member_at w k 3) ≡ true
+    → ◌≡◌ {A = FourPlaces} (record { a = 0; b = 1; c = 2; d = 3 }) (places_of w k)
+unfolding places_of is_serving is_other on_line
 nearest-base w k a b c d =
     rw (here (is_other w k) 0 (omega arith) a, here (is_other w k) 1 (omega arith) b, here (is_other w k) 2 (omega arith) c, here (is_fourth w k 0 1 2) 3 (omega arith) d)
   where
     here : (p : ℕ → Bool) (i : ℕ) → i < 24 → p i ≡ true → first p i 24 ≡ i
     here p i h e = first_more p i 24 h ∙ ap (λ (t : Bool). cond t i (first p (i + 1) 24)) e
-
--- the base of rank k, from the places that the code found
-module _ (n : ℕ) (ranks : List ℕ) (k : ℕ) where
-  abbrev found : Bool → Offset → Offset → ℕ → Found → Type 0
-  found leave e f start r = FoundFrom (view_at n ranks [] []) k leave e f start r
-
-  pub base-found : (xs ys : List Float) {a b c d : Found} {leave : Bool} → found false own own 0 a → found false own own (a.place + 1) b → found false own own (b.place + 1) c
-      → leave ≡ on_line a.offset b.offset c.offset → found leave a.offset b.offset (c.place + 1) d
-      → BaseFound (view_at n ranks xs ys) k (record { base = record { a = a.place; b = b.place; c = c.place; d = d.place }; i = a.rank; j = b.rank; l = c.rank; m = d.rank })
-  unfolding base_of is_serving is_other
-  base-found xs ys {a} {b} {c} {d} pa pb pc pl pd =
-      let bc = pc.place.from in
-      let cd = pd.place.from in
-      record {
-        base = rw (pd.place.is, pl, pc.offset, pb.offset, pa.offset, pc.place.is, pb.place.is, pa.place.is);
-        first = λ h. pa.rank (omega (arith, pb.place.from, bc, cd));
-        second = λ h. pb.rank (omega (arith, bc, cd));
-        third = λ h. pc.rank (omega (arith, cd));
-        fourth = λ h. pd.rank h;
-      }
-
-  -- where the nearest four have points of other indices, they are the base
-  pub nearest-found : (xs ys : List Float) {i j l m : ℕ} → i ≡ member_at (view_at n ranks [] []) k 0 → j ≡ member_at (view_at n ranks [] []) k 1 → l ≡ member_at (view_at n ranks [] []) k 2 → m ≡ member_at (view_at n ranks [] []) k 3
-      → are_others (view_at n ranks [] []) k i j l m ≡ true → BaseFound (view_at n ranks xs ys) k (record { base = record { a = 0; b = 1; c = 2; d = 3 }; i = i; j = j; l = l; m = m })
-  nearest-found xs ys {i} {j} {l} {m} ei ej el em t =
-      let w = view_at n ranks [] [] in
-      let tj = and_right (is_other_rank w k i) _ t in
-      let tl = and_right (is_other_rank w k j) _ tj in
-      record {
-        base = nearest-base (view_at n ranks xs ys) k (other 0 ei (and_left (is_other_rank w k i) _ t)) (other 1 ej (and_left (is_other_rank w k j) _ tj)) (other 2 el (and_left (is_other_rank w k l) _ tl)) (other 3 em (and_right (is_other_rank w k l) _ tl));
-        first = λ h. ei;
-        second = λ h. ej;
-        third = λ h. el;
-        fourth = λ h. em;
-      }
-    where
-      other : (p : ℕ) {r : ℕ} → r ≡ member_at (view_at n ranks [] []) k p → is_other_rank (view_at n ranks [] []) k r ≡ true → is_other_rank (view_at n ranks [] []) k (member_at (view_at n ranks [] []) k p) ≡ true
-      other p e o = rw (← e) o
-
--- the members of a base with its fourth are ranks
-pub members-ranked : (w : View) (k : ℕ) (r : FoundBase) → BaseFound w k r → r.base.d < 24 → w.count ≤ max_points → k < max_points → FiveRanks k r.i r.j r.l r.m
-members-ranked w k r f h few below =
-    let o = four-of w k r.base f.base h in
-    record {
-      own = below;
-      one = omega (arith, other-rank w k r.base.a o.one, f.first h);
-      two = omega (arith, other-rank w k r.base.b o.two, f.second h);
-      three = omega (arith, other-rank w k r.base.c o.three, f.third h);
-      four = omega (arith, other-rank w k r.base.d o.four, f.fourth h);
-    }
-
--- the residual, from a base
-module _ (n : ℕ) (ranks : List ℕ) (xs ys : List Float) (cell : ℕ → Cell) (k : ℕ) (r : FoundBase) (f : BaseFound (view_at n ranks xs ys) k r) where
-  pub fitted : r.base.d < 24 → residual_from (view_at 0 [] xs ys) cell k r.i r.j r.l r.m ≡ residual_at (view_at n ranks xs ys) cell k
-  unfolding residual_at residual_from
-  fitted h = rw (← f.base, lt-ltb r.base.d 24 h, ← f.first h, ← f.second h, ← f.third h, ← f.fourth h)
-
-  pub unfitted : 24 ≤ r.base.d → NoFit ≡ residual_at (view_at n ranks xs ys) cell k
-  unfolding residual_at
-  unfitted h = rw (← f.base, le-ltb r.base.d 24 h)

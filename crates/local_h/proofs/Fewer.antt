@@ -13,9 +13,8 @@ use Rattle.folds.proofs.Below.{first-before, first-from, every-at, and_left, and
 use Rattle.offsets.specs.declared.Offset.{Offset}
 use Rattle.cells.proofs.Edges.{agree_same}
 use Rattle.view.specs.View.{View}
-use Rattle.local_h.specs.declared.Base.{Base}
 use Rattle.local_h.specs.Order.{offset_at}
-use Rattle.local_h.specs.Base.{on_line, is_other, is_serving, is_fourth, base_of, has_four}
+use Rattle.local_h.specs.Base.{on_line, is_other, is_serving, is_fourth, FourPlaces, places_of, has_four}
 use Rattle.local_h.proofs.Bases.{FourOthers}
 
 -- ---- lines through places of the order
@@ -101,8 +100,8 @@ module _ (w : View) (k : ℕ) where
           let lc = not-before (b + 1) p (omega (arith, lb, g)) e in
           and_right (in_line a b c) (in_line a b p) (passed p (omega (arith, lc, i)) n m e)
 
-  pub fewer-than-four : has_four w k ≡ false → (o : Base) → FourOthers w k o → ⊥
-  unfolding base_of
+  pub fewer-than-four : has_four w k ≡ false → (o : FourPlaces) → FourOthers w k o → ⊥
+  unfolding places_of
   fewer-than-four e o f =
       let m : 24 ≤ d = ltb-false d 24 e in
       let la = not-before 0 o.a (omega arith) f.one in

@@ -3,10 +3,10 @@
 use mathlib.Core.Path.{◌≡◌, refl, sym, ◌∙◌, subst}
 use mathlib.Core.Bool.{Bool, true, false, cond, not, ◌||◌}
 use Prim.Native.Nat.{ℕ}
+use Rattle.std.proofs.Common.{Some, None}
 use Rattle.float.specs.declared.Distance.{Distance}
 use Rattle.homography.specs.declared.PlanePoint.{PlanePoint}
 use Rattle.homography.specs.declared.Homography.{Homography}
-use Rattle.homography.specs.declared.HomographyFit.TheVariants as fit
 use Rattle.homography.specs.NoFit.{is_unfit}
 use Rattle.homography.proofs.NoFit.{fit-unless}
 use Rattle.cells.specs.Cell.{Cell}
@@ -21,7 +21,7 @@ use Rattle.local_h.specs.declared.Residual.TheVariants.{Value, NoFit}
 abbrev Unless : Bool → Residual → Type 0
 Unless b r = (x : Distance) × (r ≡ cond b NoFit (Value x))
 
-unless : (four unfit : Bool) (h : Homography) (p q : PlanePoint) → Unless (not four || unfit) (cond four (residual_by (cond unfit fit.NoFit (fit.Found h)) p q) NoFit)
+unless : (four unfit : Bool) (h : Homography) (p q : PlanePoint) → Unless (not four || unfit) (cond four (residual_by (cond unfit None (Some h)) p q) NoFit)
 unfolding residual_by
 unless true true h p q = (distance_by h p q, refl)
 unless true false h p q = (distance_by h p q, refl)

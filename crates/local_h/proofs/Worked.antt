@@ -9,7 +9,7 @@ use lib.IntN.{pos}
 use lib.ListN.{get_or}
 use lib.Ieee.{Float, nan, binary32, of_int}
 use Rattle.folds.specs.Arith.{f32}
-use Rattle.float.specs.declared.Remainder.TheVariants as remainder
+use Rattle.std.proofs.Common.{Some}
 use Rattle.homography.specs.NoFit.{is_unfit}
 use Rattle.offsets.specs.Offsets.{own, next_u, prev_u, next_v, prev_v, place_of}
 use Rattle.cells.specs.Cell.{Cell}
@@ -45,7 +45,7 @@ cell k = record { u = pos (get_or (10 ∷ 10 ∷ 9 ∷ 11 ∷ 10 ∷ []) k 0); v
 abbrev five : View
 five = around 5 (whole 1000 ∷ whole 1003 ∷ whole 902 ∷ whole 1099 ∷ whole 1001 ∷ []) (whole 1200 ∷ whole 1097 ∷ whole 1201 ∷ whole 1205 ∷ whole 1298 ∷ [])
 
-pub corner-residual : residual_at five cell 0 ≡ Value (record { value = f32 0x4066_62F0; remainder = remainder.Found (pos 8609536) })
+pub corner-residual : residual_at five cell 0 ≡ Value (record { value = f32 0x4066_62F0; remainder = Some (pos 8609536) })
 unfolding residuals-compute
 corner-residual = refl
 

@@ -1,5 +1,5 @@
 pub mod Order
 pub mod Base
-pub mod Places
+pub mod Finding
 pub mod Residual
 pub mod NoFit

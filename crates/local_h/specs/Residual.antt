@@ -1,5 +1,5 @@
 -- The residual of a corner: how far the map fitted to its base takes its cell from where it is seen. Assumes nothing.
-use Rattle.std.specs.Prelude.{Bool, true, cond, List, [], ◌∷◌, ℕ, ℤ, Float}
+use Rattle.std.specs.Prelude.{Bool, true, cond, List, [], ◌∷◌, ℕ, ℤ, Float, Option, Some, None}
 use Rattle.std.specs.Float.{binary32}
 use Rattle.std.specs.Float.Ieee.{of_int}
 use Rattle.folds.specs.Arith.{◌⊖◌}
@@ -8,12 +8,10 @@ use Rattle.float.specs.Remainder.{length_of, remainder_of}
 use Rattle.float.specs.declared.Distance.{Distance}
 use Rattle.homography.specs.declared.PlanePoint.{PlanePoint}
 use Rattle.homography.specs.declared.Homography.{Homography}
-use Rattle.homography.specs.declared.HomographyFit.{HomographyFit}
-use Rattle.homography.specs.declared.HomographyFit.TheVariants as fit
 use Rattle.homography.specs.Fit.{homography_from4pt, applied_to, fit-computes}
 use Rattle.cells.specs.Cell.{Cell}
 use Rattle.view.specs.View.{View}
-use Rattle.local_h.specs.Base.{member_at, on_line, is_other, is_serving, base_of, has_four}
+use Rattle.local_h.specs.Base.{member_at, on_line, is_other, is_serving, places_of, has_four}
 use Rattle.local_h.specs.declared.Residual.{Residual}
 use Rattle.local_h.specs.declared.Residual.TheVariants.{Value, NoFit}
 
@@ -30,9 +28,9 @@ abbrev pub distance_by : Homography → PlanePoint → PlanePoint → Distance
 distance_by h p q = length_of ((applied_to h p).x ⊖ q.x) ((applied_to h p).y ⊖ q.y)
 
 -- "A residual is a number or the finding that no fit exists": how far the map takes p from q
-unfoldable pub residual_by : HomographyFit → PlanePoint → PlanePoint → Residual
-residual_by (fit.Found h) p q = Value (distance_by h p q)
-residual_by fit.NoFit p q = NoFit
+unfoldable pub residual_by : Option Homography → PlanePoint → PlanePoint → Residual
+residual_by (Some h) p q = Value (distance_by h p q)
+residual_by None p q = NoFit
 
 -- where rank k is seen. "One index stands at positions with different bits" is refused, so this is its index's position.
 abbrev pub seen_at : View → ℕ → PlanePoint
@@ -53,10 +51,10 @@ module _ (w : View) (cell : ℕ → Cell) where
   -- "With fewer than four there is no fit."
   unfoldable pub residual_at : ℕ → Residual
   residual_at k =
-      let b = base_of w k in
+      let b = places_of w k in
       cond (has_four w k) (residual_from k (member_at w k b.a) (member_at w k b.b) (member_at w k b.c) (member_at w k b.d)) NoFit
 
 -- This name on an `unfolding` line opens every definition that a residual computes by.
 unfoldable pub residuals-compute : Bool
-unfolding fit-computes remainder_of of_int first first_in on_line is_other is_serving base_of residual_by residual_from residual_at
+unfolding fit-computes remainder_of of_int first first_in on_line is_other is_serving places_of residual_by residual_from residual_at
 residuals-compute = true

@@ -1,46 +1,32 @@
 // The residual of each corner: how far the map fitted to its nearest neighbours takes its cell from where it is seen.
 #![tactic(auto)]
 
-ghost use Rattle.std.specs.Prelude.{◌≡◌, true, not, ◌&&◌, List, [], ◌+◌, ◌*◌, ◌≤◌, ◌<◌, get_or, Float, pos, nat_abs, ◌-ℤ◌};
-ghost use Rattle.offsets.specs.Offsets.{is_within2, is_near, place_of};
+ghost use Rattle.std.specs.Prelude.{◌≡◌, Bool, true, List, ℕ, [], ◌+◌, ◌*◌, ◌≤◌, ◌<◌, get_or, Float, pos, nat_abs, ◌-ℤ◌, IfSome};
+ghost use Rattle.offsets.specs.declared.Offset.{Offset};
+ghost use Rattle.offsets.specs.Offsets.{is_within2, is_near};
 ghost use Rattle.view.specs.View.{max_points, view_at};
+ghost use Rattle.view.specs.Seen.{lattice_in, below};
 ghost use Rattle.cells.specs.Points.{bias};
 ghost use Rattle.cells.specs.Cell.{cell_of_key, cells_at};
 ghost use Rattle.local_h.specs.Order.{offset_at};
-ghost use Rattle.local_h.specs.Base.{step_product, on_line, is_other_rank, are_others, base_of};
-ghost use Rattle.local_h.specs.Places.{FoundFrom, BaseFound, FiveRanks};
+ghost use Rattle.local_h.specs.Base.{step_product, on_line, member_at, base_of};
+ghost use Rattle.local_h.specs.Finding.{other_at, found_from, found_base, place_in};
 ghost use Rattle.local_h.specs.Residual.{coordinate, cell_point, seen_at, residual_by, residual_from, residual_at};
 
 use float::Distance;
-use homography::{HomographyFit, PlanePoint};
-use offsets::{OWN, Offset};
-use view::{Floats, MAX_POINTS, Ranks, Words};
+use homography::{Homography, PlanePoint};
+use offsets::Offset;
+use view::{Floats, Lattice, MAX_POINTS, Words};
 
-// The base of a corner, by places in the order of the 24 cells round it. A place of 24 or more is none, and then so are those after it.
-#[derive(Clone, Copy)]
-pub struct Base {
-    pub a: usize,
-    pub b: usize,
-    pub c: usize,
-    pub d: usize,
-}
+// The base of a corner: its members' places in the order of the 24 cells round it. Where one is missing, so are those after it.
+pub type Base = [Option<usize>; 4];
 
-// A place of the order with its offset and the rank there; a place of 24 or more is none.
+// A place of the order with its offset and the rank there.
 #[derive(Clone, Copy)]
 struct Found {
     place: usize,
     offset: Offset,
     rank: usize,
-}
-
-// A base with the ranks of its members.
-#[derive(Clone, Copy)]
-struct FoundBase {
-    base: Base,
-    i: usize,
-    j: usize,
-    l: usize,
-    m: usize,
 }
 
 // A residual, or the finding that no fit exists.
@@ -52,6 +38,14 @@ pub enum Residual {
 
 // An entry for each point.
 pub type ResidualColumn = [Residual; MAX_POINTS];
+
+// The keys of the cells, and where the points are seen.
+#[derive(Clone, Copy)]
+pub struct Seen<'a> {
+    pub keys: &'a Words,
+    pub x: &'a Floats,
+    pub y: &'a Floats,
+}
 
 // The 24 offsets within 2, nearest first, then by smaller dv, then by smaller du.
 const NEAREST_FIRST: [Offset; 24] = [
@@ -89,23 +83,31 @@ fn offset_at(p: usize) -> Offset
     NEAREST_FIRST[p]
 }
 
-// The rank at place p of the order round rank k; a number of points or more is none.
-pub fn member(ranks: &Ranks, k: usize, p: usize) -> usize
+// The rank at place p of the order round rank k, if there is a point.
+pub fn member(lattice: &Lattice, k: usize, p: usize) -> Option<usize>
     requires { (k < max_points) × (p < 24) }
-    ensures { result ≡ get_or ranks.now (25 * k + place_of (offset_at p)) 0 }
+    ensures value { result ≡ below lattice.now.count (member_at (lattice_in lattice.now) k p) }
+    ensures inside { IfSome result (λ j. j < lattice.now.count) }
 {
-    view::rank_at(ranks, k, offset_at(p))
+    lattice.neighbour(k, offset_at(p))
 }
 
-// Whether j is a rank whose index is not rank k's.
-fn is_other(ranks: &Ranks, n: usize, k: usize, j: usize) -> bool
-    requires { (n ≤ max_points) × (k < n) }
-    ensures { result ≡ is_other_rank (view_at n ranks.now [] []) k j }
+// Place p with the rank there, if there is a point and its index is not rank k's.
+fn other(lattice: &Lattice, k: usize, p: usize) -> Option<Found>
+    requires { (k < lattice.now.count) × (p < 24) }
+    ensures value { result ≡ other_at (lattice_in lattice.now) k p }
+    ensures within { IfSome result (λ f. is_near f.offset ≡ true) }
 {
-    if j < n {
-        return view::index_of(ranks, j) != view::index_of(ranks, k);
+    let offset = offset_at(p);
+    let rank = lattice.neighbour(k, offset)?;
+    if lattice.index(rank) == lattice.index(k) {
+        return None;
     }
-    false
+    Some(Found {
+        place: p,
+        offset,
+        rank,
+    })
 }
 
 // What is added to y for x, of two parts of offsets.
@@ -132,136 +134,78 @@ fn on_line(a: Offset, b: Offset, c: Offset) -> bool
     product(a, b, c) == product(a, c, b)
 }
 
-// Whether the rank j at offset o serves: it is one with another index, and o is off the line through e and f if that line is to be left.
-fn serves(
-    ranks: &Ranks,
-    n: usize,
+// The first place from `start` on that has a point of another index and whose offset serves.
+fn next_place<F: Fn(Offset) -> bool>(
+    lattice: &Lattice,
     k: usize,
-    leave: bool,
-    e: Offset,
-    f: Offset,
-    o: Offset,
-    j: usize,
-) -> bool
-    requires { (n ≤ max_points) × (k < n) × (is_near e ≡ true) × (is_near f ≡ true) × (is_near o ≡ true) }
-    ensures { result ≡ not (leave && on_line e f o) && is_other_rank (view_at n ranks.now [] []) k j }
-{
-    if is_other(ranks, n, k, j) {
-        if leave {
-            return !on_line(e, f, o);
-        }
-        return true;
-    }
-    false
-}
-
-// The first place from `start` on that serves, with its offset and the rank there.
-fn next_place(
-    ranks: &Ranks,
-    n: usize,
-    k: usize,
-    leave: bool,
-    e: Offset,
-    f: Offset,
     start: usize,
-) -> Found
-    requires { (n ≤ max_points) × (k < n) × (is_near e ≡ true) × (is_near f ≡ true) × (start < 100) }
-    ensures { FoundFrom (view_at n ranks.now [] []) k leave e f start result }
+    serves: F,
+) -> Option<Found>
+    requires inside { k < lattice.now.count }
+    requires callable { (o : Offset) → is_near o ≡ true → F.pre serves o }
+    ensures value { (g : Offset → Bool) → ((o : Offset) (r : Bool) → is_near o ≡ true → F.post serves o r → r ≡ g o) → result ≡ found_from (lattice_in lattice.now) k g start }
+    ensures within { IfSome result (λ f. (f.place < 24) × (is_near f.offset ≡ true)) }
 {
-    let mut p = start;
-    while p < 24 {
-        let o = offset_at(p);
-        let j = view::rank_at(ranks, k, o);
-        if serves(ranks, n, k, leave, e, f, o, j) {
-            return Found {
-                place: p,
-                offset: o,
-                rank: j,
-            };
-        }
-        p += 1;
-    }
-    Found {
-        place: p,
-        offset: OWN,
-        rank: n,
-    }
-}
-
-// The base of rank k, with the ranks of its members.
-fn search_base(ranks: &Ranks, n: usize, k: usize) -> FoundBase
-    requires { (n ≤ max_points) × (k < n) }
-    ensures { (xs ys : List Float) → BaseFound (view_at n ranks.now xs ys) k result }
-{
-    let a = next_place(ranks, n, k, false, OWN, OWN, 0);
-    let b = next_place(ranks, n, k, false, OWN, OWN, a.place + 1);
-    let c = next_place(ranks, n, k, false, OWN, OWN, b.place + 1);
-    let leave = on_line(a.offset, b.offset, c.offset);
-    let d = next_place(ranks, n, k, leave, a.offset, b.offset, c.place + 1);
-    FoundBase {
-        base: Base {
-            a: a.place,
-            b: b.place,
-            c: c.place,
-            d: d.place,
-        },
-        i: a.rank,
-        j: b.rank,
-        l: c.rank,
-        m: d.rank,
-    }
-}
-
-// Whether each of four is a rank whose index is not rank k's.
-fn are_others(ranks: &Ranks, n: usize, k: usize, i: usize, j: usize, l: usize, m: usize) -> bool
-    requires { (n ≤ max_points) × (k < n) }
-    ensures { result ≡ are_others (view_at n ranks.now [] []) k i j l m }
-{
-    if is_other(ranks, n, k, i) {
-        if is_other(ranks, n, k, j) {
-            if is_other(ranks, n, k, l) {
-                return is_other(ranks, n, k, m);
+    for p in start..24 {
+        if let Some(f) = other(lattice, k, p) {
+            if serves(f.offset) {
+                return Some(f);
             }
-            return false;
         }
-        return false;
     }
-    false
+    None
+}
+
+// The base of rank k, with the ranks of its members. "Three are taken; the fourth is the next that leaves the four not all on one lattice
+// line."
+fn search_base(lattice: &Lattice, k: usize) -> [Option<Found>; 4]
+    requires { k < lattice.now.count }
+    ensures { (xs ys : List Float) → result ≡ found_base (view_at lattice.now.count lattice.now.ranks.now xs ys) k }
+{
+    let Some(a) = next_place(lattice, k, 0, |_| true) else {
+        return [None; 4];
+    };
+    let Some(b) = next_place(lattice, k, a.place + 1, |_| true) else {
+        return [Some(a), None, None, None];
+    };
+    let Some(c) = next_place(lattice, k, b.place + 1, |_| true) else {
+        return [Some(a), Some(b), None, None];
+    };
+    let leave = on_line(a.offset, b.offset, c.offset);
+    let d = next_place(lattice, k, c.place + 1, |o| {
+        !(leave && on_line(a.offset, b.offset, o))
+    });
+    [Some(a), Some(b), Some(c), d]
 }
 
 // The same, without a search where the nearest four cells have points of other indices: they are the base.
-fn find_base(ranks: &Ranks, n: usize, k: usize) -> FoundBase
-    requires { (n ≤ max_points) × (k < n) }
-    ensures { (xs ys : List Float) → BaseFound (view_at n ranks.now xs ys) k result }
+fn find_base(lattice: &Lattice, k: usize) -> [Option<Found>; 4]
+    requires { k < lattice.now.count }
+    ensures { (xs ys : List Float) → result ≡ found_base (view_at lattice.now.count lattice.now.ranks.now xs ys) k }
 {
-    let i = member(ranks, k, 0);
-    let j = member(ranks, k, 1);
-    let l = member(ranks, k, 2);
-    let m = member(ranks, k, 3);
-    if are_others(ranks, n, k, i, j, l, m) {
-        return FoundBase {
-            base: Base {
-                a: 0,
-                b: 1,
-                c: 2,
-                d: 3,
-            },
-            i: i,
-            j: j,
-            l: l,
-            m: m,
-        };
+    let a = other(lattice, k, 0);
+    let b = other(lattice, k, 1);
+    let c = other(lattice, k, 2);
+    let d = other(lattice, k, 3);
+    if a.is_some() && b.is_some() && c.is_some() && d.is_some() {
+        return [a, b, c, d];
     }
-    search_base(ranks, n, k)
+    search_base(lattice, k)
+}
+
+fn place(f: Option<Found>) -> Option<usize>
+    ensures { result ≡ place_in f }
+{
+    f.map(|f| f.place)
 }
 
 // The base of rank k.
-pub fn pick_local_h_base(ranks: &Ranks, n: usize, k: usize) -> Base
-    requires { (n ≤ max_points) × (k < n) }
-    ensures { (xs ys : List Float) → result ≡ base_of (view_at n ranks.now xs ys) k }
+pub fn pick_local_h_base(lattice: &Lattice, k: usize) -> Base
+    requires { k < lattice.now.count }
+    ensures { (xs ys : List Float) → result ≡ base_of (view_at lattice.now.count lattice.now.ranks.now xs ys) k }
 {
-    let f = find_base(ranks, n, k);
-    f.base
+    let [a, b, c, d] = find_base(lattice, k);
+    [place(a), place(b), place(c), place(d)]
 }
 
 // A key's part without its bias, as f32.
@@ -285,80 +229,60 @@ fn key_point(key: u32) -> PlanePoint
     }
 }
 
-// That of rank k.
-fn cell_point(keys: &Words, k: usize) -> PlanePoint
-    requires { k < max_points }
-    ensures { result ≡ cell_point (cells_at keys.now k) }
-{
-    key_point(keys[k])
-}
+impl Seen<'_> {
+    // The cell of rank k as a point.
+    fn cell(&self, k: usize) -> PlanePoint
+        requires { k < max_points }
+        ensures { result ≡ cell_point (cells_at self.now.keys.now k) }
+    {
+        key_point(self.keys[k])
+    }
 
-// Where rank k is seen.
-fn seen_point(x: &Floats, y: &Floats, k: usize) -> PlanePoint
-    requires { k < max_points }
-    ensures { result ≡ seen_at (view_at 0 [] x.now y.now) k }
-{
-    PlanePoint { x: x[k], y: y[k] }
+    // Where rank k is seen.
+    fn point(&self, k: usize) -> PlanePoint
+        requires { k < max_points }
+        ensures { result ≡ seen_at (view_at 0 [] self.now.x.now self.now.y.now) k }
+    {
+        PlanePoint {
+            x: self.x[k],
+            y: self.y[k],
+        }
+    }
 }
 
 // How far the map takes p from q.
-fn residual_by(fit: HomographyFit, p: PlanePoint, q: PlanePoint) -> Residual
+fn residual_by(fit: Option<Homography>, p: PlanePoint, q: PlanePoint) -> Residual
     ensures { result ≡ residual_by fit p q }
 {
     match fit {
-        HomographyFit::Found(h) => {
+        Some(h) => {
             let s = homography::apply(h, p);
             Residual::Value(float::norm(s.x - q.x, s.y - q.y))
         }
-        HomographyFit::NoFit => Residual::NoFit,
+        None => Residual::NoFit,
     }
 }
 
-// The residual of rank k by the ranks i, j, l and m.
-fn residual_from(
-    keys: &Words,
-    x: &Floats,
-    y: &Floats,
-    k: usize,
-    i: usize,
-    j: usize,
-    l: usize,
-    m: usize,
-) -> Residual
-    requires { FiveRanks k i j l m }
-    ensures { result ≡ residual_from (view_at 0 [] x.now y.now) (cells_at keys.now) k i j l m }
+// The residual of rank k by the ranks of its base.
+fn residual_from(seen: &Seen, k: usize, base: [usize; 4]) -> Residual
+    requires { (k < max_points) × ((i : ℕ) → i < 4 → get_or base i 0 < max_points) }
+    ensures { result ≡ residual_from (view_at 0 [] seen.now.x.now seen.now.y.now) (cells_at seen.now.keys.now) k (get_or base 0 0) (get_or base 1 0) (get_or base 2 0) (get_or base 3 0) }
 {
-    let cells = [
-        cell_point(keys, i),
-        cell_point(keys, j),
-        cell_point(keys, l),
-        cell_point(keys, m),
-    ];
-    let seen = [
-        seen_point(x, y, i),
-        seen_point(x, y, j),
-        seen_point(x, y, l),
-        seen_point(x, y, m),
-    ];
-    let fit = homography::homography_from_4pt(cells, seen);
-    residual_by(fit, cell_point(keys, k), seen_point(x, y, k))
+    let [i, j, l, m] = base;
+    let cells = [seen.cell(i), seen.cell(j), seen.cell(l), seen.cell(m)];
+    let points = [seen.point(i), seen.point(j), seen.point(l), seen.point(m)];
+    let fit = homography::homography_from_4pt(cells, points);
+    residual_by(fit, seen.cell(k), seen.point(k))
 }
 
 // The residual of rank k.
-pub fn local_h_residual(
-    ranks: &Ranks,
-    keys: &Words,
-    x: &Floats,
-    y: &Floats,
-    n: usize,
-    k: usize,
-) -> Residual
-    requires { (n ≤ max_points) × (k < n) }
-    ensures { result ≡ residual_at (view_at n ranks.now x.now y.now) (cells_at keys.now) k }
+pub fn local_h_residual(lattice: &Lattice, seen: &Seen, k: usize) -> Residual
+    requires { k < lattice.now.count }
+    ensures { result ≡ residual_at (view_at lattice.now.count lattice.now.ranks.now seen.now.x.now seen.now.y.now) (cells_at seen.now.keys.now) k }
 {
-    let f = find_base(ranks, n, k);
-    if f.base.d < 24 {
-        return residual_from(keys, x, y, k, f.i, f.j, f.l, f.m);
-    }
-    Residual::NoFit
+    let [a, b, c, d] = find_base(lattice, k);
+    let (Some(a), Some(b), Some(c), Some(d)) = (a, b, c, d) else {
+        return Residual::NoFit;
+    };
+    residual_from(seen, k, [a.rank, b.rank, c.rank, d.rank])
 }

@@ -1,10 +1,9 @@
 -- Sheets with tag 4 and fraction 2, all of whose points are weak: one point; an index at both ends of a row of three; three points of which two
 -- are too close. Assumes nothing.
-use Rattle.std.specs.Prelude.{List, [], ◌∷◌, ℕ}
+use Rattle.std.specs.Prelude.{List, [], ◌∷◌, ℕ, None}
 use Rattle.folds.specs.Arith.{f32}
 use Rattle.cells.specs.Points.{Point}
 use Rattle.sheet_file.specs.Refusals.{defaults_for}
-use Rattle.sheet_file.specs.declared.EdgeGate.TheVariants.{Off}
 use Rattle.sheet_file.specs.declared.Fraction.TheVariants.{Given}
 use Rattle.sheet_file.specs.declared.Settings.{Settings}
 use Rattle.instances.specs.Files.{one, two, short_weighed}
@@ -18,7 +17,7 @@ abbrev pub weak_file : ℕ → List Point → List ℕ
 weak_file size ps = short_weighed size two ps
 
 abbrev pub weak_settings : ℕ → Settings
-weak_settings size = defaults_for (f32 size) Off (Given (f32 two))
+weak_settings size = defaults_for (f32 size) None (Given (f32 two))
 
 abbrev pub seven : ℕ
 seven = 0x40E0_0000

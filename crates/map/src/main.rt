@@ -3,20 +3,10 @@
 
 use map_lines::MAP_SIZE;
 use sheet_file::FILE_SIZE;
-use standard_input::Input;
-
-fn print_map<R: Print + Eprint>(rt: &R, file: &[u8]) {
-    let mut out = [0u8; MAP_SIZE];
-    let written = sheet_map::draw_sheet(file, &mut out);
-    standard_output::print(rt, written, &out, b"map: writing standard output");
-}
 
 fn main(rt: HostRuntime) {
     let mut file = [0u8; FILE_SIZE];
-    match standard_input::read_file(&mut rt.stdin(), &mut file) {
-        Input::Read(n) => print_map(&rt, &file[..n]),
-        Input::Failed(e) => {
-            let _ = eprintln!(rt; "map: reading standard input: {e}");
-        }
-    }
+    let mut map = [0u8; MAP_SIZE];
+    let draw = sheet_map::draw_sheet;
+    text_program::run(&rt, &mut rt.stdin(), "map", &mut file, &mut map, draw);
 }

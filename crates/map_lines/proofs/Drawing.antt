@@ -19,7 +19,7 @@ use Rattle.text.specs.Text.{bytes, each}
 use Rattle.text.proofs.Stores.{each-ext}
 use Rattle.map_lines.specs.Map.{columns, most_lines, smallest_v, span_u, span_v, too_wide, cell_from, cell_in, point_character, cell_character, line_text, lines_from, line_characters, map_of}
 use Rattle.map_lines.specs.Page.{Spans, OnPage, Drawn, page_line}
-use Rattle.map_lines.specs.declared.spans.Axis.TheVariants.{AlongU, AlongV}
+use Rattle.offsets.specs.declared.axis.Axis.TheVariants.{AlongU, AlongV}
 use Rattle.map_lines.specs.declared.spans.Span.{Span}
 use Rattle.map_lines.proofs.Whole.{moves-swap}
 

@@ -1,4 +1,5 @@
 -- What is smallest, largest and spanned: each number lies between, both ends are met, and a move moves the ends along. Assumes nothing.
+use Rattle.std.proofs.Common.{min, max}
 use mathlib.Core.Path.{◌≡◌, refl, sym, ap, ◌∙◌}
 use mathlib.Core.Bool.{Bool, true, false, cond}
 use Prim.Native.Nat.{ℕ, ◌+◌, ◌-◌, ◌≤◌, ◌<◌}
@@ -11,7 +12,6 @@ use lib.Signed.{lt_z}
 use Rattle.folds.specs.Below.{fold}
 use Rattle.folds.proofs.Below.{fold-none, fold_more, fold-ext, fold-keeps}
 use Rattle.map_lines.specs.Map.{smallest, largest, span}
-use Rattle.map_lines.specs.Page.{lower_of, higher_of}
 use Rattle.map_lines.proofs.Whole.{difference-moved, less-moved, distance}
 
 -- a function that goes through every step goes through the fold
@@ -87,38 +87,29 @@ ends-start p =
       inside = λ j h. absurd (omega arith);
     }
 
-lower-bounds : (c a : ℕ) → (lower_of c a ≤ c) × (lower_of c a ≤ a)
-lower-bounds c a = go (ltb c a) refl
+lower-is : (a c : ℕ) → min a c ≡ cond (ltb c a) c a
+lower-is a c = go (ltb c a) refl
   where
-    go : (t : Bool) → ltb c a ≡ t → (cond t c a ≤ c) × (cond t c a ≤ a)
-    go true e = (omega arith, omega (arith, ltb-true c a e))
-    go false e = (omega (arith, ltb-false c a e), omega arith)
+    go : (t : Bool) → ltb c a ≡ t → min a c ≡ cond t c a
+    go true e = omega (arith, ltb-true c a e)
+    go false e = omega (arith, ltb-false c a e)
 
-higher-bounds : (c b : ℕ) → (c ≤ higher_of c b) × (b ≤ higher_of c b)
-higher-bounds c b = go (ltb b c) refl
+higher-is : (b c : ℕ) → max b c ≡ cond (ltb b c) c b
+higher-is b c = go (ltb b c) refl
   where
-    go : (t : Bool) → ltb b c ≡ t → (c ≤ cond t c b) × (b ≤ cond t c b)
-    go true e = (omega arith, omega (arith, ltb-true b c e))
-    go false e = (omega (arith, ltb-false b c e), omega arith)
+    go : (t : Bool) → ltb b c ≡ t → max b c ≡ cond t c b
+    go true e = omega (arith, ltb-true b c e)
+    go false e = omega (arith, ltb-false b c e)
 
-pub higher-below : (c b m : ℕ) → c < m → b < m → higher_of c b < m
-higher-below c b m f g = go (ltb b c)
-  where
-    go : (t : Bool) → cond t c b < m
-    go true = f
-    go false = g
-
-pub ends_more : (p : ℕ → ℕ) (k a b : ℕ) → Ends p k a b → Ends p (k + 1) (lower_of (p k) a) (higher_of (p k) b)
+pub ends_more : (p : ℕ → ℕ) (k a b : ℕ) → Ends p k a b → Ends p (k + 1) (min a (p k)) (max b (p k))
 ends_more p k a b h =
-    let l = lower-bounds (p k) a in
-    let m = higher-bounds (p k) b in
     record {
-      least-is = ap (lower_of (p k)) h.least-is ∙ sym (fold_more (λ k a. cond (ltb (p k) a) (p k) a) (p 0) k);
-      most-is = ap (higher_of (p k)) h.most-is ∙ sym (fold_more (λ k a. cond (ltb a (p k)) (p k) a) (p 0) k);
-      ordered = omega (arith, l, m);
+      least-is = lower-is a (p k) ∙ ap (λ (x : ℕ). cond (ltb (p k) x) (p k) x) h.least-is ∙ sym (fold_more (λ k a. cond (ltb (p k) a) (p k) a) (p 0) k);
+      most-is = higher-is b (p k) ∙ ap (λ (x : ℕ). cond (ltb x (p k)) (p k) x) h.most-is ∙ sym (fold_more (λ k a. cond (ltb a (p k)) (p k) a) (p 0) k);
+      ordered = omega (arith, h.ordered);
       inside = λ j g. elim (dec_lt j k) [
-        | yes i ↦ (omega (arith, (h.inside j i).0, l), omega (arith, (h.inside j i).1, m))
-        | no i ↦ (let e : j ≡ k = omega arith in rw e (l.0, m.0))
+        | yes i ↦ (omega (arith, (h.inside j i).0), omega (arith, (h.inside j i).1))
+        | no i ↦ (let e : j ≡ k = omega arith in rw e (omega arith, omega arith))
       ];
     }
 

@@ -1,11 +1,11 @@
 -- For the code: what the keys of n cells span, and the page, columns times most_lines characters, line by line. Assumes nothing.
-use Rattle.std.specs.Prelude.{◌≡◌, cond, List, [], ◌∷◌, ℕ, ◌+◌, ◌*◌, ◌/◌, ◌%◌, ◌^◌, ◌≤◌, ◌<◌, ltb, ℤ, pos, ◌-ℤ◌, length, get_or}
+use Rattle.std.specs.Prelude.{◌≡◌, List, [], ◌∷◌, ℕ, ◌+◌, ◌*◌, ◌/◌, ◌%◌, ◌^◌, ◌≤◌, ◌<◌, ℤ, pos, ◌-ℤ◌, length, get_or}
 use Rattle.cells.specs.Points.{bias, stride}
 use Rattle.cells.specs.Cell.{Cell, cells_at}
 use Rattle.text.specs.Text.{each}
 use Rattle.map_lines.specs.Map.{columns, most_lines, smallest, span, cell_from, cell_character}
-use Rattle.map_lines.specs.declared.spans.Axis.{Axis}
-use Rattle.map_lines.specs.declared.spans.Axis.TheVariants.{AlongU, AlongV}
+use Rattle.offsets.specs.declared.axis.Axis.{Axis}
+use Rattle.offsets.specs.declared.axis.Axis.TheVariants.{AlongU, AlongV}
 use Rattle.map_lines.specs.declared.spans.Span.{Span}
 
 -- u or v of a cell, and of a key, where it stands with the bias added
@@ -16,12 +16,6 @@ along AlongV c = c.v
 abbrev pub part : Axis → ℕ → ℕ
 part AlongU key = key / stride
 part AlongV key = key % stride
-
-abbrev pub lower_of : ℕ → ℕ → ℕ
-lower_of a b = cond (ltb a b) a b
-
-abbrev pub higher_of : ℕ → ℕ → ℕ
-higher_of a b = cond (ltb b a) a b
 
 -- what n keys span along an axis: the smallest with the bias added, and how many values
 pub record Spans (axis : Axis) (keys : List ℕ) (n : ℕ) (r : Span) : Type 0 where

@@ -11,13 +11,12 @@ ghost use Rattle.text.specs.Answer.{Shows};
 ghost use Rattle.text.specs.Stored.{Stored};
 ghost use Rattle.text.specs.Text.{each};
 ghost use Rattle.map_lines.specs.Map.{columns, most_lines, too_wide, point_character, line_text, map_of, map_size};
-ghost use Rattle.map_lines.specs.declared.spans.Axis.TheVariants.{AlongU, AlongV};
+ghost use Rattle.offsets.specs.declared.axis.Axis.TheVariants.{AlongU, AlongV};
 ghost use Rattle.map_lines.specs.Page.{Spans, OnPage, Drawn, page_line};
 
 use marks::filters;
-use marks::filters::FILTERS;
 use spans::Span;
-use text::Written;
+use text::{NoRoom, Writer};
 use view::{Marks, Words};
 
 // The characters of v in a line, and those of cells.
@@ -49,20 +48,16 @@ pub fn map_size() -> usize
 pub fn too_wide(u: Span, v: Span) -> bool
     ensures { result ≡ ltb columns u.count || ltb most_lines v.count }
 {
-    if COLUMNS < u.count {
-        return true;
-    }
-    MOST_LINES < v.count
+    COLUMNS < u.count || MOST_LINES < v.count
 }
 
 fn character(marks: u8) -> u8
     ensures { (result ∷ []) ≡ point_character marks }
 {
-    let f = filters::first_mark(marks);
-    if f < FILTERS {
-        return filters::letter(f);
+    match filters::first_mark(marks) {
+        Some(f) => f.letter(),
+        None => b'#',
     }
-    b'#'
 }
 
 // The page from cell (u, v) on, both plus BIAS, with the characters of n points.
@@ -71,64 +66,60 @@ fn draw(keys: &Words, marks: &Marks, n: usize, u: usize, v: usize) -> Page
     ensures { Drawn n (cells_at keys.now) marks.now (pos u -ℤ pos bias) (pos v -ℤ pos bias) result }
 {
     let mut page = [b'.'; PAGE_SIZE];
-    let mut k = 0;
-    while k < n {
+    for k in 0..n {
         let column = cells::u_part(keys[k]) as usize - u;
         let line = cells::v_part(keys[k]) as usize - v;
         page[COLUMNS * line + column] = character(marks[k]);
-        k += 1;
     }
     page
 }
 
 // The characters of line i.
-fn put_characters(page: &Page, i: usize, out: &mut [u8], at: usize) -> usize
+fn put_characters(w: &mut Writer, page: &Page, i: usize)
     requires { i < most_lines }
-    ensures { Stored out.old at (page_line page.now i) out.new result }
+    ensures { Stored w.old (page_line page.now i) w.new }
 {
-    let mut to = at;
-    let mut j = 0;
-    while j < COLUMNS {
-        let next = text::put_byte(page[COLUMNS * i + j], out, to);
-        to = next;
-        j += 1;
+    for j in 0..COLUMNS {
+        w.byte(page[COLUMNS * i + j]);
     }
-    to
 }
 
 // Line i, which is that of v, plus BIAS.
-fn put_line(page: &Page, i: usize, v: usize, out: &mut [u8], at: usize) -> usize
+fn put_line(w: &mut Writer, page: &Page, i: usize, v: usize)
     requires { i < most_lines }
-    ensures { Stored out.old at (line_text (pos v -ℤ pos bias) (page_line page.now i)) out.new result }
+    ensures { Stored w.old (line_text (pos v -ℤ pos bias) (page_line page.now i)) w.new }
 {
-    let a = text::put_right(LABEL_WIDTH, v, cells::BIAS as usize, out, at);
-    let b = text::put_byte(b' ', out, a);
-    let c = put_characters(page, i, out, b);
-    let d = text::put_byte(b' ', out, c);
-    text::put_byte(b'\n', out, d)
+    w.right(LABEL_WIDTH, v, cells::BIAS as usize);
+    w.byte(b' ');
+    put_characters(w, page, i);
+    w.byte(b' ');
+    w.byte(b'\n');
 }
 
 // So many lines, the first of them that of v, plus BIAS.
-fn put_lines(page: &Page, count: usize, v: usize, out: &mut [u8], at: usize) -> usize
+fn put_lines(w: &mut Writer, page: &Page, count: usize, v: usize)
     requires { (count ≤ most_lines) × (v < 2 ^ 32) }
-    ensures { Stored out.old at (each (λ (i : ℕ). line_text (pos (v + i) -ℤ pos bias) (page_line page.now i)) count) out.new result }
+    ensures { Stored w.old (each (λ (i : ℕ). line_text (pos (v + i) -ℤ pos bias) (page_line page.now i)) count) w.new }
 {
-    let mut to = at;
-    let mut i = 0;
-    while i < count {
-        let next = put_line(page, i, v + i, out, to);
-        to = next;
-        i += 1;
+    for i in 0..count {
+        put_line(w, page, i, v + i);
     }
-    to
 }
 
 // The map of n points in cell order: the keys of their cells, their marks, and what they span.
-pub fn write_map(n: usize, keys: &Words, marks: &Marks, u: Span, v: Span, out: &mut [u8]) -> Written
+pub fn write_map(
+    n: usize,
+    keys: &Words,
+    marks: &Marks,
+    u: Span,
+    v: Span,
+    out: &mut [u8],
+) -> Result<usize, NoRoom>
     requires { (n ≤ max_points) × Spans AlongU keys.now n u × Spans AlongV keys.now n v × (too_wide n (cells_at keys.now) ≡ false) }
     ensures { Shows (map_of n (cells_at keys.now) marks.now) out.old out.new result }
 {
     let page = draw(keys, marks, n, u.least, v.least);
-    let a = put_lines(&page, v.count, v.least, out, 0);
-    text::answer(a, out.len())
+    let mut w = Writer::new(out);
+    put_lines(&mut w, &page, v.count, v.least);
+    w.answer()
 }

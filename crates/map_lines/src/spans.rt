@@ -1,15 +1,10 @@
 // What the cells of a sheet span in u and in v.
 ghost use Rattle.std.specs.Prelude.{◌≡◌, ◌^◌, ◌≤◌, ◌<◌};
 ghost use Rattle.view.specs.View.{max_points};
-ghost use Rattle.map_lines.specs.Page.{part, lower_of, higher_of, Spans};
+ghost use Rattle.map_lines.specs.Page.{part, Spans};
 
+use offsets::Axis;
 use view::Words;
-
-#[derive(Clone, Copy)]
-pub enum Axis {
-    AlongU,
-    AlongV,
-}
 
 // The smallest u or v, plus BIAS, and how many values there are from it to the largest.
 #[derive(Clone, Copy)]
@@ -28,18 +23,6 @@ fn coordinate(key: u32, axis: Axis) -> usize
     }
 }
 
-fn lower(a: usize, b: usize) -> usize
-    ensures { result ≡ lower_of a b }
-{
-    if a < b { a } else { b }
-}
-
-fn higher(a: usize, b: usize) -> usize
-    ensures { result ≡ higher_of a b }
-{
-    if b < a { a } else { b }
-}
-
 // What the cells with the first n keys span.
 pub fn span_along(keys: &Words, n: usize, axis: Axis) -> Span
     requires { n ≤ max_points }
@@ -47,12 +30,10 @@ pub fn span_along(keys: &Words, n: usize, axis: Axis) -> Span
 {
     let mut least = coordinate(keys[0], axis);
     let mut most = least;
-    let mut k = 0;
-    while k < n {
+    for k in 0..n {
         let c = coordinate(keys[k], axis);
-        least = lower(c, least);
-        most = higher(c, most);
-        k += 1;
+        least = least.min(c);
+        most = most.max(c);
     }
     let count = if n == 0 { 0 } else { most - least + 1 };
     Span { least, count }

@@ -1,6 +1,7 @@
 -- A place below n that is hit: the guard that it is below n tells nothing where m is. Assumes nothing.
-use mathlib.Core.Path.{◌≡◌, ap, ◌∙◌}
-use mathlib.Core.Bool.{Bool, false, ◌&&◌}
+use mathlib.Core.Path.{◌≡◌, refl, ap, ◌∙◌}
+use mathlib.Core.Bool.{Bool, true, false, cond, ◌&&◌}
+use Rattle.std.specs.Prelude.{Some, None}
 use mathlib.Core.List.{List}
 use Prim.Native.Nat.{ℕ, ◌≤◌, ◌<◌}
 use native.Mathlib.Omega.{arith}
@@ -16,7 +17,8 @@ use Rattle.folds.proofs.Column.{column-ext, column-at}
 use Rattle.folds.specs.Marked.{bit, Marked}
 use Rattle.folds.proofs.Marked.{bit_is, marked-column}
 use Rattle.view.specs.View.{View, max_points, alike, index_has}
-use Rattle.marks.specs.Marks.{is_set, index_marks}
+use Rattle.view.specs.Seen.{below}
+use Rattle.marks.specs.Marks.{is_set, is_at, index_marks}
 
 pub guard : (a m n : ℕ) → m < n → ltb a n && eqb a m ≡ eqb a m
 guard a m n h = elim (ℕ_discrete a m) [ yes e ↦ rw (lt-ltb a n (omega arith)) | no f ↦ rw (ne_eqb a m f) (and-false (ltb a n)) ]
@@ -48,3 +50,7 @@ unfolding index_marks
 index-marks w t mark e =
     column-ext max_points 0 w.count (λ (k : ℕ). bit (index_has w (is_set mark) k)) (λ (k : ℕ). bit (index_has w t k))
     (λ k h. ap bit (some-ext (λ (j : ℕ). is_set mark j && alike w j k) (λ (j : ℕ). t j && alike w j k) w.count (λ j l. rw (set_is max_points w.count t mark e j l))))
+
+-- the place of a rank, or nothing if it is none
+pub at-below : (n r m : ℕ) → is_at (below n r) m ≡ ltb r n && eqb r m
+at-below n r m = elim (ltb r n) as (λ b. is_at (cond b (Some r) None) m ≡ b && eqb r m) [ true ↦ refl | false ↦ refl ]

@@ -1,4 +1,4 @@
 pub mod Guards
 pub mod Byte
-pub mod Entries
 pub mod Counts
+pub mod Places

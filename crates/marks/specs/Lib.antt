@@ -2,3 +2,4 @@ pub mod Marks
 pub mod Filters
 pub mod Byte
 pub mod Tally
+pub mod Places

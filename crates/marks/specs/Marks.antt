@@ -1,5 +1,5 @@
 -- Marks of points, 0 or 1 at each rank of an array, and marks of indices. Assumes nothing.
-use Rattle.std.specs.Prelude.{Bool, ◌&&◌, List, ℕ, eqb, get_or}
+use Rattle.std.specs.Prelude.{Bool, false, ◌&&◌, List, ℕ, Option, None, Some, eqb, get_or}
 use Rattle.folds.specs.Below.{some}
 use Rattle.folds.specs.Column.{column}
 use Rattle.folds.specs.Marked.{bit}
@@ -8,6 +8,11 @@ use Rattle.view.specs.View.{View, max_points, index_has}
 -- the mark at place k is set
 abbrev pub is_set : List ℕ → ℕ → Bool
 is_set mark k = eqb (get_or mark k 0) 1
+
+-- m is the place, if there is one
+abbrev pub is_at : Option ℕ → ℕ → Bool
+is_at None m = false
+is_at (Some k) m = eqb k m
 
 -- the index with its place at m has a marked point
 abbrev pub place_has : View → List ℕ → ℕ → Bool

@@ -3,16 +3,19 @@
 
 pub mod filters;
 
-ghost use Rattle.std.specs.Prelude.{◌≡◌, cond, ◌&&◌, List, [], ℕ, ◌+◌, ◌≤◌, ◌<◌, eqb, ltb, Float};
+ghost use Rattle.std.specs.Prelude.{◌≡◌, cond, ◌&&◌, List, [], ℕ, ◌+◌, ◌≤◌, ◌<◌, eqb, ltb, Float, IfSome};
 ghost use Rattle.folds.specs.Column.{column};
 ghost use Rattle.folds.specs.Marked.{bit, Marked};
-ghost use Rattle.view.specs.View.{max_points, view_at, Ranked};
-ghost use Rattle.marks.specs.Marks.{is_set, place_has, index_marks};
+ghost use Rattle.view.specs.View.{max_points, view_at};
+ghost use Rattle.view.specs.Seen.{lattice_in, view_in};
+ghost use Rattle.marks.specs.Marks.{is_set, is_at, place_has, index_marks};
 ghost use Rattle.marks.specs.Filters.{filter_count};
-ghost use Rattle.marks.specs.Byte.{with_mark, marked_by};
+ghost use Rattle.marks.specs.Places.{place};
+ghost use Rattle.marks.specs.Byte.{with_mark, marked_by, first_mark};
 ghost use Rattle.marks.specs.Tally.{counts_of};
 
-use view::{MAX_POINTS, Marks, Ranks};
+use filters::{FILTERS, Filter};
+use view::{Lattice, MAX_POINTS, Marks, View};
 
 // A mark as a number.
 pub fn bit_of(b: bool) -> u8
@@ -42,77 +45,77 @@ pub fn set_if(set: bool, m: usize, n: usize, mark: &mut Marks)
     }
 }
 
+// Sets the mark at a place, if there is one.
+pub fn set(mark: &mut Marks, at: Option<usize>)
+    requires { IfSome at (λ m. m < max_points) }
+    ensures { Marked (is_at at) mark.old mark.new }
+{
+    if let Some(m) = at {
+        mark[m] = 1;
+    }
+}
+
 // The marks, each at the place of its index.
-fn at_index(ranks: &Ranks, mark: &Marks, n: usize) -> Marks
-    requires { n ≤ max_points }
-    ensures { result ≡ column max_points 0 n (λ (m : ℕ). bit (place_has (view_at n ranks.now [] []) mark.now m)) }
+fn at_index(lattice: &Lattice, mark: &Marks) -> Marks
+    ensures { result ≡ column max_points 0 lattice.now.count (λ (m : ℕ). bit (place_has (lattice_in lattice.now) mark.now m)) }
 {
     let mut out = [0u8; MAX_POINTS];
-    let mut k = 0;
-    while k < n {
-        set_if(mark[k] == 1, view::index_of(ranks, k), n, &mut out);
-        k += 1;
+    for k in 0..lattice.count {
+        set_if(mark[k] == 1, lattice.index(k), lattice.count, &mut out);
     }
     out
 }
 
 // At each rank the mark of its index: whether some point with that index is marked.
-pub fn by_index(ranks: &Ranks, mark: &Marks, n: usize) -> Marks
-    requires { Ranked n ranks.now }
-    ensures { (xs ys : List Float) → result ≡ index_marks (view_at n ranks.now xs ys) mark.now }
+pub fn by_index(view: &View, mark: &Marks) -> Marks
+    ensures { result ≡ index_marks (view_in view.now) mark.now }
 {
-    let held = at_index(ranks, mark, n);
+    let held = at_index(&view.lattice, mark);
     let mut out = [0u8; MAX_POINTS];
-    let mut k = 0;
-    while k < n {
-        out[k] = held[view::index_of(ranks, k)];
-        k += 1;
-    }
+    view.spread(&held, &mut out);
     out
 }
 
-fn marked_byte(marks: u8, mark: u8, f: usize) -> u8
-    requires { f < filter_count }
-    ensures { result ≡ cond (eqb mark 1) (with_mark f marks) marks }
+fn marked_byte(marks: u8, mark: u8, f: Filter) -> u8
+    ensures { result ≡ cond (eqb mark 1) (with_mark (place f) marks) marks }
 {
     if mark == 1 {
-        return filters::with_mark(marks, f);
+        return f.marked(marks);
     }
     marks
 }
 
 // The bytes of marks after filter f has marked the points whose mark is set.
-pub fn marked_by(marks: &Marks, mark: &Marks, f: usize, n: usize) -> Marks
-    requires { (n ≤ max_points) × (f < filter_count) }
-    ensures { result ≡ marked_by n f (is_set mark.now) marks.now }
+pub fn marked_by(marks: &Marks, mark: &Marks, f: Filter, n: usize) -> Marks
+    requires { n ≤ max_points }
+    ensures { result ≡ marked_by n (place f) (is_set mark.now) marks.now }
 {
-    let mut out = [0u8; MAX_POINTS];
-    let mut k = 0;
-    while k < n {
-        out[k] = marked_byte(marks[k], mark[k], f);
-        k += 1;
-    }
-    out
+    view::filled(0, n, |k| marked_byte(marks[k], mark[k], f))
 }
 
 // One count for each filter, and one for the indices kept.
-pub const COUNTS: usize = filters::FILTERS + 1;
+pub const COUNTS: usize = FILTERS + 1;
 
 pub type Tally = [usize; COUNTS];
 
+// The place where a point with these marks is counted: that of the first filter that has marked it, or the last.
+fn counted_at(marks: u8) -> usize
+    ensures { (result ≡ first_mark marks) × (result ≤ filter_count) }
+{
+    match filters::first_mark(marks) {
+        Some(f) => f.place(),
+        None => FILTERS,
+    }
+}
+
 // How many indices each filter is the first to mark, and how many are kept. An index is counted at its place, the last of its ranks.
-pub fn tally(ranks: &Ranks, marks: &Marks, n: usize) -> Tally
-    requires { n ≤ max_points }
-    ensures { (xs ys : List Float) → result ≡ counts_of (view_at n ranks.now xs ys) marks.now }
+pub fn tally(lattice: &Lattice, marks: &Marks) -> Tally
+    ensures { (xs ys : List Float) → result ≡ counts_of (view_at lattice.now.count lattice.now.ranks.now xs ys) marks.now }
 {
     let mut counts = [0usize; COUNTS];
-    let mut k = 0;
-    while k < n {
-        let at = k;
-        k += 1;
-        if view::index_of(ranks, at) == at {
-            let f = filters::first_mark(marks[at]);
-            counts[f] += 1;
+    for k in 0..lattice.count {
+        if lattice.index(k) == k {
+            counts[counted_at(marks[k])] += 1;
         }
     }
     counts

@@ -56,24 +56,15 @@ fn minor_of(a: f32, b: f32, c: f32, d: f32) -> f32
 pub fn determinant(m: [[f32; 3]; 3]) -> f32
     ensures { result ≡ determinant_of m }
 {
-    m[0][0] * minor_of(m[1][1], m[2][2], m[2][1], m[1][2])
-        - m[0][1] * minor_of(m[1][0], m[2][2], m[2][0], m[1][2])
-        + m[0][2] * minor_of(m[1][0], m[2][1], m[2][0], m[1][1])
+    let [[a, b, c], [e, f, g], [h, i, j]] = m;
+    a * minor_of(f, j, i, g) - b * minor_of(e, j, h, g) + c * minor_of(e, i, h, f)
 }
 
 // The inverse of m, whose determinant is d.
 pub fn inverse(m: [[f32; 3]; 3], d: f32) -> [[f32; 3]; 3]
     ensures { result ≡ inverse_of m d }
 {
-    let a = m[0][0];
-    let b = m[0][1];
-    let c = m[0][2];
-    let e = m[1][0];
-    let f = m[1][1];
-    let g = m[1][2];
-    let h = m[2][0];
-    let i = m[2][1];
-    let j = m[2][2];
+    let [[a, b, c], [e, f, g], [h, i, j]] = m;
     [
         [
             (f * j - i * g) / d,

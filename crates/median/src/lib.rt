@@ -1,46 +1,38 @@
 // The median of an array's numbers: of the positive ones, by a sort of their bit patterns; of all, by a sort of keys that rise with them.
 #![tactic(auto)]
 
-ghost use Rattle.std.specs.Prelude.{◌≡◌, ◌≤◌, ◌<◌, T, length};
+ghost use Rattle.std.specs.Prelude.{◌≡◌, ◌≤◌, ◌<◌, T};
 ghost use Rattle.std.specs.Float.Ieee.Scale.{finite};
 ghost use Rattle.view.specs.View.{max_points, Finite};
-ghost use Rattle.float.specs.Constants.{first_nan_bits};
 ghost use Rattle.median.specs.Median.{median_of, first_of};
 ghost use Rattle.median.specs.Packed.{positives, Put, Packed};
 ghost use Rattle.median.specs.Keys.{RisingKey, Keyed, KeyedInOrder};
 
-use view::{Floats, MAX_POINTS};
+use view::{Floats, MAX_POINTS, Words};
 
 // Puts the pattern of x at c, if x is positive.
-fn put(x: f32, c: usize, a: &mut [u64; MAX_POINTS]) -> usize
-    requires { (c < max_points) × (length a.old ≡ max_points) }
+fn put(x: f32, c: usize, a: &mut Words) -> usize
+    requires { c < max_points }
     ensures { Put x c result a.old a.new }
 {
     if 0.0 < x {
-        a[c] = f32::to_bits(x) as u64;
+        a[c] = x.to_bits();
         return c + 1;
     }
     c
 }
 
-fn pack(v: &Floats, n: usize, a: &mut [u64; MAX_POINTS]) -> usize
-    requires { (n ≤ max_points) × (length a.old ≡ max_points) }
-    ensures { Packed v.now n result a.new }
+// The patterns of the positive ones among the first n, from the front of a.
+fn pack(v: &Floats, n: usize, a: &mut Words) -> usize
+    requires { n ≤ max_points }
+    ensures packed { Packed v.now n result a.new }
+    ensures few { result ≤ n }
 {
     let mut c = 0;
-    let mut k = 0;
-    while k < n {
+    for k in 0..n {
         c = put(v[k], c, a);
-        k += 1;
     }
     c
-}
-
-fn narrow(x: u64) -> u32
-    requires { x < first_nan_bits }
-    ensures { result ≡ x }
-{
-    x as u32
 }
 
 // The median of the positive ones among the first n; NaN where there is none.
@@ -48,13 +40,13 @@ pub fn middle(v: &Floats, n: usize) -> f32
     requires { n ≤ max_points }
     ensures { result ≡ median_of (positives v.now n) }
 {
-    let mut a = [0u64; MAX_POINTS];
+    let mut a = [0; MAX_POINTS];
     let c = pack(v, n, &mut a);
     if c == 0 {
-        return 0.0 / 0.0;
+        return f32::NAN;
     }
-    sort::sort(&mut a, c);
-    f32::from_bits(narrow(a[c / 2]))
+    a[..c].sort_unstable();
+    f32::from_bits(a[c / 2])
 }
 
 // A number that rises with x, which is finite.
@@ -62,7 +54,7 @@ fn rising(x: f32) -> u64
     requires { T (finite x) }
     ensures { RisingKey x result }
 {
-    let b = f32::to_bits(x) as u64;
+    let b = u64::from(x.to_bits());
     if b < 0x8000_0000 {
         return 0x8000_0000 + b;
     }
@@ -74,11 +66,9 @@ fn keys(v: &Floats, n: usize) -> [u64; MAX_POINTS]
     requires { (n ≤ max_points) × Finite n v.now }
     ensures { Keyed v.now n result }
 {
-    let mut out = [0u64; MAX_POINTS];
-    let mut k = 0;
-    while k < n {
+    let mut out = [0; MAX_POINTS];
+    for k in 0..n {
         out[k] = rising(v[k]) * sort::PACKED_PLACES + k as u64;
-        k += 1;
     }
     out
 }
@@ -99,7 +89,7 @@ pub fn middle_of_all(v: &Floats, n: usize) -> f32
     ensures { result ≡ median_of (first_of n v.now) }
 {
     if n == 0 {
-        return 0.0 / 0.0;
+        return f32::NAN;
     }
     let a = keys_in_order(v, n);
     v[(a[n / 2] % sort::PACKED_PLACES) as usize]

@@ -1,1 +1,2 @@
+pub mod Axes
 pub mod Offsets

@@ -1,8 +1,13 @@
-// Offsets: what is added to a cell's u and v. The named ones, and the place that each has among the 25 of a corner. See specs/Offsets.antt.
+// Offsets: what is added to a cell's u and v. The named ones, the place that each has among the 25 of a corner, and the two ways along the
+// lattice. See specs/Offsets.antt.
 #![tactic(auto)]
 
 ghost use Rattle.std.specs.Prelude.{◌≡◌, true, ◌≤◌, ◌<◌};
 ghost use Rattle.offsets.specs.Offsets.{is_within2, up_by2, is_near, place_of};
+
+mod axis;
+
+pub use axis::Axis;
 
 // A pair (du, dv).
 #[derive(Clone, Copy)]

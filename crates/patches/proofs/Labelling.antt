@@ -10,7 +10,7 @@ use Rattle.folds.proofs.Column.{column-at, column-over, filled, replicate-at}
 use Rattle.view.specs.View.{max_points}
 use Rattle.patches.specs.Patches.{survives, linked, test, via, labels_by, labels_of}
 use Rattle.patches.specs.Reach.{here, Labelled}
-use Rattle.patches.specs.Search.{Worklist, Search}
+use Rattle.patches.specs.Search.{Worklist, Searching}
 use Rattle.patches.proofs.Surviving.{survives-lt, link-from, link-to}
 use Rattle.patches.proofs.Closure.{Joins, first-label, first-none, first-labelled}
 
@@ -25,7 +25,7 @@ module _ (n : ℕ) (near : ℕ → ℕ) (sides dropped : List ℕ) where
   pub joins : Joins n alive link
   joins = record { from = link-from n near sides dropped; to = link-to n near sides dropped; rank = survives-lt n dropped }
 
-  pub search-labels : (i : ℕ) (m l q : List ℕ) (t : ℕ) → n ≤ i → n ≤ max_points → Worklist m l q t → Search alive link n i t m l q t → l ≡ labels_of n near sides dropped
+  pub search-labels : (i : ℕ) (m l q : List ℕ) (t : ℕ) → n ≤ i → n ≤ max_points → Worklist m l q t → Searching alive link n i t m l q t → l ≡ labels_of n near sides dropped
   unfolding labels_of labels_by
   search-labels i m l q t end few w c = filled n few (record {
     long = w.labels ∙ sym (length-replicate {A = ℕ} max_points 0);

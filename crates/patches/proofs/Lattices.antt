@@ -11,32 +11,29 @@ use Rattle.offsets.specs.declared.Offset.{Offset}
 use Rattle.offsets.specs.Offsets.{−1, +1, offset, own, next_u, prev_u, next_v, prev_v, square_sides, is_near, places}
 use Rattle.offsets.proofs.Places.{place-below, places-long, places-at}
 use Rattle.patches.specs.Reach.{paired}
-use Rattle.patches.specs.Search.{NearPlaces}
+use Rattle.patches.specs.Search.{AreNear, NearPlaces}
 
 -- each is within 2
 abbrev are_near : List Offset → Bool
 are_near sides = every (λ (i : ℕ). is_near (get_or sides i own)) (length sides)
 
-near-at : (sides : List Offset) → are_near sides ≡ true → (i : ℕ) → i < length sides → is_near (get_or sides i own) ≡ true
-near-at sides e i h = every-at (λ (i : ℕ). is_near (get_or sides i own)) (length sides) e i h
+near-by : (sides : List Offset) → are_near sides ≡ true → AreNear sides
+near-by sides e i h = every-at (λ (i : ℕ). is_near (get_or sides i own)) (length sides) e i h
 
 -- so that each has one of the 25 places
-near-places : (sides : List Offset) → are_near sides ≡ true → NearPlaces (places sides)
-near-places sides e i h =
+pub near-places : (sides : List Offset) → AreNear sides → NearPlaces (places sides)
+near-places sides near i h =
     let l : i < length sides = omega (arith, places-long sides) in
-    rw (places-at sides i l) (place-below (get_or sides i own) (near-at sides e i l))
+    rw (places-at sides i l) (place-below (get_or sides i own) (near i l))
 
 -- ---- the square lattice
 
-square-are-near : are_near square_sides ≡ true
+pub square-near : AreNear square_sides
 unfolding every
-square-are-near = refl
-
-pub square-near : (i : ℕ) → i < length square_sides → is_near (get_or square_sides i own) ≡ true
-square-near = near-at square_sides square-are-near
+square-near = near-by square_sides refl
 
 pub square-places : (sides : List ℕ) → sides ≡ places square_sides → NearPlaces sides
-square-places sides e = rw e (near-places square_sides square-are-near)
+square-places sides e = rw e (near-places square_sides square-near)
 
 pub square-paired : paired (places square_sides) ≡ true
 unfolding paired every some
@@ -49,7 +46,7 @@ hex_sides = next_u ∷ offset +1 −1 ∷ prev_v ∷ prev_u ∷ offset −1 +1 �
 
 hex-places : NearPlaces (places hex_sides)
 unfolding every
-hex-places = near-places hex_sides refl
+hex-places = near-places hex_sides (near-by hex_sides refl)
 
 hex-paired : paired (places hex_sides) ≡ true
 unfolding paired every some

@@ -1,6 +1,6 @@
 -- How far a patch reaches a way tells of a point whether it is outermost that way. Assumes nothing.
 use mathlib.Core.Path.{◌≡◌, refl, sym, ap, ◌∙◌}
-use mathlib.Core.Bool.{Bool, true, false, cond, not, ◌&&◌, ◌||◌}
+use mathlib.Core.Bool.{Bool, true, false, cond, not, ◌&&◌}
 use mathlib.Core.List.{List}
 use Prim.Native.Nat.{ℕ, suc, ◌-◌, ◌/◌, ◌%◌, ◌≤◌, ◌<◌}
 use native.Mathlib.Omega.{arith}
@@ -12,14 +12,16 @@ use lib.ListN.{get_or}
 use Rattle.folds.specs.Below.{fold, turn, some}
 use Rattle.folds.proofs.Below.{some-ext, and-under, both_ways}
 use Rattle.folds.proofs.Column.{column-at}
-use Rattle.folds.specs.Marked.{bit}
 use Rattle.folds.specs.Scattered.{larger}
 use Rattle.folds.proofs.Scattered.{fold-above}
 use Rattle.view.specs.View.{max_points}
 use Rattle.cells.specs.Points.{bias, stride}
 use Rattle.cells.specs.Cell.{Cell, cells_at}
 use Rattle.patches.specs.Boxes.{on_boundary, CellKeys}
-use Rattle.patches.specs.Extents.{far_end, extent, farthest_of, at_end}
+use Rattle.patches.specs.Extents.{far_end, extent, farthest_of, at_end, Reaching, at_some_end}
+use Rattle.patches.specs.declared.boxes.Way.{Way}
+use Rattle.patches.specs.declared.boxes.Way.TheVariants.{MoreU, LessU, MoreV, LessV}
+use Rattle.patches.specs.declared.boxes.Extents.{Extents}
 
 same-order : (x y a b : ℕ) → (x < y → a < b) → (a < b → x < y) → ltb x y ≡ ltb a b
 same-order x y a b f g = both_ways (ltb x y) (ltb a b) (λ e. lt-ltb a b (f (ltb-true x y e))) (λ e. lt-ltb x y (g (ltb-true a b e)))
@@ -51,7 +53,7 @@ module _ (n : ℕ) (labels keys : List ℕ) where
   abbrev cell : ℕ → Cell
   cell = cells_at keys
 
-  abbrev far : ℕ → List ℕ
+  abbrev far : Way → List ℕ
   far way = farthest_of n labels keys way
 
   -- ranks j and k are of one patch
@@ -59,14 +61,14 @@ module _ (n : ℕ) (labels keys : List ℕ) where
   together j k = eqb (get_or labels j 0) (get_or labels k 0)
 
   -- some point of rank k's patch lies farther
-  farther : (way k : ℕ) → ltb (get_or labels k 0) n ≡ true → ltb (extent way (key k)) (get_or (far way) (get_or labels k 0) 0) ≡ some (λ (j : ℕ). together j k && ltb (extent way (key k)) (extent way (key j))) n
+  farther : (way : Way) (k : ℕ) → ltb (get_or labels k 0) n ≡ true → ltb (extent way (key k)) (get_or (far way) (get_or labels k 0) 0) ≡ some (λ (j : ℕ). together j k && ltb (extent way (key k)) (extent way (key j))) n
   farther way k e =
       ap (λ (x : ℕ). ltb (extent way (key k)) x)
       (column-at max_points 0 n (λ (s : ℕ). fold (turn (λ (k : ℕ). eqb (get_or labels k 0) s) (larger (λ (k : ℕ). extent way (key k)))) 0 n) (get_or labels k 0) (ltb-true (get_or labels k 0) n e))
       ∙ fold-above (λ (j : ℕ). together j k) (λ (j : ℕ). extent way (key j)) (extent way (key k)) n
 
   -- none does, where a test of two ranks tells which lies farther
-  outermost : (way : ℕ) (less : ℕ → ℕ → Bool) → ((j k : ℕ) → j < n → k < n → ltb (extent way (key j)) (extent way (key k)) ≡ less j k) → (k : ℕ) → k < n → ltb (get_or labels k 0) n ≡ true
+  outermost : (way : Way) (less : ℕ → ℕ → Bool) → ((j k : ℕ) → j < n → k < n → ltb (extent way (key j)) (extent way (key k)) ≡ less j k) → (k : ℕ) → k < n → ltb (get_or labels k 0) n ≡ true
       → at_end (far way) way (get_or labels k 0) (key k) ≡ not (some (λ (j : ℕ). together j k && less k j) n)
   outermost way less same k h e =
       ap not
@@ -82,25 +84,24 @@ module _ (n : ℕ) (labels keys : List ℕ) where
     v-small j = omega arith
 
     -- to greater u, to smaller u, to greater v, to smaller v
-    more-u : (j k : ℕ) → j < n → k < n → ltb (extent 0 (key j)) (extent 0 (key k)) ≡ lt_z (cell j).u (cell k).u
+    more-u : (j k : ℕ) → j < n → k < n → ltb (extent MoreU (key j)) (extent MoreU (key k)) ≡ lt_z (cell j).u (cell k).u
     more-u j k h l = sym (less-bias (key j / stride) (key k / stride))
 
-    less-u : (j k : ℕ) → j < n → k < n → ltb (extent 1 (key j)) (extent 1 (key k)) ≡ lt_z (cell k).u (cell j).u
+    less-u : (j k : ℕ) → j < n → k < n → ltb (extent LessU (key j)) (extent LessU (key k)) ≡ lt_z (cell k).u (cell j).u
     less-u j k h l = turned (key j / stride) (key k / stride) (u-small j h) (u-small k l) ∙ sym (less-bias (key k / stride) (key j / stride))
 
-    more-v : (j k : ℕ) → j < n → k < n → ltb (extent 2 (key j)) (extent 2 (key k)) ≡ lt_z (cell j).v (cell k).v
+    more-v : (j k : ℕ) → j < n → k < n → ltb (extent MoreV (key j)) (extent MoreV (key k)) ≡ lt_z (cell j).v (cell k).v
     more-v j k h l = sym (less-bias (key j % stride) (key k % stride))
 
-    less-v : (j k : ℕ) → j < n → k < n → ltb (extent 3 (key j)) (extent 3 (key k)) ≡ lt_z (cell k).v (cell j).v
+    less-v : (j k : ℕ) → j < n → k < n → ltb (extent LessV (key j)) (extent LessV (key k)) ≡ lt_z (cell k).v (cell j).v
     less-v j k h l = turned (key j % stride) (key k % stride) (v-small j) (v-small k) ∙ sym (less-bias (key k % stride) (key j % stride))
 
     -- what the code finds is the definition
-    pub boundary-is : (k : ℕ) → k < n → (a b c d : List ℕ) (s r : ℕ) → a ≡ far 0 → b ≡ far 1 → c ≡ far 2 → d ≡ far 3 → s ≡ get_or labels k 0
-        → r ≡ bit (ltb s n && (at_end b 1 s (key k) || (at_end a 0 s (key k) || (at_end d 3 s (key k) || at_end c 2 s (key k))))) → r ≡ bit (on_boundary n labels cell k)
-    boundary-is k h a b c d s r p q t v l e =
-        e ∙ rw (p, q, t, v, l) (ap bit (and-under (ltb (get_or labels k 0) n) (λ e. cc (
-          outermost 0 (λ (j k : ℕ). lt_z (cell j).u (cell k).u) more-u k h e,
-          outermost 1 (λ (j k : ℕ). lt_z (cell k).u (cell j).u) less-u k h e,
-          outermost 2 (λ (j k : ℕ). lt_z (cell j).v (cell k).v) more-v k h e,
-          outermost 3 (λ (j k : ℕ). lt_z (cell k).v (cell j).v) less-v k h e,
-        ))))
+    pub boundary-is : (k : ℕ) → k < n → (far : Extents) → Reaching n labels keys far → ltb (get_or labels k 0) n && at_some_end far (get_or labels k 0) (key k) ≡ on_boundary n labels cell k
+    boundary-is k h far r =
+        rw (r.more_u, r.less_u, r.more_v, r.less_v) (and-under (ltb (get_or labels k 0) n) (λ e. cc (
+          outermost MoreU (λ (j k : ℕ). lt_z (cell j).u (cell k).u) more-u k h e,
+          outermost LessU (λ (j k : ℕ). lt_z (cell k).u (cell j).u) less-u k h e,
+          outermost MoreV (λ (j k : ℕ). lt_z (cell j).v (cell k).v) more-v k h e,
+          outermost LessV (λ (j k : ℕ). lt_z (cell k).v (cell j).v) less-v k h e,
+        )))

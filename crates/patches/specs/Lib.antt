@@ -3,3 +3,4 @@ pub mod Reach
 pub mod Search
 pub mod Boxes
 pub mod Extents
+pub mod Steps

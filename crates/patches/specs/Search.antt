@@ -3,11 +3,17 @@
 use Rattle.std.specs.Prelude.{◌≡◌, Bool, true, not, List, [], ◌∷◌, ℕ, zero, suc, ◌+◌, ◌≤◌, ◌<◌, eqb, length, get_or, set}
 use Rattle.folds.specs.Column.{column}
 use Rattle.folds.specs.Marked.{bit}
-use Rattle.view.specs.View.{max_points, view_at}
+use Rattle.offsets.specs.declared.Offset.{Offset}
+use Rattle.offsets.specs.Offsets.{own, is_near}
+use Rattle.view.specs.View.{View, max_points}
 use Rattle.patches.specs.Patches.{survives, linked}
 use Rattle.patches.specs.Reach.{Reach, Labelled}
 
--- what a caller sees to: each side is one of the 25 places
+-- what a caller sees to: each offset is within 2
+abbrev pub AreNear : List Offset → Type 0
+AreNear sides = (i : ℕ) → i < length sides → is_near (get_or sides i own) ≡ true
+
+-- so that each has one of the 25 places
 abbrev pub NearPlaces : List ℕ → Type 0
 NearPlaces sides = (i : ℕ) → i < length sides → get_or sides i 0 < 25
 
@@ -41,10 +47,10 @@ pub record Worklist (m l q : List ℕ) (t : ℕ) : Type 0 where
   pub room : t ≤ marks_set m
   pub ranks : (p : ℕ) → p < t → get_or q p 0 < max_points
 
--- a visit to rank j changes nothing where j is none or has its mark; else it marks j, gives it the label s and puts it on the worklist
+-- a visit to rank j changes nothing where it has its mark; else it marks j, gives it the label s and puts it on the worklist
 pub data Visit (s j : ℕ) (m l q : List ℕ) (t : ℕ) : List ℕ → List ℕ → List ℕ → ℕ → Type 0 where
-  stays : (j < max_points → Visited m j) → Visit s j m l q t m l q t
-  pushed : j < max_points → get_or m j 0 ≡ 0 → Visit s j m l q t (set m j 1) (set l j s) (set q t j) (t + 1)
+  stays : Visited m j → Visit s j m l q t m l q t
+  pushed : get_or m j 0 ≡ 0 → Visit s j m l q t (set m j 1) (set l j s) (set q t j) (t + 1)
 
 -- ---- the search
 
@@ -53,7 +59,7 @@ abbrev pub Met : (ℕ → Bool) → List ℕ → ℕ → Type 0
 Met alive m k = (alive k ≡ true) × Visited m k
 
 -- while the patch of s is searched, with the neighbours of the first `head` entries of the worklist visited
-pub record Search (alive : ℕ → Bool) (link : ℕ → ℕ → Bool) (n s head : ℕ) (m l q : List ℕ) (t : ℕ) : Type 0 where
+pub record Searching (alive : ℕ → Bool) (link : ℕ → ℕ → Bool) (n s head : ℕ) (m l q : List ℕ) (t : ℕ) : Type 0 where
   pub within : head ≤ t
   pub unmarked : (k : ℕ) → k < max_points → get_or m k 0 ≡ 0 → alive k ≡ true
   pub entered : (p : ℕ) → p < t → alive (get_or q p 0) ≡ true
@@ -64,12 +70,11 @@ pub record Search (alive : ℕ → Bool) (link : ℕ → ℕ → Bool) (n s head
   pub done : (a k : ℕ) → a < s → Reach alive link a k → Visited m k
   pub closed : (p : ℕ) → p < head → (j : ℕ) → link (get_or q p 0) j ≡ true → Visited m j
 
--- of the n points of a table of ranks
-abbrev pub SearchOf : ℕ → List ℕ → List ℕ → List ℕ → ℕ → ℕ → List ℕ → List ℕ → List ℕ → ℕ → Type 0
-SearchOf n ranks sides dropped s head m l q t = Search (survives n dropped) (linked n (view_at n ranks [] []).near sides dropped) n s head m l q t
+-- of a view
+abbrev pub SearchingIn : View → List ℕ → List ℕ → ℕ → ℕ → List ℕ → List ℕ → List ℕ → ℕ → Type 0
+SearchingIn w sides dropped s head m l q t = Searching (survives w.count dropped) (linked w.count w.near sides dropped) w.count s head m l q t
 
--- from one state of the search to a later one, in which no mark is lost, for any number of points and any that are dropped
-pub record Advanced (ranks sides : List ℕ) (s head : ℕ) (m l q : List ℕ) (t s' head' : ℕ) (m' l' q' : List ℕ) (t' : ℕ) : Type 0 where
-  pub list : Worklist m' l' q' t'
+-- from one state of the search to a later one, in which no mark is lost, for any points that are dropped
+pub record Advanced (w : View) (sides : List ℕ) (s head : ℕ) (m l q : List ℕ) (t s' head' : ℕ) (m' l' q' : List ℕ) (t' : ℕ) : Type 0 where
   pub kept : (k : ℕ) → Visited m k → Visited m' k
-  pub search : (n : ℕ) (dropped : List ℕ) → n ≤ max_points → SearchOf n ranks sides dropped s head m l q t → SearchOf n ranks sides dropped s' head' m' l' q' t'
+  pub search : (dropped : List ℕ) → SearchingIn w sides dropped s head m l q t → SearchingIn w sides dropped s' head' m' l' q' t'

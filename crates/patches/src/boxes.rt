@@ -1,116 +1,124 @@
 // The boxes of patches, for the edge gate: whether a point is on the boundary of its patch's box. See specs/Boxes.antt.
-ghost use Rattle.std.specs.Prelude.{◌≡◌, cond, ◌&&◌, ◌||◌, List, [], ◌≤◌, ◌<◌, ◌^◌, ltb, Float};
+ghost use Rattle.std.specs.Prelude.{◌≡◌, ◌≤◌, ◌^◌, ◌<◌, ◌&&◌, ltb};
 ghost use Rattle.folds.specs.Marked.{bit};
-ghost use Rattle.view.specs.View.{max_points, view_at, Ranked};
+ghost use Rattle.view.specs.View.{max_points};
+ghost use Rattle.view.specs.Seen.{view_in};
 ghost use Rattle.cells.specs.Cell.{cells_at};
-ghost use Rattle.patches.specs.Search.{NearPlaces};
+ghost use Rattle.offsets.specs.Offsets.{places};
+ghost use Rattle.patches.specs.Search.{AreNear};
 ghost use Rattle.patches.specs.Boxes.{CellKeys, boundary_among, boundary_of};
-ghost use Rattle.patches.specs.Extents.{extent, farthest_of, at_end};
+ghost use Rattle.patches.specs.Extents.{extent, farthest_of, at_end, Reaching, at_some_end};
 
 use crate::labels;
-use view::{MAX_POINTS, Marks, Places, Ranks, Words};
+use offsets::Offset;
+use view::{MAX_POINTS, Marks, Places, View, Words};
 
 // The greatest that a part of a cell's key can be.
 const FAR_END: u16 = (cells::STRIDE - 1) as u16;
 
-// How far a cell lies to one of the four ways.
-fn extent_of(key: u32, way: usize) -> u16
-    requires { key < 2 ^ 28 }
-    ensures { result ≡ extent way key }
-{
-    let u = cells::u_part(key) as u16;
-    let v = cells::v_part(key) as u16;
-    match way {
-        0 => u,
-        1 => FAR_END - u,
-        2 => v,
-        _ => FAR_END - v,
-    }
+// The four ways: to greater u, to smaller u, to greater v, to smaller v.
+#[derive(Clone, Copy)]
+enum Way {
+    MoreU,
+    LessU,
+    MoreV,
+    LessV,
 }
 
-fn larger_of(x: u16, y: u16) -> u16
-    ensures { result ≡ cond (ltb x y) y x }
-{
-    if x < y {
-        return y;
-    }
-    x
-}
-
-// How far the patch of each label reaches one way.
-fn farthest(keys: &Words, label: &Places, n: usize, way: usize) -> Places
-    requires { (n ≤ max_points) × CellKeys n keys.now }
-    ensures { result ≡ farthest_of n label.now keys.now way }
-{
-    let mut far = [0u16; MAX_POINTS];
-    let mut i: usize = 0;
-    while i < n {
-        let v = view::wide(label[i]);
-        let x = extent_of(keys[i], way);
-        i += 1;
-        if v < n {
-            far[v] = larger_of(far[v], x);
+impl Way {
+    // How far a cell lies this way.
+    fn extent(self, key: u32) -> u16
+        requires { key < 2 ^ 28 }
+        ensures { result ≡ extent self key }
+    {
+        let u = cells::u_part(key) as u16;
+        let v = cells::v_part(key) as u16;
+        match self {
+            Way::MoreU => u,
+            Way::LessU => FAR_END - u,
+            Way::MoreV => v,
+            Way::LessV => FAR_END - v,
         }
     }
-    far
+
+    // How far the patch of each label reaches this way.
+    fn farthest(self, keys: &Words, label: &Places, n: usize) -> Places
+        requires { (n ≤ max_points) × CellKeys n keys.now }
+        ensures { result ≡ farthest_of n label.now keys.now self }
+    {
+        let mut far = [0; MAX_POINTS];
+        for i in 0..n {
+            let v = usize::from(label[i]);
+            if v < n {
+                far[v] = far[v].max(self.extent(keys[i]));
+            }
+        }
+        far
+    }
+
+    // Whether the cell lies as far this way as the patch with label s reaches.
+    fn is_end(self, far: &Places, s: usize, key: u32) -> bool
+        requires { (key < 2 ^ 28) × (s < max_points) }
+        ensures { result ≡ at_end far.now self s key }
+    {
+        !(self.extent(key) < far[s])
+    }
 }
 
-// Whether the cell lies as far one way as the patch with label s reaches.
-fn reaches(key: u32, way: usize, s: usize, far: &Places) -> bool
-    requires { (key < 2 ^ 28) × (s < max_points) }
-    ensures { result ≡ at_end far.now way s key }
-{
-    !(extent_of(key, way) < far[s])
+// How far the patch of each label reaches each way.
+#[derive(Drop)]
+struct Extents {
+    more_u: Places,
+    less_u: Places,
+    more_v: Places,
+    less_v: Places,
 }
 
-// Whether a cell lies as far one way as its patch does, or another way, or a third or a fourth.
-fn on_boundary(key: u32, s: usize, n: usize, a: &Places, b: &Places, c: &Places, d: &Places) -> u8
-    requires { (key < 2 ^ 28) × (n ≤ max_points) }
-    ensures { result ≡ bit (ltb s n && (at_end b.now 1 s key || (at_end a.now 0 s key || (at_end d.now 3 s key || at_end c.now 2 s key)))) }
-{
-    if n <= s {
-        return 0;
+impl Extents {
+    fn new(keys: &Words, label: &Places, n: usize) -> Extents
+        requires { (n ≤ max_points) × CellKeys n keys.now }
+        ensures { Reaching n label.now keys.now result }
+    {
+        Extents {
+            more_u: Way::MoreU.farthest(keys, label, n),
+            less_u: Way::LessU.farthest(keys, label, n),
+            more_v: Way::MoreV.farthest(keys, label, n),
+            less_v: Way::LessV.farthest(keys, label, n),
+        }
     }
-    if reaches(key, 1, s, b) {
-        return 1;
+
+    // Whether a cell lies as far as the patch with label s reaches, one of the ways.
+    fn has_end(&self, s: usize, key: u32) -> bool
+        requires { (key < 2 ^ 28) × (s < max_points) }
+        ensures { result ≡ at_some_end self.now s key }
+    {
+        Way::LessU.is_end(&self.less_u, s, key)
+            || Way::MoreU.is_end(&self.more_u, s, key)
+            || Way::LessV.is_end(&self.less_v, s, key)
+            || Way::MoreV.is_end(&self.more_v, s, key)
     }
-    if reaches(key, 0, s, a) {
-        return 1;
-    }
-    if reaches(key, 3, s, d) {
-        return 1;
-    }
-    if reaches(key, 2, s, c) {
-        return 1;
-    }
-    0
 }
 
 // 1 at each rank whose index has its place on the boundary of the box of its patch, given the labels.
-fn boundary_among(ranks: &Ranks, keys: &Words, label: &Places, n: usize) -> Marks
-    requires { Ranked n ranks.now × CellKeys n keys.now }
-    ensures { result ≡ boundary_among (view_at n ranks.now [] []) label.now (cells_at keys.now) }
+fn boundary_among(view: &View, keys: &Words, label: &Places) -> Marks
+    requires { CellKeys view.now.lattice.count keys.now }
+    ensures { result ≡ boundary_among (view_in view.now) label.now (cells_at keys.now) }
 {
-    let a = farthest(keys, label, n, 0);
-    let b = farthest(keys, label, n, 1);
-    let c = farthest(keys, label, n, 2);
-    let d = farthest(keys, label, n, 3);
-    let mut out = [0u8; MAX_POINTS];
-    let mut i: usize = 0;
-    while i < n {
-        let m = view::index_of(ranks, i);
-        out[i] = on_boundary(keys[m], view::wide(label[m]), n, &a, &b, &c, &d);
-        i += 1;
-    }
-    out
+    let n = view.lattice.count;
+    let extents = Extents::new(keys, label, n);
+    view::filled(0, n, |i| {
+        let m = view.lattice.index(i);
+        let s = usize::from(label[m]);
+        u8::from(s < n && extents.has_end(s, keys[m]))
+    })
 }
 
 // 1 at each rank whose index has its place on the boundary of the box of its patch of all points.
-pub fn boundary(ranks: &Ranks, keys: &Words, sides: &[u8], n: usize) -> Marks
-    requires { Ranked n ranks.now × NearPlaces sides.now × CellKeys n keys.now }
-    ensures { (xs ys : List Float) → result ≡ boundary_of (view_at n ranks.now xs ys) sides.now (cells_at keys.now) }
+#[inline(never)]
+pub fn boundary(view: &View, keys: &Words, sides: &[Offset]) -> Marks
+    requires { AreNear sides.now × CellKeys view.now.lattice.count keys.now }
+    ensures { result ≡ boundary_of (view_in view.now) (places sides.now) (cells_at keys.now) }
 {
-    let dropped = [0u8; MAX_POINTS];
-    let label = labels(ranks, &dropped, sides, n);
-    boundary_among(ranks, keys, &label, n)
+    let label = labels(&view.lattice, &[0; MAX_POINTS], sides);
+    boundary_among(view, keys, &label)
 }

@@ -6,15 +6,16 @@ use Prim.{yes, no}
 use Prim.Native.Nat.{ℕ, ◌+◌, ◌*◌, ◌≤◌, ◌<◌}
 use native.Mathlib.Decide.{dec_lt}
 use native.Mathlib.Omega.{arith}
-use borrow.Author.Tests.{ne_eqb, eqb-true, lt-ltb, le-ltb, ltb-true, ltb-false}
-use lib.Dec.{eqb, ltb}
+use borrow.Author.Tests.{lt-ltb, ltb-true, ltb-false}
+use lib.Dec.{ltb}
 use lib.ListN.{length, get_or}
-use Rattle.folds.specs.Below.{tally}
-use Rattle.folds.proofs.Below.{tally-ext, and_left, and_right, and_both, not-true}
+use Rattle.folds.proofs.Below.{tally-ext, and_left, and_right, and_both, and-false, not-true}
 use Rattle.folds.proofs.Column.{column-at, column-over}
 use Rattle.view.specs.View.{max_points}
 use Rattle.peel.specs.Peel.{live, live_sides, leaf}
-use Rattle.peel.specs.Work.{state_of, states_of, is_point, lives_at, near_at, index_at, live_beside, leaf_at, Fits}
+use Rattle.peel.specs.Work.{state_of, states_of, is_live, is_weak, lives_at, near_at, index_at, live_beside, leaf_at}
+use Rattle.peel.specs.declared.state.State.{State}
+use Rattle.peel.specs.declared.state.State.TheVariants.{Dead}
 use Rattle.folds.proofs.Counting.{not_yes, tally-lost}
 use Rattle.peel.proofs.Rounds.{Ends}
 
@@ -68,75 +69,63 @@ module _ (alive : ℕ → Bool) (near by_idx : ℕ → ℕ) (sides : List ℕ) (
 
 -- ---- the states of ranks
 
--- past the points none is live
-pub dead-beyond : {ranks state sides : List ℕ} → Fits ranks state sides → (k : ℕ) → max_points ≤ k → lives_at state k ≡ false
-dead-beyond {ranks} {state} fits k h =
-    not-true (lives_at state k) (λ e. omega (arith, h, fits.within k (ap not (ne_eqb (get_or state k 0) 0 (λ z. omega (arith, z, ltb-true 1 (get_or state k 0) e))))))
-
-module _ (ranks state sides : List ℕ) (k : ℕ) where
-  pub leaf-point : leaf_at ranks state sides k ≡ true → is_point state k ≡ true
+module _ (n : ℕ) (ranks : List ℕ) (state : List State) (sides : List ℕ) (k : ℕ) where
+  pub leaf-by : (t : Bool) → is_weak (get_or state k Dead) ≡ t → t && ltb (live_beside n ranks state sides (length sides) k) 2 ≡ leaf_at n ranks state sides k
   unfolding leaf_at
-  leaf-point e = ap not (ne_eqb (get_or state k 0) 0 (λ z. omega (arith, z, eqb-true (get_or state k 0) 3 (and_left (eqb (get_or state k 0) 3) _ e))))
-
-  pub leaf-by : (t : Bool) → eqb (get_or state k 0) 3 ≡ t → t && ltb (live_beside ranks state sides (length sides) k) 2 ≡ leaf_at ranks state sides k
-  unfolding leaf_at
-  leaf-by t e = sym (ap (λ (x : Bool). x && ltb (live_beside ranks state sides (length sides) k) 2) e)
+  leaf-by t e = sym (ap (λ (x : Bool). x && ltb (live_beside n ranks state sides (length sides) k) 2) e)
 
 module _ (n : ℕ) (lives weak : ℕ → Bool) where
-  pub states-over : (k : ℕ) → n ≤ k → get_or (states_of n lives weak) k 0 ≡ 0
-  states-over k h = column-over max_points 0 n (λ (k : ℕ). state_of (lives k) (weak k)) k h
+  pub states-over : (k : ℕ) → n ≤ k → get_or (states_of n lives weak) k Dead ≡ Dead
+  states-over k h = column-over max_points Dead n (λ (k : ℕ). state_of (lives k) (weak k)) k h
 
-  pub states-at : (k : ℕ) → k < n → get_or (states_of n lives weak) k 0 ≡ state_of (lives k) (weak k)
-  states-at k h = column-at max_points 0 n (λ (k : ℕ). state_of (lives k) (weak k)) k h
-
-  pub point-is : (k : ℕ) → is_point (states_of n lives weak) k ≡ ltb k n
-  point-is k = elim (dec_lt k n) [
-    | yes h ↦ ap (λ (s : ℕ). not (eqb s 0)) (states-at k h) ∙ go (lives k) (weak k) ∙ sym (lt-ltb k n h)
-    | no f ↦ let h : n ≤ k = omega (arith, f) in ap (λ (s : ℕ). not (eqb s 0)) (states-over k h) ∙ sym (le-ltb k n h)
-  ]
-    where
-      go : (l w : Bool) → not (eqb (state_of l w) 0) ≡ true
-      go true true = refl
-      go true false = refl
-      go false w = refl
+  pub states-at : (k : ℕ) → k < n → get_or (states_of n lives weak) k Dead ≡ state_of (lives k) (weak k)
+  states-at k h = column-at max_points Dead n (λ (k : ℕ). state_of (lives k) (weak k)) k h
 
   module _ (below : (k : ℕ) → lives k ≡ true → k < n) where
     -- a state is read as a test of what is live, and of whether it is weak
-    read : (t : ℕ → Bool) (u : Bool → Bool → Bool) → ((l w : Bool) → t (state_of l w) ≡ u l w) → t 0 ≡ false → ((w : Bool) → u false w ≡ false) → (k : ℕ) → t (get_or (states_of n lives weak) k 0) ≡ u (lives k) (weak k)
+    read : (t : State → Bool) (u : Bool → Bool → Bool) → ((l w : Bool) → t (state_of l w) ≡ u l w) → t Dead ≡ false → ((w : Bool) → u false w ≡ false) → (k : ℕ) → t (get_or (states_of n lives weak) k Dead) ≡ u (lives k) (weak k)
     read t u e z f k = elim (dec_lt k n) [
       | yes h ↦ ap t (states-at k h) ∙ e (lives k) (weak k)
       | no g ↦ ap t (states-over k (omega (arith, g))) ∙ z ∙ sym (ap (λ (l : Bool). u l (weak k)) (not-true (lives k) (λ e. g (below k e))) ∙ f (weak k))
     ]
 
-    pub lives-is : (k : ℕ) → lives_at (states_of n lives weak) k ≡ lives k
-    lives-is k = read (λ (s : ℕ). ltb 1 s) (λ (l w : Bool). l) go refl (λ w. refl) k
+    lives-is : (k : ℕ) → lives_at (states_of n lives weak) k ≡ lives k
+    lives-is k = read is_live (λ (l w : Bool). l) go refl (λ w. refl) k
       where
-        go : (l w : Bool) → ltb 1 (state_of l w) ≡ l
+        go : (l w : Bool) → is_live (state_of l w) ≡ l
         go true true = refl
         go true false = refl
         go false w = refl
 
-    pub weak-is : (k : ℕ) → eqb (get_or (states_of n lives weak) k 0) 3 ≡ lives k && weak k
-    weak-is k = read (λ (s : ℕ). eqb s 3) (λ (l w : Bool). l && w) go refl (λ w. refl) k
+    -- of a point
+    pub lives-below : (k : ℕ) → ltb k n && lives_at (states_of n lives weak) k ≡ lives k
+    lives-below k = rw (lives-is k) (go (lives k) refl)
       where
-        go : (l w : Bool) → eqb (state_of l w) 3 ≡ l && w
+        go : (l : Bool) → lives k ≡ l → ltb k n && l ≡ l
+        go true e = rw (lt-ltb k n (below k e)) refl
+        go false e = and-false (ltb k n)
+
+    pub weak-is : (k : ℕ) → is_weak (get_or (states_of n lives weak) k Dead) ≡ lives k && weak k
+    weak-is k = read is_weak (λ (l w : Bool). l && w) go refl (λ w. refl) k
+      where
+        go : (l w : Bool) → is_weak (state_of l w) ≡ l && w
         go true true = refl
         go true false = refl
         go false w = refl
 
 -- an end by the states is an end
 pub leaf-is : (n : ℕ) (alive weak gone : ℕ → Bool) → ((k : ℕ) → alive k ≡ true → k < n) → (ranks sides : List ℕ) (k : ℕ)
-    → leaf_at ranks (states_of n (live alive (index_at ranks) gone) weak) sides k ≡ leaf alive (near_at ranks) (index_at ranks) sides weak gone k
+    → leaf_at n ranks (states_of n (live alive (index_at ranks) gone) weak) sides k ≡ leaf alive (near_at ranks) (index_at ranks) sides weak gone k
 unfolding leaf leaf_at live_sides
 leaf-is n alive weak gone below ranks sides k =
-    ap (λ (x : Bool). x && ltb (tally (λ (i : ℕ). lives_at states (near_at ranks (25 * k + get_or sides i 0))) (length sides)) 2) (weak-is n lives weak within k)
-    ∙ ap (λ (m : ℕ). (lives k && weak k) && ltb m 2) (tally-ext _ _ (length sides) (λ i h. lives-is n lives weak within (near_at ranks (25 * k + get_or sides i 0))))
+    ap (λ (x : Bool). x && ltb (live_beside n ranks states sides (length sides) k) 2) (weak-is n lives weak within k)
+    ∙ ap (λ (m : ℕ). (lives k && weak k) && ltb m 2) (tally-ext _ _ (length sides) (λ i h. lives-below n lives weak within (near_at ranks (25 * k + get_or sides i 0))))
     ∙ regroup (lives k) (weak k) _
   where
     lives : ℕ → Bool
     lives = live alive (index_at ranks) gone
 
-    states : List ℕ
+    states : List State
     states = states_of n lives weak
 
     within : (k : ℕ) → lives k ≡ true → k < n

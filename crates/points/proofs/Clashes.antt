@@ -1,14 +1,15 @@
--- The conditions of numbers 8, 9 and 14, on the entries in the order of the cells, and of the indices. Assumes nothing.
+-- The conditions of numbers 8, 9 and 14, on neighbours in the order of the cells, and of the indices. Assumes nothing.
 use mathlib.Core.Path.{◌≡◌, refl, sym, ◌∙◌}
 use mathlib.Core.Bool.{Bool, true, false, not, ◌&&◌, ◌||◌, true≢false}
 use mathlib.Core.List.{List}
-use Prim.Native.Nat.{ℕ, ◌+◌, ◌-◌, ◌*◌, ◌^◌, ◌≤◌, ◌<◌}
+use Prim.Native.Nat.{ℕ, ◌+◌, ◌-◌, ◌*◌, ◌/◌, ◌%◌, ◌^◌, ◌≤◌, ◌<◌}
 use native.Mathlib.Omega.{arith}
 use lib.Dec.{eqb}
 use lib.ListN.{get_or}
-use borrow.Author.Tests.{eqb-true, eq-eqb}
+use borrow.Author.Tests.{eqb-true, eq-eqb, ne_eqb}
 use Rattle.folds.specs.Among.{any_in, pair_in}
 use Rattle.folds.proofs.Among.{any-list, pair-ext}
+use Rattle.folds.specs.Below.{some}
 use Rattle.folds.proofs.Below.{some-ext, some-fails, and_left, and_right, and_both, both_ways}
 use Rattle.view.specs.View.{max_points}
 use Rattle.cells.specs.Points.{Point, biased, key_of}
@@ -17,14 +18,13 @@ use Rattle.cells.proofs.Keys.{biased-range}
 use Rattle.sheet_file.specs.Bytes.{Bytes}
 use Rattle.sheet_file.specs.declared.Layout.{Layout}
 use Rattle.sheet_file.proofs.Words.{le32-small}
-use Rattle.sort.specs.Packed.{placed}
+use Rattle.sort.specs.Packed.{entries_of, packed_places, placed}
 use Rattle.points.specs.Records.{ith_point, points_in}
-use Rattle.points.specs.Refusals.{off_range, same_cell, same_position, two_positions, same_strength, two_strengths}
-use Rattle.points.specs.Entries.{key_by, by_index, together, ith_key, entries_of, entries_clash, neighbours_clash}
-use Rattle.points.specs.declared.Part.{Part}
-use Rattle.points.specs.declared.Part.TheVariants.{Cell, Position, Strength}
-use Rattle.points.proofs.Ordering.{entry_at, entry_key}
-use Rattle.points.proofs.Neighbours.{clash, eqb_swap, sorted-neighbours}
+use Rattle.points.specs.Refusals.{off_range, same_cell, same_position, same_strength}
+use Rattle.points.specs.Entries.{clash, Likeness, never}
+use Rattle.sort.proofs.Entries.{entry_at}
+use Rattle.points.proofs.Ordering.{entry_key}
+use Rattle.points.proofs.Neighbours.{eqb_swap, sorted-neighbours}
 
 -- ---- entries and pairs
 
@@ -37,29 +37,50 @@ same-through p q r a b =
 strength-through : (p q r : Point) → same_strength p q ≡ true → same_strength q r ≡ true → same_strength p r ≡ true
 strength-through p q r a b = eq-eqb p.strength r.strength (eqb-true p.strength q.strength a ∙ eqb-true q.strength r.strength b)
 
-through : (part : Part) (p q r : Point) → together part p q ≡ true → together part q r ≡ true → together part p r ≡ true
-through Cell p q r a c = a
-through Position p q r a c = same-through p q r a c
-through Strength p q r a c = strength-through p q r a c
+-- two points of one cell may never stand together; of one index those with one position may, and those with one strength
+pub never_alike : Likeness never
+never_alike = record { through = λ p q r a b. a; back = λ p q. refl }
 
-back : (part : Part) (p q : Point) → together part p q ≡ together part q p
-back Cell p q = refl
-back Position p q = rw (eqb_swap p.x q.x, eqb_swap p.y q.y)
-back Strength p q = eqb_swap p.strength q.strength
+pub position_alike : Likeness same_position
+position_alike = record { through = same-through; back = λ p q. rw (eqb_swap p.x q.x, eqb_swap p.y q.y) }
 
-module _ (file : List ℕ) (f : Layout) (few : f.count ≤ max_points) where
-  -- two neighbouring entries clash just where two points do
-  entries-and-pairs : (part : Part)
-      → neighbours_clash file f part (entries_of file f.points f.count (by_index part)) ≡ pair_in (clash (key_by (by_index part)) (together part)) (points_in file f)
-  unfolding points_in entries_clash
-  entries-and-pairs part =
-      let at = f.points in
-      let n = f.count in
-      let b = by_index part in
-      some-ext (λ (i : ℕ). entries_clash file f part (get_or (entries_of file at n b) i 0) (get_or (entries_of file at n b) (i + 1) 0))
-      (λ (r : ℕ). clash (key_by b) (together part) (ith_point file f (placed (ith_key file at b) n r)) (ith_point file f (placed (ith_key file at b) n (r + 1)))) (n - 1)
-      (λ i h. rw (entry_key file at n b few i (omega arith), entry_key file at n b few (i + 1) (omega arith), entry_at file at n b few i (omega arith), entry_at file at n b few (i + 1) (omega arith)))
-      ∙ sym (sorted-neighbours (key_by b) (together part) (through part) (back part) (ith_point file f) n (omega arith))
+pub strength_alike : Likeness same_strength
+strength_alike = record { through = strength-through; back = λ p q. eqb_swap p.strength q.strength }
+
+module _ (file : List ℕ) (f : Layout) where
+  -- a test of the points, one by one
+  pub any-listed : (t : Point → Bool) → any_in t (points_in file f) ≡ some (λ (i : ℕ). t (ith_point file f i)) f.count
+  unfolding points_in
+  any-listed t = any-list (ith_point file f) f.count t
+
+  module _ (key : Point → ℕ) where
+    abbrev key_at : ℕ → ℕ
+    key_at i = key (ith_point file f i)
+
+    -- the point at rank r, and whether it clashes with the next
+    abbrev pub point_at : ℕ → Point
+    point_at r = ith_point file f (get_or (entries_of f.count key_at) r 0 % packed_places)
+
+    module _ (same : Point → Point → Bool) where
+      abbrev pub clashes_at : ℕ → Bool
+      clashes_at r = clash key same (point_at r) (point_at (r + 1))
+
+      -- two points clash just where two neighbours in the order of the key do
+      pub neighbours-and-pairs : f.count ≤ max_points → Likeness same → pair_in (clash key same) (points_in file f) ≡ some clashes_at (f.count - 1)
+      unfolding points_in
+      neighbours-and-pairs few alike =
+          sorted-neighbours key same alike (ith_point file f) f.count (omega arith)
+          ∙ some-ext (λ (r : ℕ). clash key same (ith_point file f (placed key_at f.count r)) (ith_point file f (placed key_at f.count (r + 1)))) clashes_at (f.count - 1)
+          (λ r h. rw (entry_at f.count key_at r (omega arith), entry_at f.count key_at (r + 1) (omega arith)))
+
+      -- what is found at two neighbours, by their keys and their places
+      module _ (few : f.count ≤ max_points) (entries : List ℕ) (e : entries ≡ entries_of f.count key_at) (r : ℕ) (l : r + 1 < f.count) where
+        pub same-key : get_or entries r 0 / packed_places ≡ get_or entries (r + 1) 0 / packed_places
+            → {b : Bool} → b ≡ not (same (ith_point file f (get_or entries r 0 % packed_places)) (ith_point file f (get_or entries (r + 1) 0 % packed_places))) → clashes_at r ≡ b
+        same-key k h = rw (eq-eqb (key (point_at r)) (key (point_at (r + 1))) (sym (entry_key f.count key_at few r (omega arith)) ∙ rw e at k ∙ entry_key f.count key_at few (r + 1) l)) (sym (rw e at h))
+
+        pub other_key : (get_or entries r 0 / packed_places ≡ get_or entries (r + 1) 0 / packed_places → ⊥) → clashes_at r ≡ false
+        other_key k = rw (ne_eqb (key (point_at r)) (key (point_at (r + 1))) (λ q. k (rw e (entry_key f.count key_at few r (omega arith) ∙ q ∙ sym (entry_key f.count key_at few (r + 1) l)))))
 
 -- ---- cells in range
 
@@ -78,7 +99,7 @@ ranged p hu hv e = go (within (signed p.u)) (within (signed p.v)) refl refl e
     go false b f g h = absurd (true≢false h)
 
 -- one key, one cell
-pub cells-by-key : (p q : Point) → Ranged p → Ranged q → same_cell p q ≡ clash (key_by false) (together Cell) p q
+pub cells-by-key : (p q : Point) → Ranged p → Ranged q → same_cell p q ≡ clash key_of never p q
 cells-by-key p q r t = both_ways (same_cell p q) (eqb (key_of p) (key_of q) && true) to from ∙ refl
   where
     to : same_cell p q ≡ true → eqb (key_of p) (key_of q) && true ≡ true
@@ -103,25 +124,8 @@ module _ (file : List ℕ) (f : Layout) where
   pub all-ranged : Bytes file → any_in off_range (points_in file f) ≡ false → (i : ℕ) → i < f.count → Ranged (ith_point file f i)
   all-ranged b e i h = ranged (ith_point file f i) (le32-small file b (f.points + 20 * i)) (le32-small file b (f.points + 20 * i + 4)) (none-off off_range e i h)
 
-  same-cells : Bytes file → any_in off_range (points_in file f) ≡ false → pair_in same_cell (points_in file f) ≡ pair_in (clash (key_by false) (together Cell)) (points_in file f)
+  pub same-cells : Bytes file → any_in off_range (points_in file f) ≡ false → pair_in same_cell (points_in file f) ≡ pair_in (clash key_of never) (points_in file f)
   unfolding points_in
   same-cells b e =
-      pair-ext (ith_point file f) f.count same_cell (clash (key_by false) (together Cell))
+      pair-ext (ith_point file f) f.count same_cell (clash key_of never)
       (λ i j ij jn. cells-by-key (ith_point file f i) (ith_point file f j) (all-ranged b e i (omega arith)) (all-ranged b e j jn))
-
--- ---- what the search for clashing entries finds
-
-module _ (file : List ℕ) (f : Layout) (few : f.count ≤ max_points) (entries : List ℕ) where
-  pub clashes : (part : Part) → entries ≡ entries_of file f.points f.count (by_index part) → {r : Bool} → r ≡ neighbours_clash file f part entries
-      → pair_in (clash (key_by (by_index part)) (together part)) (points_in file f) ≡ r
-  clashes part e h = sym (h ∙ rw e (entries-and-pairs file f few part))
-
-  pub cells-found : Bytes file → any_in off_range (points_in file f) ≡ false → entries ≡ entries_of file f.points f.count false
-      → {r : Bool} → r ≡ neighbours_clash file f Cell entries → pair_in same_cell (points_in file f) ≡ r
-  cells-found b g e h = same-cells file f b g ∙ clashes Cell e h
-
-  pub positions-found : entries ≡ entries_of file f.points f.count true → {r : Bool} → r ≡ neighbours_clash file f Position entries → pair_in two_positions (points_in file f) ≡ r
-  positions-found e h = clashes Position e h
-
-  pub strengths-found : entries ≡ entries_of file f.points f.count true → {r : Bool} → r ≡ neighbours_clash file f Strength entries → pair_in two_strengths (points_in file f) ≡ r
-  strengths-found e h = clashes Strength e h

@@ -2,3 +2,4 @@ pub mod Records
 pub mod Refusals
 pub mod Entries
 pub mod Table
+pub mod Held

@@ -1,9 +1,10 @@
 -- The points of a file, in the order in which it lists them. Assumes nothing.
-use Rattle.std.specs.Prelude.{◌≡◌, true, cond, List, ℕ, ◌+◌, ◌*◌, ◌≤◌, length}
+use Rattle.std.specs.Prelude.{◌≡◌, true, cond, List, ℕ, ◌+◌, ◌*◌, ◌≤◌, length, is_some}
 use Rattle.folds.specs.Lists.{list_of}
 use Rattle.view.specs.View.{max_points}
 use Rattle.cells.specs.Points.{Point}
 use Rattle.sheet_file.specs.Bytes.{le32}
+use Rattle.sheet_file.specs.Frame.{weights_of}
 use Rattle.sheet_file.specs.declared.Layout.{Layout}
 
 -- "each point is u i32, v i32, index u32, x f32, y f32": the point in the 20 bytes from a position on, with its strength
@@ -19,7 +20,7 @@ point_in file at strength = record {
 
 -- "Tag 4 .. carries a fraction f32 and one strength f32 per point, in the points' order": the strength of point i; 0 without tag 4
 abbrev pub ith_strength : List ℕ → Layout → ℕ → ℕ
-ith_strength file f i = cond f.weighed (le32 file (f.strengths + 4 + 4 * i)) 0
+ith_strength file f i = cond (is_some f.weights) (le32 file ((weights_of f).at + 4 + 4 * i)) 0
 
 -- point i of a file whose fields stand so, and all of them
 abbrev pub ith_point : List ℕ → Layout → ℕ → Point
@@ -37,4 +38,4 @@ pub record RecordsFit (file : List ℕ) (at n : ℕ) : Type 0 where
 -- and each with its strength, if there is a tag 4
 pub record PointsFit (file : List ℕ) (f : Layout) : Type 0 where
   pub records : RecordsFit file f.points f.count
-  pub weights : f.weighed ≡ true → f.strengths + 4 + 4 * f.count ≤ length file
+  pub weights : is_some f.weights ≡ true → (weights_of f).at + 4 + 4 * f.count ≤ length file

@@ -23,8 +23,8 @@ use Rattle.peel_rounds.specs.Rounds.{none_twice}
 use Rattle.peel_rounds.proofs.Lattices.{square-once}
 use Rattle.predict.specs.Predict.{opposite, side_at, midpoint, is_pair, pair_count, mean_of, prediction}
 use Rattle.predict.specs.Theorems.{Opposed, both_there, NoPairExactly, WithPairs, Met}
-use Rattle.predict.specs.declared.Prediction.{Prediction}
-use Rattle.predict.specs.declared.Prediction.TheVariants.{NoPair, Pairs}
+use Rattle.predict.specs.Predict.{Prediction}
+use Rattle.std.specs.Prelude.{None, Some}
 use Rattle.predict.proofs.MinusZero.{minus-zero}
 use Rattle.predict.proofs.Theorems.{square-opposed, half-of-offsets, no-pair-exactly, with-pairs, depends-on-kept}
 
@@ -101,7 +101,7 @@ hex-no-pair = no-pair-exactly hex_sides hex-opposed
 -- no pair is found though both points of one are kept: the list has only the backward offset, or one that is not within 2 and has the place of
 -- the cell itself
 abbrev Missed : List Offset → List Bool → Type 0
-Missed sides conditions = ((x y : Offset → Float) → prediction sides (λ o. true) x y ≡ NoPair) × (both_there sides (λ o. true) 0 ≡ true) × (are_near sides ∷ paired (places sides) ∷ [] ≡ conditions)
+Missed sides conditions = ((x y : Offset → Float) → prediction sides (λ o. true) x y ≡ None) × (both_there sides (λ o. true) 0 ≡ true) × (are_near sides ∷ paired (places sides) ∷ [] ≡ conditions)
 
 backward-alone : Missed (prev_u ∷ []) (true ∷ false ∷ [])
 unfolding prediction pair_count tally every some paired
@@ -127,7 +127,7 @@ abbrev row : List Offset
 row = next_u ∷ prev_u ∷ []
 
 abbrev answer : ℕ → ℕ → ℕ → Prediction
-answer n x y = Pairs (record { x = f32 x; y = f32 y; n_axis_pairs = n })
+answer n x y = Some (record { x = f32 x; y = f32 y; n_axis_pairs = n })
 
 -- what is predicted where the points at these offsets are kept, from the x and y of the four
 abbrev predicted : List Offset → List ℕ → List ℕ → Prediction

@@ -30,7 +30,7 @@ use Rattle.offsets.specs.declared.Offset.{Offset}
 use Rattle.predict.specs.Predict.{opposite, is_forward, side_at, is_pair, midpoint, pair_count, mean_of, prediction}
 use Rattle.predict.specs.Theorems.{both_there, Met}
 use Rattle.predict.specs.declared.PredictedPosition.{PredictedPosition}
-use Rattle.predict.specs.declared.Prediction.TheVariants.{Pairs}
+use Rattle.std.specs.Prelude.{Some}
 use Rattle.predict.proofs.Theorems.{counted-some}
 
 -- ---- sums
@@ -127,7 +127,7 @@ module _ (sides : List Offset) (there : Offset → Bool) (few : length sides ≤
           let both = and_right (is_forward o) (both_there sides there i) e in
           half-way (f o) (f (opposite o)) (each o (i, h, inl refl) (and_left (there o) (there (opposite o)) both)) (each (opposite o) (i, h, inr refl) (and_right (there o) (there (opposite o)) both))
 
-  pub prediction-finite : (x y : Offset → Float) (p : PredictedPosition) → ((o : Offset) → Met sides o → there o ≡ true → Within 14 (x o) × Within 14 (y o)) → prediction sides there x y ≡ Pairs p
+  pub prediction-finite : (x y : Offset → Float) (p : PredictedPosition) → ((o : Offset) → Met sides o → there o ≡ true → Within 14 (x o) × Within 14 (y o)) → prediction sides there x y ≡ Some p
       → T (finite p.x) × T (finite p.y)
   prediction-finite x y p each e =
       let c = counted-some sides there x y p e in

@@ -1,49 +1,36 @@
--- What the inner functions lean on: the sums over places are those over offsets. Assumes nothing.
+-- What the inner functions lean on: the sums over the first offsets. Assumes nothing.
 use mathlib.Core.Path.{◌≡◌, refl}
 use mathlib.Core.Bool.{Bool, true, false}
 use mathlib.Core.List.{List}
-use Prim.Native.Nat.{ℕ, ◌+◌, ◌≤◌, ◌<◌}
-use lib.Dec.{eqb, ltb}
-use lib.ListN.{get_or}
-use lib.Ieee.{Float}
-use borrow.Author.Tests.{ltb-true, lt-ltb, le-ltb}
+use Prim.Native.Nat.{ℕ, ◌+◌, ◌≤◌}
+use lib.ListN.{length}
 use Rattle.folds.specs.Arith.{zero_f}
 use Rattle.folds.specs.Below.{tally, sum_of}
-use Rattle.folds.proofs.Below.{and_left, tally-more, sum_more, tally-le}
+use Rattle.folds.proofs.Below.{tally-more, sum_more, tally-le}
+use Rattle.offsets.specs.declared.Offset.{Offset}
 use Rattle.view.specs.View.{View}
-use Rattle.patches.specs.Patches.{survives}
-use Rattle.predict.specs.Sums.{pair_at, midpoint_at, sums_with, sums_to}
+use Rattle.predict.specs.Predict.{side_at, midpoint, is_pair, pair_count, mean_of, prediction}
+use Rattle.predict.specs.Fills.{kept_at, value_at, prediction_at}
+use Rattle.predict.specs.Sums.{sums_with, sums_to, mean_by}
 
--- ---- a point without a mark
+module _ (w : View) (marks : List ℕ) (k : ℕ) (sides : List Offset) where
+  abbrev pair : ℕ → Bool
+  pair = is_pair sides (kept_at w marks k)
 
-pub not-kept : (n : ℕ) (marks : List ℕ) (j : ℕ) → n ≤ j → false ≡ survives n marks j
-not-kept n marks j h = rw (le-ltb j n h)
-
-pub kept-is : (n : ℕ) (marks : List ℕ) (j : ℕ) → j < n → eqb (get_or marks j 0) 0 ≡ survives n marks j
-kept-is n marks j h = rw (lt-ltb j n h)
-
-pub kept-below : (n : ℕ) (marks : List ℕ) (j : ℕ) → survives n marks j ≡ true → j < n
-kept-below n marks j e = ltb-true j n (and_left (ltb j n) (eqb (get_or marks j 0) 0) e)
-
--- ---- the places of a list
-
-module _ (w : View) (k : ℕ) (marks sides : List ℕ) where
-  abbrev pair_of : ℕ → Bool
-  pair_of j = pair_at w k marks (get_or sides j 0)
-
-  abbrev middle_of : (ℕ → Float) → ℕ → Float
-  middle_of f j = midpoint_at w k f (get_or sides j 0)
-
-  pub sums_none : record { x = zero_f; y = zero_f; pairs = 0 } ≡ sums_to w k marks sides 0
+  pub sums_none : record { x = zero_f; y = zero_f; pairs = 0 } ≡ sums_to w marks k sides 0
   unfolding tally sum_of
   sums_none = refl
 
-  pub sums-more : (i : ℕ) → sums_with w k marks (get_or sides i 0) (sums_to w k marks sides i) ≡ sums_to w k marks sides (i + 1)
-  sums-more i = go (pair_of i) refl
+  pub sums-more : (i : ℕ) → sums_with w marks k (side_at sides i) (sums_to w marks k sides i) ≡ sums_to w marks k sides (i + 1)
+  sums-more i = go (pair i) refl
     where
-      go : (b : Bool) → pair_of i ≡ b → sums_with w k marks (get_or sides i 0) (sums_to w k marks sides i) ≡ sums_to w k marks sides (i + 1)
-      go true e = rw (tally-more, sum_more pair_of (middle_of w.x) i, sum_more pair_of (middle_of w.y) i, e)
-      go false e = rw (tally-more, sum_more pair_of (middle_of w.x) i, sum_more pair_of (middle_of w.y) i, e)
+      go : (b : Bool) → pair i ≡ b → sums_with w marks k (side_at sides i) (sums_to w marks k sides i) ≡ sums_to w marks k sides (i + 1)
+      go true e = rw (tally-more, sum_more pair (midpoint sides (value_at w w.x k)) i, sum_more pair (midpoint sides (value_at w w.y k)) i, e)
+      go false e = rw (tally-more, sum_more pair (midpoint sides (value_at w w.x k)) i, sum_more pair (midpoint sides (value_at w w.y k)) i, e)
 
-  pub few-pairs : (i : ℕ) → (sums_to w k marks sides i).pairs ≤ i
-  few-pairs i = tally-le pair_of i
+  pub few-pairs : (i : ℕ) → (sums_to w marks k sides i).pairs ≤ i
+  few-pairs i = tally-le pair i
+
+  pub mean-is : mean_by (sums_to w marks k sides (length sides)) ≡ prediction_at w sides marks k
+  unfolding prediction mean_of pair_count
+  mean-is = refl

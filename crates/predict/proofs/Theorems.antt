@@ -21,7 +21,7 @@ use Rattle.peel_rounds.proofs.Bound.{opposite as opposite-in, different}
 use Rattle.predict.specs.Predict.{opposite, is_forward, side_at, is_pair, midpoint, pair_count, mean_of, prediction}
 use Rattle.predict.specs.Theorems.{Opposed, HalfOfOffsets, both_there, NoPairTheorem, PairsTheorem, Met, SeenAlike, DependsOnKept}
 use Rattle.predict.specs.declared.PredictedPosition.{PredictedPosition}
-use Rattle.predict.specs.declared.Prediction.TheVariants.{NoPair, Pairs}
+use Rattle.std.specs.Prelude.{None, Some}
 use Rattle.predict.proofs.Places.{forward-place, opposite-place}
 use Rattle.predict.proofs.Counting.{tally-apart, tally-into}
 
@@ -138,25 +138,25 @@ module _ (sides : List Offset) (there : Offset → Bool) (x y : Offset → Float
   abbrev position : PredictedPosition
   position = record { x = mean_of sides there x; y = mean_of sides there y; n_axis_pairs = pair_count sides there }
 
-  prediction-is : prediction sides there x y ≡ cond (eqb (pair_count sides there) 0) NoPair (Pairs position)
+  prediction-is : prediction sides there x y ≡ cond (eqb (pair_count sides there) 0) None (Some position)
   unfolding prediction
   prediction-is = refl
 
-  by_count : (b : Bool) → eqb (pair_count sides there) 0 ≡ b → prediction sides there x y ≡ cond b NoPair (Pairs position)
-  by_count b e = prediction-is ∙ ap (λ (b : Bool). cond b NoPair (Pairs position)) e
+  by_count : (b : Bool) → eqb (pair_count sides there) 0 ≡ b → prediction sides there x y ≡ cond b None (Some position)
+  by_count b e = prediction-is ∙ ap (λ (b : Bool). cond b None (Some position)) e
 
   none-counted : ((i : ℕ) → i < length sides → both_there sides there i ≡ false) → pair_count sides there ≡ 0
   unfolding pair_count
   none-counted h = tally-no (is_pair sides there) (length sides) (λ i l. ap (λ (b : Bool). is_forward (side_at sides i) && b) (h i l) ∙ and-false (is_forward (side_at sides i)))
 
-  counted_none : prediction sides there x y ≡ NoPair → pair_count sides there ≡ 0
+  counted_none : prediction sides there x y ≡ None → pair_count sides there ≡ 0
   counted_none e = go (eqb (pair_count sides there) 0) refl
     where
       go : (b : Bool) → eqb (pair_count sides there) 0 ≡ b → pair_count sides there ≡ 0
       go true q = eqb-true (pair_count sides there) 0 q
       go false q = let r = by_count false q in let z : ◌≡◌ {A = ℕ} 0 1 = cc in absurd (omega arith)
 
-  pub counted-some : (p : PredictedPosition) → prediction sides there x y ≡ Pairs p → (p ≡ position) × (pair_count sides there ≡ 0 → ⊥)
+  pub counted-some : (p : PredictedPosition) → prediction sides there x y ≡ Some p → (p ≡ position) × (pair_count sides there ≡ 0 → ⊥)
   counted-some p e = go (eqb (pair_count sides there) 0) refl
     where
       go : (b : Bool) → eqb (pair_count sides there) 0 ≡ b → (p ≡ position) × (pair_count sides there ≡ 0 → ⊥)

@@ -1,14 +1,11 @@
 -- The fills of a sheet: what is predicted for each dropped point from the kept ones, by rank. marks has 0 at each rank that is kept. Assumes
 -- nothing.
-use Rattle.std.specs.Prelude.{Bool, cond, List, [], ◌∷◌, ℕ, eqb, Float, get_or}
+use Rattle.std.specs.Prelude.{Bool, cond, List, ℕ, None, eqb, Float, get_or}
 use Rattle.folds.specs.Column.{column}
 use Rattle.offsets.specs.declared.Offset.{Offset}
-use Rattle.offsets.specs.Offsets.{offset_of}
 use Rattle.view.specs.View.{View, max_points, rank_at}
 use Rattle.patches.specs.Patches.{survives}
-use Rattle.predict.specs.Predict.{prediction}
-use Rattle.predict.specs.declared.Prediction.{Prediction}
-use Rattle.predict.specs.declared.Prediction.TheVariants.{NoPair}
+use Rattle.predict.specs.Predict.{Prediction, prediction}
 
 -- "the point .. kept": there is one at offset o from rank k, and it has no mark
 abbrev pub kept_at : View → List ℕ → ℕ → Offset → Bool
@@ -25,15 +22,9 @@ module _ (w : View) (sides : List Offset) (marks : List ℕ) where
 
   -- "For each dropped cell": a kept point has none
   abbrev pub fill_at : ℕ → Prediction
-  fill_at k = cond (eqb (get_or marks k 0) 0) NoPair (prediction_at k)
+  fill_at k = cond (eqb (get_or marks k 0) 0) None (prediction_at k)
 
   -- of all ranks
   unfoldable pub fills_of : List Prediction
   unfolding column prediction
-  fills_of = column max_points NoPair w.count fill_at
-
--- ---- for the code: offsets by their places
-
-abbrev pub offsets_of : List ℕ → List Offset
-offsets_of [] = []
-offsets_of (d ∷ l) = offset_of d ∷ offsets_of l
+  fills_of = column max_points None w.count fill_at

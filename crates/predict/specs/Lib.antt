@@ -2,3 +2,4 @@ pub mod Predict
 pub mod Fills
 pub mod Sums
 pub mod Theorems
+pub mod Steps

@@ -1,7 +1,7 @@
 -- "the position `predict_grid_position` finds from the kept points on the square lattice, with its number of pairs, or say that no pair exists"
 -- (document 02, A.7): the rule of predict.rs with its operations in its order, over any list of offsets and anything that is found at them.
 -- Assumes nothing.
-use Rattle.std.specs.Prelude.{Bool, not, ◌&&◌, ◌||◌, List, ℕ, eqb, pos, neg_ℤ, length, get_or, Float}
+use Rattle.std.specs.Prelude.{Bool, not, ◌&&◌, ◌||◌, List, ℕ, Option, None, Some, eqb, pos, neg_ℤ, length, get_or, Float}
 use Rattle.std.proofs.Math.Bool.{cond}
 use Rattle.std.specs.Int.Signed.{lt_z}
 use Rattle.std.specs.Float.Ieee.{binary32, of_bits, of_int, add, mul, div}
@@ -10,8 +10,11 @@ use Rattle.folds.specs.Below.{tally, sum_of}
 use Rattle.float.specs.Constants.{half}
 use Rattle.offsets.specs.declared.Offset.{Offset}
 use Rattle.offsets.specs.Offsets.{±0, offset, own}
-use Rattle.predict.specs.declared.Prediction.{Prediction}
-use Rattle.predict.specs.declared.Prediction.TheVariants.{NoPair, Pairs}
+use Rattle.predict.specs.declared.PredictedPosition.{PredictedPosition}
+
+-- what is predicted for a cell, if there is a pair
+abbrev pub Prediction : Type 0
+Prediction = Option PredictedPosition
 
 -- the offset (−du, −dv)
 abbrev pub opposite : Offset → Offset
@@ -49,4 +52,4 @@ module _ (sides : List Offset) where
     -- "or the finding that no pair exists"
     unfoldable pub prediction : (Offset → Float) → (Offset → Float) → Prediction
     unfolding pair_count mean_of
-    prediction x y = cond (eqb pair_count 0) NoPair (Pairs (record { x = mean_of x; y = mean_of y; n_axis_pairs = pair_count }))
+    prediction x y = cond (eqb pair_count 0) None (Some (record { x = mean_of x; y = mean_of y; n_axis_pairs = pair_count }))

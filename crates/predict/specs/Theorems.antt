@@ -10,7 +10,7 @@ use Rattle.patches.specs.Reach.{paired}
 use Rattle.peel_rounds.specs.Rounds.{none_twice}
 use Rattle.predict.specs.Predict.{opposite, side_at, midpoint, is_pair, pair_count, prediction}
 use Rattle.predict.specs.declared.PredictedPosition.{PredictedPosition}
-use Rattle.predict.specs.declared.Prediction.TheVariants.{NoPair, Pairs}
+use Rattle.std.specs.Prelude.{None, Some}
 
 -- each offset of the list is within 2, and with each stands its opposite
 pub record Opposed (sides : List Offset) : Type 0 where
@@ -32,8 +32,8 @@ both_there sides there i = there (side_at sides i) && there (opposite (side_at s
 module _ (sides : List Offset) (there : Offset → Bool) (x y : Offset → Float) where
   -- "There is no pair exactly where no two kept points are at opposite neighbours of the cell."
   pub record NoPairExactly : Type 0 where
-    pub none : ((i : ℕ) → i < length sides → both_there sides there i ≡ false) → prediction sides there x y ≡ NoPair
-    pub none_only : prediction sides there x y ≡ NoPair → (i : ℕ) → i < length sides → both_there sides there i ≡ false
+    pub none : ((i : ℕ) → i < length sides → both_there sides there i ≡ false) → prediction sides there x y ≡ None
+    pub none_only : prediction sides there x y ≡ None → (i : ℕ) → i < length sides → both_there sides there i ≡ false
 
   -- a position "with its number of pairs", which is not 0; and where one of them is
   pub record WithPairs (p : PredictedPosition) : Type 0 where
@@ -46,13 +46,13 @@ NoPairTheorem = (sides : List Offset) → Opposed sides → (there : Offset → 
 
 -- of any list
 abbrev pub PairsTheorem : Type 0
-PairsTheorem = (sides : List Offset) (there : Offset → Bool) (x y : Offset → Float) (p : PredictedPosition) → prediction sides there x y ≡ Pairs p → WithPairs sides there x y p
+PairsTheorem = (sides : List Offset) (there : Offset → Bool) (x y : Offset → Float) (p : PredictedPosition) → prediction sides there x y ≡ Some p → WithPairs sides there x y p
 
 -- ---- −0
 
 -- "A −0 comes out only where the division underflows": the sum that is divided is below 0
 abbrev pub MinusZeroTheorem : Type 0
-MinusZeroTheorem = (sides : List Offset) (there : Offset → Bool) (x y : Offset → Float) (p : PredictedPosition) → length sides ≤ 16777216 → prediction sides there x y ≡ Pairs p
+MinusZeroTheorem = (sides : List Offset) (there : Offset → Bool) (x y : Offset → Float) (p : PredictedPosition) → length sides ≤ 16777216 → prediction sides there x y ≡ Some p
     → (p.x ≡ f32 0x8000_0000 → lt (sum_of (is_pair sides there) (midpoint sides x) (length sides)) zero_f ≡ true)
     × (p.y ≡ f32 0x8000_0000 → lt (sum_of (is_pair sides there) (midpoint sides y) (length sides)) zero_f ≡ true)
 

@@ -1,5 +1,6 @@
 -- On every accepted sheet no cosine is NaN, and so a row's edge reason is that of document 01's words: reason 2 where "a continuation cosine" is
 -- "under the least", not only the least of them. Assumes nothing.
+use Rattle.std.specs.Prelude.{Option, Some}
 use mathlib.Core.Path.{◌≡◌, refl, ap, ◌∙◌}
 use mathlib.Core.Bool.{false}
 use mathlib.Core.List.{List}
@@ -19,8 +20,6 @@ use Rattle.grid.proofs.Views.{view-is, ranks-ranked}
 use Rattle.sheet_file.specs.Bytes.{Bytes}
 use Rattle.sheet_file.specs.Limit.{outside}
 use Rattle.sheet_file.specs.declared.EdgeShapeParams.{EdgeShapeParams}
-use Rattle.sheet_file.specs.declared.EdgeGate.{EdgeGate}
-use Rattle.sheet_file.specs.declared.EdgeGate.TheVariants.{On}
 use Rattle.sheet_file.specs.declared.Settings.{Settings}
 use Rattle.points.specs.Refusals.{off_limit}
 use Rattle.ruling.specs.Ruling.{Ruling, accepted, ruling_of}
@@ -78,7 +77,7 @@ place-below ps o k h = rw (← ap (λ (w : View). w.by_idx k) (view-is ps o)) ((
 
 -- "Byte 1: reason", with the gate of tag 2: the reason by each continuation, of the entry that is held under the point's index
 pub reason-by-each : (file buffer : List ℕ) (s : Settings) (ps : List Point) → Bytes file → ruling_of file (length buffer) ≡ accepted s ps
-    → (g : EdgeShapeParams) → s.edge_shape ≡ On g → (k : ℕ) → k < length ps
+    → (g : EdgeShapeParams) → s.edge_shape ≡ Some g → (k : ℕ) → k < length ps
     → get_or (rows_after file buffer) (row_size * k + 1) 0 ≡ reason_number (reason_at g (view_of ps) ((view_of ps).by_idx k))
 unfolding rows_after
 reason-by-each file buffer s ps b e g on k h =
@@ -86,6 +85,6 @@ reason-by-each file buffer s ps b e g on k h =
     ap (λ (r : Ruling). get_or (rows_by buffer r) (row_size * k + 1) 0) e
     ∙ byte-shown (shown_at (judged_for s ps)) (length ps) buffer k 1 h (omega arith)
     ∙ second-byte s ps k
-    ∙ ap (λ (f : List Figures). reason_number (get_or f k no_figures).reason) (figures-are s ps ∙ ap (λ (gate : EdgeGate). gate_figures gate w) on)
+    ∙ ap (λ (f : List Figures). reason_number (get_or f k no_figures).reason) (figures-are s ps ∙ ap (λ (gate : Option EdgeShapeParams). gate_figures gate w) on)
     ∙ ap (λ (f : Figures). reason_number f.reason) (entry-is g w k (rw (count-is ps) h))
     ∙ ap reason_number (cosines-are-numbers file (length buffer) s ps b e g (w.by_idx k) (place-below ps (sound file (length buffer) s ps b e).order k h)).reason

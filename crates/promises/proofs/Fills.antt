@@ -36,8 +36,8 @@ use Rattle.predict.specs.Predict.{opposite, side_at, prediction}
 use Rattle.predict.specs.Fills.{kept_at, value_at, prediction_at, fills_of}
 use Rattle.predict.specs.Theorems.{both_there, NoPairExactly, WithPairs, Met}
 use Rattle.predict.specs.declared.PredictedPosition.{PredictedPosition}
-use Rattle.predict.specs.declared.Prediction.{Prediction}
-use Rattle.predict.specs.declared.Prediction.TheVariants.{NoPair, Pairs}
+use Rattle.predict.specs.Predict.{Prediction}
+use Rattle.std.specs.Prelude.{None, Some}
 use Rattle.predict.proofs.Theorems.{near-opposite, square-opposed, half-of-offsets, no-pair-exactly, with-pairs, depends-on-kept}
 use Rattle.predict.proofs.Finite.{prediction-finite}
 use Rattle.predict.proofs.ByRank.{fill-past, fill-kept, fill-dropped, fills_same}
@@ -111,19 +111,19 @@ module _ (s : Settings) (ps : List Point) where
   unfolding view_of
   count-is = refl
 
-  fill_is : (k : ℕ) → fill_in s ps k ≡ get_or (fills_of w (sides_of s) marks) k NoPair
-  fill_is k = ap (λ (l : List Prediction). get_or l k NoPair) fills-are
+  fill_is : (k : ℕ) → fill_in s ps k ≡ get_or (fills_of w (sides_of s) marks) k None
+  fill_is k = ap (λ (l : List Prediction). get_or l k None) fills-are
 
-  kept-none : (k : ℕ) → kept_rank s ps k ≡ true → fill_in s ps k ≡ NoPair
+  kept-none : (k : ℕ) → kept_rank s ps k ≡ true → fill_in s ps k ≡ None
   kept-none k e = fill_is k ∙ fill-kept w (sides_of s) marks k (omega (arith, count-is, kept-below k e)) (and_right (ltb k n) (eqb (marks_in s ps k) 0) e)
 
   fill-viewed : (k : ℕ) → dropped_rank s ps k ≡ true → fill_in s ps k ≡ prediction_at w (sides_of s) marks k
   fill-viewed k e = fill_is k ∙ fill-dropped w (sides_of s) marks k (omega (arith, count-is, dropped-below k e)) (dropped-marked k e)
 
-  pairs-dropped : (k : ℕ) (p : PredictedPosition) → fill_in s ps k ≡ Pairs p → dropped_rank s ps k ≡ true
+  pairs-dropped : (k : ℕ) (p : PredictedPosition) → fill_in s ps k ≡ Some p → dropped_rank s ps k ≡ true
   pairs-dropped k p e = go (dec_lt k n)
     where
-      never : fill_in s ps k ≡ NoPair → ⊥
+      never : fill_in s ps k ≡ None → ⊥
       never f = let z : ◌≡◌ {A = ℕ} 0 1 = cc in omega arith
 
       go : Dec (k < n) → dropped_rank s ps k ≡ true
@@ -232,13 +232,13 @@ module _ (s : Settings) (ps : List Point) where
       abbrev exactly : NoPairExactly (sides_of s) there (λ (o : Offset). kept_x s ps (to o)) (λ (o : Offset). kept_y s ps (to o))
       exactly = no-pair-exactly (sides_of s) square-opposed there (λ (o : Offset). kept_x s ps (to o)) (λ (o : Offset). kept_y s ps (to o))
 
-      no-pair : ((i j m : ℕ) → PairAt s ps k i j m → ⊥) → fill_in s ps k ≡ NoPair
+      no-pair : ((i j m : ℕ) → PairAt s ps k i j m → ⊥) → fill_in s ps k ≡ None
       no-pair h = by-cell ∙ exactly.none (λ i l. never_true (both_there (sides_of s) there i) (λ e. h i _ _ (pair_is i l e)))
 
-      no-pair-only : fill_in s ps k ≡ NoPair → (i j m : ℕ) → PairAt s ps k i j m → ⊥
+      no-pair-only : fill_in s ps k ≡ None → (i j m : ℕ) → PairAt s ps k i j m → ⊥
       no-pair-only e i j m p = true≢false (sym (is-pair i j m p) ∙ exactly.none_only (sym by-cell ∙ e) i p.offset)
 
-      module _ (p : PredictedPosition) (e : fill_in s ps k ≡ Pairs p) where
+      module _ (p : PredictedPosition) (e : fill_in s ps k ≡ Some p) where
         abbrev shown : WithPairs (sides_of s) there (λ (o : Offset). kept_x s ps (to o)) (λ (o : Offset). kept_y s ps (to o)) p
         shown = with-pairs (sides_of s) there (λ (o : Offset). kept_x s ps (to o)) (λ (o : Offset). kept_y s ps (to o)) p (sym by-cell ∙ e)
 

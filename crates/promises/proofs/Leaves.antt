@@ -1,4 +1,5 @@
 -- Weak ends, of every accepted sheet: what is left, what was removed, and the rounds. Assumes nothing.
+use Rattle.std.specs.Prelude.{is_some}
 use mathlib.Core.Path.{◌≡◌, refl, sym, ap, ◌∙◌}
 use mathlib.Core.Bool.{Bool, true, false, not, ◌&&◌, true≢false}
 use mathlib.Core.List.{List, [], ◌∷◌}
@@ -294,7 +295,7 @@ weak-ends file room s ps b e =
     }
 
 -- without tag 4 there is no fraction, and no point is weak
-no_fraction : (file : List ℕ) (f : Layout) → f.weighed ≡ false → fraction_of file f ≡ Missing
+no_fraction : (file : List ℕ) (f : Layout) → is_some f.weights ≡ false → fraction_of file f ≡ Missing
 unfolding fraction_of
 no_fraction file f w = rw w
 

@@ -10,7 +10,7 @@ use Rattle.sheet_file.specs.Bytes.{Bytes}
 use Rattle.ruling.specs.Ruling.{Ruling, refused, accepted, ruling_of, rows_size}
 use Rattle.ruling.proofs.Limit.{limit}
 use Rattle.judged.specs.Judged.{Judged}
-use Rattle.predict.specs.declared.Prediction.{Prediction}
+use Rattle.predict.specs.Predict.{Prediction}
 use Rattle.judging.specs.Judging.{judged_for, fills_for}
 use Rattle.text.specs.Text.{refusal_of}
 use Rattle.listing.specs.Listing.{listing_of}

@@ -1,4 +1,5 @@
 -- The cells of an index share their marks: each filter marks an index. Assumes nothing.
+use Rattle.std.specs.Prelude.{None, Option, Some}
 use mathlib.Core.Path.{◌≡◌, refl, sym, ap, ◌∙◌}
 use mathlib.Core.Bool.{Bool, cond, ◌&&◌}
 use mathlib.Core.List.{List, [], ◌∷◌}
@@ -13,9 +14,8 @@ use Rattle.folds.proofs.Column.{column-at}
 use Rattle.offsets.specs.Offsets.{places}
 use Rattle.view.specs.View.{View, max_points, index_has}
 use Rattle.cells.specs.Cell.{Cell}
+use Rattle.sheet_file.specs.declared.EdgeShapeParams.{EdgeShapeParams}
 use Rattle.sheet_file.specs.declared.Settings.{Settings}
-use Rattle.sheet_file.specs.declared.EdgeGate.{EdgeGate}
-use Rattle.sheet_file.specs.declared.EdgeGate.TheVariants.{Off, On}
 use Rattle.edge_shape.specs.Figures.{no_figures, figures_at, index_figures}
 use Rattle.edge_shape.specs.declared.Figures.{Figures}
 use Rattle.marks.specs.Marks.{is_set, index_marks}
@@ -52,10 +52,10 @@ module _ (s : Settings) (w : View) (cell : ℕ → Cell) (strength : List Float)
   has-shared : (t : ℕ → Bool) → index_has w t i ≡ index_has w t j
   has-shared t = ap (λ (m : ℕ). some (λ (k : ℕ). t k && eqb (w.by_idx k) m) w.count) e
 
-  figures-shared : (g : EdgeGate) → get_or (gate_figures g w) i no_figures ≡ get_or (gate_figures g w) j no_figures
+  figures-shared : (g : Option EdgeShapeParams) → get_or (gate_figures g w) i no_figures ≡ get_or (gate_figures g w) j no_figures
   unfolding index_figures
-  figures-shared Off = column-at max_points no_figures w.count (λ (k : ℕ). no_figures) i a ∙ sym (column-at max_points no_figures w.count (λ (k : ℕ). no_figures) j b)
-  figures-shared (On g) =
+  figures-shared None = column-at max_points no_figures w.count (λ (k : ℕ). no_figures) i a ∙ sym (column-at max_points no_figures w.count (λ (k : ℕ). no_figures) j b)
+  figures-shared (Some g) =
       let figures : ℕ → Figures = λ k. figures_at g w (w.by_idx k) in
       column-at max_points no_figures w.count figures i a ∙ ap (figures_at g w) e ∙ sym (column-at max_points no_figures w.count figures j b)
 

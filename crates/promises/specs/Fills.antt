@@ -1,5 +1,5 @@
 -- What document 02, A.7, promises of positions for dropped points, of points ps in cell order with settings s. Assumes nothing.
-use Rattle.std.specs.Prelude.{◌≡◌, Bool, true, false, not, ◌&&◌, List, ◌++◌, ℕ, ◌+◌, ◌*◌, ◌≤◌, ◌<◌, T, eqb, ltb, ℤ, Float, length, get_or, drop}
+use Rattle.std.specs.Prelude.{◌≡◌, Bool, true, false, not, ◌&&◌, List, ◌++◌, ℕ, ◌+◌, ◌*◌, ◌≤◌, ◌<◌, T, eqb, ltb, ℤ, Float, length, get_or, drop, Some}
 use Rattle.std.specs.Float.Ieee.Scale.{finite}
 use Rattle.folds.specs.Arith.{f32}
 use Rattle.folds.specs.Below.{first, tally}
@@ -9,15 +9,14 @@ use Rattle.view.specs.View.{max_points}
 use Rattle.cells.specs.Cell.{Cell, cell_of, cells_of, moved, coincide, offset_by}
 use Rattle.sheet_file.specs.Bytes.{Bytes}
 use Rattle.sheet_file.specs.Frame.{framing_of, layout_of}
-use Rattle.sheet_file.specs.declared.Framing.TheVariants.{Framed}
 use Rattle.sheet_file.specs.declared.Layout.{Layout}
 use Rattle.sheet_file.specs.declared.Settings.{Settings}
 use Rattle.marks.specs.Filters.{validate}
 use Rattle.marks.specs.Byte.{has_mark}
 use Rattle.predict.specs.Predict.{opposite, side_at, prediction}
 use Rattle.predict.specs.declared.PredictedPosition.{PredictedPosition}
-use Rattle.predict.specs.declared.Prediction.{Prediction}
-use Rattle.predict.specs.declared.Prediction.TheVariants.{NoPair, Pairs}
+use Rattle.predict.specs.Predict.{Prediction}
+use Rattle.std.specs.Prelude.{None, Some}
 use Rattle.ruling.specs.Ruling.{refused, accepted, ruling_of, applies}
 use Rattle.ruling.specs.Order.{Relisted}
 use Rattle.ruling.specs.Offset.{FileDisplaced, MovedAlong, moved_file, StaysInRange}
@@ -31,7 +30,7 @@ use Rattle.promises.specs.Words.{marks_in, kept_rank}
 module _ (s : Settings) (ps : List Point) where
   -- the fill of rank k
   abbrev pub fill_in : ℕ → Prediction
-  fill_in k = get_or (fills_for s ps) k NoPair
+  fill_in k = get_or (fills_for s ps) k None
 
   -- "a dropped point, one with a mark of any filter"
   abbrev pub dropped_rank : ℕ → Bool
@@ -71,15 +70,15 @@ module _ (s : Settings) (ps : List Point) where
     -- "For each dropped cell give the position `predict_grid_position` finds from the kept points": each point "by its own cell"
     pub by-cells : (k : ℕ) → dropped_rank k ≡ true → fill_in k ≡ predicted_in (cell_of (get_or ps k nowhere))
     -- "Kept points have none"
-    pub not-kept : (k : ℕ) → kept_rank s ps k ≡ true → fill_in k ≡ NoPair
-    pub only-dropped : (k : ℕ) (p : PredictedPosition) → fill_in k ≡ Pairs p → dropped_rank k ≡ true
+    pub not-kept : (k : ℕ) → kept_rank s ps k ≡ true → fill_in k ≡ None
+    pub only-dropped : (k : ℕ) (p : PredictedPosition) → fill_in k ≡ Some p → dropped_rank k ≡ true
     -- "A fill has at most as many pairs as half of the lattice's offsets"
-    pub few-pairs : (k : ℕ) (p : PredictedPosition) → fill_in k ≡ Pairs p → p.n_axis_pairs + p.n_axis_pairs ≤ length (sides_of s)
+    pub few-pairs : (k : ℕ) (p : PredictedPosition) → fill_in k ≡ Some p → p.n_axis_pairs + p.n_axis_pairs ≤ length (sides_of s)
     -- "There is no pair exactly where no two kept points are at opposite neighbours of the cell."
-    pub none : (k : ℕ) → dropped_rank k ≡ true → ((i j m : ℕ) → PairAt k i j m → ⊥) → fill_in k ≡ NoPair
-    pub none_only : (k : ℕ) → dropped_rank k ≡ true → fill_in k ≡ NoPair → (i j m : ℕ) → PairAt k i j m → ⊥
+    pub none : (k : ℕ) → dropped_rank k ≡ true → ((i j m : ℕ) → PairAt k i j m → ⊥) → fill_in k ≡ None
+    pub none_only : (k : ℕ) → dropped_rank k ≡ true → fill_in k ≡ None → (i j m : ℕ) → PairAt k i j m → ⊥
     -- and a position comes of such two
-    pub some_pair : (k : ℕ) (p : PredictedPosition) → fill_in k ≡ Pairs p → (i : ℕ) × (j : ℕ) × (m : ℕ) × PairAt k i j m
+    pub some_pair : (k : ℕ) (p : PredictedPosition) → fill_in k ≡ Some p → (i : ℕ) × (j : ℕ) × (m : ℕ) × PairAt k i j m
 
 -- of every accepted file
 abbrev pub FillsPromise : Type 0
@@ -87,11 +86,11 @@ FillsPromise = (file : List ℕ) (room : ℕ) (s : Settings) (ps : List Point) �
 
 -- "so at most 2"
 abbrev pub TwoPairsPromise : Type 0
-TwoPairsPromise = (file : List ℕ) (room : ℕ) (s : Settings) (ps : List Point) → Bytes file → ruling_of file room ≡ accepted s ps → (k : ℕ) (p : PredictedPosition) → fill_in s ps k ≡ Pairs p → p.n_axis_pairs ≤ 2
+TwoPairsPromise = (file : List ℕ) (room : ℕ) (s : Settings) (ps : List Point) → Bytes file → ruling_of file room ≡ accepted s ps → (k : ℕ) (p : PredictedPosition) → fill_in s ps k ≡ Some p → p.n_axis_pairs ≤ 2
 
 -- "No fill is NaN or infinite."
 abbrev pub FiniteFillsPromise : Type 0
-FiniteFillsPromise = (file : List ℕ) (room : ℕ) (s : Settings) (ps : List Point) → Bytes file → ruling_of file room ≡ accepted s ps → (k : ℕ) (p : PredictedPosition) → fill_in s ps k ≡ Pairs p
+FiniteFillsPromise = (file : List ℕ) (room : ℕ) (s : Settings) (ps : List Point) → Bytes file → ruling_of file room ≡ accepted s ps → (k : ℕ) (p : PredictedPosition) → fill_in s ps k ≡ Some p
     → T (finite p.x) × T (finite p.y)
 
 -- ---- what a fill depends on
@@ -136,7 +135,7 @@ pub record FilledBy (s : Settings) (ps : List Point) (file buffer : List ℕ) : 
 
 -- "Another order of the points (14.2) changes no fill": what the relisted file's points have, by rank, is what the file's have
 abbrev pub FillsOrderPromise : Type 0
-FillsOrderPromise = (file other : List ℕ) (f : Layout) → Bytes file → framing_of file ≡ Framed f → Relisted file other f
+FillsOrderPromise = (file other : List ℕ) (f : Layout) → Bytes file → framing_of file ≡ Some f → Relisted file other f
     → (room : ℕ) (s t : Settings) (ps qs : List Point) → ruling_of file room ≡ accepted s ps → ruling_of other room ≡ accepted t qs → fills_for t qs ≡ fills_for s ps
 
 -- ---- the call

@@ -1,5 +1,5 @@
 -- What document 02, A.5, promises of weak ends, of points ps in cell order with settings s. Assumes nothing.
-use Rattle.std.specs.Prelude.{◌≡◌, Bool, true, false, ◌&&◌, List, ℕ, ◌≤◌, ◌<◌, length, get_or}
+use Rattle.std.specs.Prelude.{◌≡◌, Bool, true, false, ◌&&◌, List, ℕ, ◌≤◌, ◌<◌, length, get_or, is_some}
 use Rattle.folds.specs.Below.{some, tally}
 use Rattle.offsets.specs.Offsets.{own}
 use Rattle.cells.specs.Points.{Point, nowhere, strengths_of}
@@ -51,4 +51,4 @@ pub record NoLeaves (s : Settings) (ps : List Point) : Type 0 where
   pub rounds : rounds_of s ps ≡ 0
 
 abbrev pub UnweighedPromise : Type 0
-UnweighedPromise = (file : List ℕ) (room : ℕ) (s : Settings) (ps : List Point) → Bytes file → ruling_of file room ≡ accepted s ps → (layout_of file).weighed ≡ false → NoLeaves s ps
+UnweighedPromise = (file : List ℕ) (room : ℕ) (s : Settings) (ps : List Point) → Bytes file → ruling_of file room ≡ accepted s ps → is_some (layout_of file).weights ≡ false → NoLeaves s ps

@@ -1,12 +1,11 @@
 -- Demand 3: what documents 01 and 02 promise of an accepted, rearranged, moved or switched sheet. Each promise is a type; proofs/Theorems.antt proves
 -- them of the definitions that the call is proved equal to. Assumes nothing.
-use Rattle.std.specs.Prelude.{◌≡◌, Bool, true, false, ◌&&◌, ◌⊎◌, List, ℕ, ◌<◌, eqb, ltb, ℤ, length, get_or}
+use Rattle.std.specs.Prelude.{◌≡◌, Bool, true, false, ◌&&◌, ◌⊎◌, List, ℕ, ◌<◌, eqb, ltb, ℤ, length, get_or, Some}
 use Rattle.folds.specs.Below.{tally}
 use Rattle.cells.specs.Points.{Point, nowhere}
 use Rattle.cells.specs.Cell.{cell_of, before}
 use Rattle.sheet_file.specs.Bytes.{Bytes}
 use Rattle.sheet_file.specs.Frame.{framing_of, layout_of}
-use Rattle.sheet_file.specs.declared.Framing.TheVariants.{Framed}
 use Rattle.sheet_file.specs.declared.Layout.{Layout}
 use Rattle.sheet_file.specs.declared.Settings.{Settings}
 use Rattle.components.specs.WholePatches.{WholePatch, Smallest, KeptPatch, PatchesCounted}
@@ -82,7 +81,7 @@ pub record SameResult (file other : List ℕ) : Type 0 where
   pub fills : (buffer : List ℕ) → fills_after other buffer ≡ fills_after file buffer
 
 abbrev pub AnotherOrderPromise : Type 0
-AnotherOrderPromise = (file other : List ℕ) (f : Layout) → Bytes file → framing_of file ≡ Framed f → Relisted file other f → SameResult file other
+AnotherOrderPromise = (file other : List ℕ) (f : Layout) → Bytes file → framing_of file ≡ Some f → Relisted file other f → SameResult file other
 
 -- ---- (c) an offset
 

@@ -1,12 +1,11 @@
 -- "totals of a run": what holds of one call in a run, and of any list of files and buffers from any record on. What holds of records and
 -- tallies alone stands in runs/specs/Promises.antt. Assumes nothing.
-use Rattle.std.specs.Prelude.{◌≡◌, true, false, ◌⊎◌, ℕ, ◌+◌, ◌≤◌, length}
+use Rattle.std.specs.Prelude.{◌≡◌, true, false, ◌⊎◌, ℕ, ◌+◌, ◌≤◌, length, Some}
 use mathlib.Core.List.{List, [], ◌∷◌, ◌++◌, Option-to_list, Permᴰ}
 use Rattle.std.proofs.Math.Option.{Option, some}
 use Rattle.folds.specs.Lists.{All}
 use Rattle.sheet_file.specs.Bytes.{Bytes}
 use Rattle.sheet_file.specs.Frame.{framing_of}
-use Rattle.sheet_file.specs.declared.Framing.TheVariants.{Framed}
 use Rattle.sheet_file.specs.declared.Layout.{Layout}
 use Rattle.ruling.specs.Ruling.{refused}
 use Rattle.ruling.specs.Order.{Relisted}
@@ -93,7 +92,7 @@ RunOrderPromise = (r : Run) (a b : List Call) → Permᴰ a b → NoneEleven r a
 pub record OtherListing (c d : Call) : Type 0 where
   pub layout : Layout
   pub bytes : Bytes c.file
-  pub framed : framing_of c.file ≡ Framed layout
+  pub framed : framing_of c.file ≡ Some layout
   pub relisted : Relisted c.file d.file layout
   pub room : length d.buffer ≡ length c.buffer
 

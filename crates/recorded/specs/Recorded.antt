@@ -1,9 +1,8 @@
 -- What stands in a buffer before the call, and when what came is what is recorded. Assumes nothing.
-use Rattle.std.specs.Prelude.{◌≡◌, Bool, true, false, cond, ◌&&◌, List, ℕ, ◌%◌, ◌≤◌, eqb, leb, length, take}
+use Rattle.std.specs.Prelude.{◌≡◌, Bool, true, false, cond, ◌&&◌, List, ℕ, ◌%◌, ◌≤◌, eqb, leb, length, take, Result, Ok, Err}
 use Rattle.folds.specs.Lists.{list_of}
 use Rattle.folds.specs.Same.{same_list}
-use Rattle.text.specs.declared.Written.{Written}
-use Rattle.text.specs.declared.Written.TheVariants.{Whole, NoRoom}
+use Rattle.text.specs.declared.NoRoom.{NoRoom}
 use Rattle.runs.specs.declared.Run.{Run}
 use Rattle.kept.specs.declared.Answer.{Answer}
 use Rattle.kept.specs.declared.Answer.TheVariants.{Refused, Accepted}
@@ -36,12 +35,12 @@ abbrev pub same_run : Run → Run → Bool
 same_run a b = (same_list a.old_sums b.old_sums && eqb a.sheets b.sheets) && same_list a.new_sums b.new_sums
 
 -- t was written whole to the start of the buffer
-abbrev pub is_shown : Written → List ℕ → List ℕ → Bool
-is_shown (Whole n) out t = leb n (length out) && same_list (take n out) t
-is_shown NoRoom out t = false
+abbrev pub is_shown : Result ℕ NoRoom → List ℕ → List ℕ → Bool
+is_shown (Ok n) out t = leb n (length out) && same_list (take n out) t
+is_shown (Err e) out t = false
 
 -- the recorded text was, which is the first `size` bytes of what was read
-abbrev pub is_text : Written → List ℕ → List ℕ → ℕ → Bool
+abbrev pub is_text : Result ℕ NoRoom → List ℕ → List ℕ → ℕ → Bool
 is_text written out recorded size = leb size (length recorded) && is_shown written out (take size recorded)
 
 -- how many differ, of one case

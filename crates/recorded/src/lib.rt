@@ -11,7 +11,7 @@ use kept::Answer;
 use runs::{NEW_SUMS, OLD_SUMS, Run};
 use sheet_fills::FillAnswer;
 use std::io::Read;
-use text::Written;
+use text::NoRoom;
 use view::MAX_POINTS;
 
 // Longer than every recorded file.
@@ -46,10 +46,8 @@ fn read_word<R: Read>(input: &mut R) -> u32 {
 }
 
 fn read_words<R: Read>(input: &mut R, words: &mut [u32]) {
-    let mut i = 0;
-    while i < words.len() {
-        words[i] = read_word(input);
-        i += 1;
+    for word in words.iter_mut() {
+        *word = read_word(input);
     }
 }
 
@@ -101,10 +99,8 @@ pub fn read_part<R: Read>(input: &mut R, buffer: &mut [u8], size: usize) -> bool
 pub fn fill(buffer: &mut [u8])
     ensures { buffer.new ≡ filler (length buffer.old) }
 {
-    let mut i = 0;
-    while i < buffer.len() {
+    for i in 0..buffer.len() {
         buffer[i] = (i % 251) as u8;
-        i += 1;
     }
 }
 
@@ -154,50 +150,23 @@ pub fn is_filled(answer: FillAnswer, recorded: RecordedFills) -> bool
     }
 }
 
-fn same_words(a: &[u32], b: &[u32]) -> bool
-    ensures { result ≡ same_list a.now b.now }
-{
-    if a.len() != b.len() {
-        return false;
-    }
-    let mut i = 0;
-    while i < a.len() {
-        if a[i] != b[i] {
-            return false;
-        }
-        i += 1;
-    }
-    true
-}
-
 // Whether two records of a run are the same.
 pub fn same_run(a: Run, b: Run) -> bool
     ensures { result ≡ same_run a b }
 {
-    let old_a = a.old_sums;
-    let old_b = b.old_sums;
-    let same_old = same_words(&old_a, &old_b);
-    let new_a = a.new_sums;
-    let new_b = b.new_sums;
-    let same_new = same_words(&new_a, &new_b);
-    same_old & (a.sheets == b.sheets) & same_new
+    (a.old_sums == b.old_sums) & (a.sheets == b.sheets) & (a.new_sums == b.new_sums)
 }
 
 // Whether a text was written whole to the start of the buffer, and is the recorded one, the first `size` bytes of `recorded`.
-pub fn is_text(written: Written, out: &[u8], recorded: &[u8], size: usize) -> bool
+pub fn is_text(written: Result<usize, NoRoom>, out: &[u8], recorded: &[u8], size: usize) -> bool
     ensures { result ≡ is_text written out.now recorded.now size }
 {
     if recorded.len() < size {
         return false;
     }
     match written {
-        Written::Whole(n) => {
-            if out.len() < n {
-                return false;
-            }
-            check::same(&out[..n], &recorded[..size])
-        }
-        Written::NoRoom => false,
+        Ok(n) => n <= out.len() && check::same(&out[..n], &recorded[..size]),
+        Err(NoRoom) => false,
     }
 }
 

@@ -15,6 +15,7 @@ use Rattle.folds.specs.Lists.{list_of}
 use Rattle.folds.proofs.Lists.{length-list}
 use Rattle.folds.specs.Column.{column, overlaid}
 use Rattle.folds.proofs.Column.{column-at, column-ext}
+use Rattle.folds.specs.Marked.{bit}
 use Rattle.folds.specs.Scattered.{Scattered, counts}
 use Rattle.view.specs.View.{View, max_points, alike}
 use Rattle.marks.specs.Marks.{index_marks}
@@ -71,9 +72,19 @@ module _ (w : View) where
         ∙ column-ext max_points NoFit w.count _ _ (λ k h. residual-ext (λ (j : ℕ). get_or cells j NoFit) (residual_at w cell) (λ j l. rw e (column-at max_points NoFit w.count (residual_at w cell) j l)) k)
 
   -- the flags of the indices, from those of the ranks
-  module _ (r : ℕ → Residual) where
-    pub flags-are : (scale : ℕ → Float) (tolerance : Float) {cells : Flags} {over high : List ℕ} → cells ≡ rank_flags r scale tolerance w.count → over ≡ index_marks w cells.over → high ≡ index_marks w cells.high
-        → ◌≡◌ {A = Flags} (record { over = over; high = high }) (index_flags r scale tolerance w)
+  module _ (r : ℕ → Residual) (scale : ℕ → Float) (tolerance : Float) where
+    -- they go by the residuals of ranks
+    flags-ext : (s : ℕ → Residual) → ((k : ℕ) → k < w.count → s k ≡ r k) → rank_flags s scale tolerance w.count ≡ rank_flags r scale tolerance w.count
+    unfolding rank_flags
+    flags-ext s e =
+        rw (
+          column-ext max_points 0 w.count (λ (k : ℕ). bit (over_at s scale tolerance k)) (λ (k : ℕ). bit (over_at r scale tolerance k)) (λ k h. rw (e k h)),
+          column-ext max_points 0 w.count (λ (k : ℕ). bit (high_at s scale tolerance k)) (λ (k : ℕ). bit (high_at r scale tolerance k)) (λ k h. rw (e k h)),
+        )
+
+    pub flags-are : {values : List Residual} {cells : Flags} {over high : List ℕ} → values ≡ column max_points NoFit w.count r → cells ≡ rank_flags (λ (k : ℕ). get_or values k NoFit) scale tolerance w.count
+        → over ≡ index_marks w cells.over → high ≡ index_marks w cells.high → ◌≡◌ {A = Flags} (record { over = over; high = high }) (index_flags r scale tolerance w)
     unfolding rank_flags index_flags
-    flags-are scale tolerance {cells} e c d =
-        rw (c ∙ index-marks w (over_at r scale tolerance) cells.over (ap (λ (f : Flags). f.over) e), d ∙ index-marks w (high_at r scale tolerance) cells.high (ap (λ (f : Flags). f.high) e))
+    flags-are {values} {cells} v e c d =
+        let f : cells ≡ rank_flags r scale tolerance w.count = e ∙ flags-ext (λ (k : ℕ). get_or values k NoFit) (λ k h. rw v (column-at max_points NoFit w.count r k h)) in
+        rw (c ∙ index-marks w (over_at r scale tolerance) cells.over (ap (λ (f : Flags). f.over) f), d ∙ index-marks w (high_at r scale tolerance) cells.high (ap (λ (f : Flags). f.high) f))

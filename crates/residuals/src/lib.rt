@@ -4,14 +4,15 @@
 ghost use Rattle.std.specs.Prelude.{◌≡◌, ℕ, ◌≤◌, get_or};
 ghost use Rattle.std.specs.Float.{nan};
 ghost use Rattle.folds.specs.Column.{column};
-ghost use Rattle.view.specs.View.{max_points, view_at, Ranked};
+ghost use Rattle.view.specs.View.{max_points};
+ghost use Rattle.view.specs.Seen.{view_in};
 ghost use Rattle.cells.specs.Cell.{cells_at};
 ghost use Rattle.local_h.specs.Residual.{residual_at};
 ghost use Rattle.local_h.specs.declared.Residual.TheVariants.{NoFit};
 ghost use Rattle.residuals.specs.ByIndex.{exceeds, is_high, residuals_of, rank_flags, index_flags};
 
-use local_h::{Residual, ResidualColumn};
-use view::{Floats, MAX_POINTS, Marks, Ranks, Words};
+use local_h::{Residual, ResidualColumn, Seen};
+use view::{Floats, MAX_POINTS, Marks, View, Words};
 
 mod by_index;
 
@@ -25,77 +26,62 @@ pub struct Flags {
 fn exceeds_limit(limit: f32, r: Residual) -> bool
     ensures { result ≡ exceeds limit r }
 {
-    match r {
-        Residual::Value(d) => limit < d.value,
-        Residual::NoFit => false,
-    }
+    matches!(r, Residual::Value(d) if limit < d.value)
 }
 
 fn is_high(limit: f32, r: Residual) -> bool
     ensures { result ≡ is_high limit r }
 {
-    if exceeds_limit(limit, r) {
-        return exceeds_limit(2.0 * limit, r);
-    }
-    false
+    exceeds_limit(limit, r) && exceeds_limit(2.0 * limit, r)
 }
 
-// The residual of each rank, which takes the place of what stood in the column, and its flags: the tolerance times the scale of the rank's
-// index is the limit.
-fn cell_residuals(
-    ranks: &Ranks,
-    keys: &Words,
-    x: &Floats,
-    y: &Floats,
-    scale: &Floats,
-    n: usize,
-    tolerance: f32,
-    values: &mut ResidualColumn,
-) -> Flags
-    requires { n ≤ max_points }
-    ensures residuals { values.new ≡ column max_points NoFit n (residual_at (view_at n ranks.now x.now y.now) (cells_at keys.now)) }
-    ensures flags { result ≡ rank_flags (residual_at (view_at n ranks.now x.now y.now) (cells_at keys.now)) (λ (j : ℕ). get_or scale.now j nan) tolerance n }
+// The residual of each rank, which takes the place of what stood in the column.
+fn cell_residuals(view: &View, keys: &Words, values: &mut ResidualColumn)
+    ensures { values.new ≡ column max_points NoFit view.now.lattice.count (residual_at (view_in view.now) (cells_at keys.now)) }
 {
-    let mut over = [0u8; MAX_POINTS];
-    let mut high = [0u8; MAX_POINTS];
+    let seen = Seen {
+        keys,
+        x: view.x,
+        y: view.y,
+    };
     *values = [Residual::NoFit; MAX_POINTS];
-    let mut k = 0;
-    while k < n {
-        let r = local_h::local_h_residual(ranks, keys, x, y, n, k);
-        let limit = tolerance * scale[k];
-        values[k] = r;
-        over[k] = marks::bit_of(exceeds_limit(limit, r));
-        high[k] = marks::bit_of(is_high(limit, r));
-        k += 1;
+    for k in 0..view.lattice.count {
+        values[k] = local_h::local_h_residual(&view.lattice, &seen, k);
     }
-    Flags {
-        over: over,
-        high: high,
-    }
+}
+
+// The flags of each of n ranks: the tolerance times the scale of the rank's index is the limit.
+fn flags_of(values: &ResidualColumn, scale: &Floats, tolerance: f32, n: usize) -> Flags
+    requires { n ≤ max_points }
+    ensures { result ≡ rank_flags (λ (k : ℕ). get_or values.now k NoFit) (λ (k : ℕ). get_or scale.now k nan) tolerance n }
+{
+    let over = view::filled(0, n, |k| {
+        u8::from(exceeds_limit(tolerance * scale[k], values[k]))
+    });
+    let high = view::filled(0, n, |k| {
+        u8::from(is_high(tolerance * scale[k], values[k]))
+    });
+    Flags { over, high }
 }
 
 // For each rank what its index has: the residual of the index's last cell that has one, in the place of what stood in the column, and the
 // flags of any of its cells.
+#[inline(never)]
 pub fn index_residuals(
-    ranks: &Ranks,
+    view: &View,
     keys: &Words,
-    x: &Floats,
-    y: &Floats,
     scale: &Floats,
-    n: usize,
     tolerance: f32,
     values: &mut ResidualColumn,
 ) -> Flags
-    requires { Ranked n ranks.now }
-    ensures residuals { values.new ≡ residuals_of (view_at n ranks.now x.now y.now) (cells_at keys.now) }
-    ensures flags { result ≡ index_flags (residual_at (view_at n ranks.now x.now y.now) (cells_at keys.now)) (λ (j : ℕ). get_or scale.now j nan) tolerance (view_at n ranks.now x.now y.now) }
+    ensures residuals { values.new ≡ residuals_of (view_in view.now) (cells_at keys.now) }
+    ensures flags { result ≡ index_flags (residual_at (view_in view.now) (cells_at keys.now)) (λ (j : ℕ). get_or scale.now j nan) tolerance (view_in view.now) }
 {
-    let cells = cell_residuals(ranks, keys, x, y, scale, n, tolerance, values);
-    let over = cells.over;
-    let high = cells.high;
-    by_index::gather(ranks, n, values);
+    cell_residuals(view, keys, values);
+    let Flags { over, high } = flags_of(values, scale, tolerance, view.lattice.count);
+    by_index::gather(view, values);
     Flags {
-        over: marks::by_index(ranks, &over, n),
-        high: marks::by_index(ranks, &high, n),
+        over: marks::by_index(view, &over),
+        high: marks::by_index(view, &high),
     }
 }

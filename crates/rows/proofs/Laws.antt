@@ -10,21 +10,20 @@ use lib.Seq.{sets}
 use Rattle.folds.specs.Column.{Filling}
 use Rattle.folds.proofs.Column.{fill_more}
 use Rattle.folds.specs.Marked.{bit}
-use mathlib.Core.Option.{Option}
+use Rattle.std.specs.Prelude.{Option, Some, None}
 use lib.Ieee.{Float}
 use Rattle.edge_shape.specs.declared.Measure.{Measure}
-use Rattle.edge_shape.specs.declared.Measure.TheVariants.{Absent, Held}
 use Rattle.edge_shape.specs.Figures.{reason_number}
 use Rattle.sheet_file.specs.Bytes.{little_endian}
 use Rattle.rows.specs.Rows.{bits_of, is_present, residual_float, cosine_of, ratio_of, floats_of, presence, row_of, row_size, row_byte}
 use Rattle.judged.specs.Shown.{Shown}
 
 -- a measure has both floats or none
-both : (m : Measure) → is_present (ratio_of m) ≡ is_present (cosine_of m)
-both Absent = refl
-both (Held c q) = refl
+both : (m : Option Measure) → is_present (ratio_of m) ≡ is_present (cosine_of m)
+both None = refl
+both (Some m) = refl
 
-pub presence-is : (x : Option Float) (m o : Measure) {a b c : ℕ} → a ≡ bit (is_present x) → b ≡ bit (is_present (cosine_of m)) → c ≡ bit (is_present (cosine_of o))
+pub presence-is : (x : Option Float) (m o : Option Measure) {a b c : ℕ} → a ≡ bit (is_present x) → b ≡ bit (is_present (cosine_of m)) → c ≡ bit (is_present (cosine_of o))
     → a + 6 * b + 24 * c ≡ presence (floats_of x m o)
 presence-is x m o r s t = rw (both m, both o) (omega arith)
 

@@ -1,7 +1,7 @@
 -- What a reader may expect of rows. Assumes nothing.
 use mathlib.Core.Path.{◌≡◌, refl, sym, ap, ◌∙◌}
 use mathlib.Core.List.{List, [], ◌∷◌, ◌++◌}
-use mathlib.Core.Option.{some}
+use Rattle.std.specs.Prelude.{Some, None}
 use Prim.Native.Nat.{ℕ, zero, suc, ◌+◌, ◌-◌, ◌*◌, ◌/◌, ◌%◌, ◌≤◌, ◌<◌}
 use native.Mathlib.Omega.{arith}
 use native.Mathlib.Nat.{add-zero}
@@ -9,10 +9,8 @@ use lib.ListN.{length, get_or, drop, replicate, length-append, get_or-append}
 use lib.Seq.{get_or-append-add, get_or-drop}
 use lib.Ieee.{nan, binary32, of_bits, to_bits}
 use lib.IntN.{pos}
-use Rattle.float.specs.declared.Remainder.TheVariants.{Found}
 use Rattle.local_h.specs.declared.Residual.{Residual}
 use Rattle.local_h.specs.declared.Residual.TheVariants.{Value}
-use Rattle.edge_shape.specs.declared.Measure.TheVariants.{Absent, Held}
 use Rattle.edge_shape.specs.declared.Reason.TheVariants.{BadContinuation}
 use Rattle.edge_shape.specs.Figures.{no_figures}
 use Rattle.folds.specs.Lists.{list_of}
@@ -24,7 +22,7 @@ use Rattle.judged.specs.Shown.{Shown}
 use Rattle.rows.proofs.Laws.{row-length, row-byte}
 
 -- "NaN is 0x7FC00000."
-pub nan-bits : bits_of (some nan) ≡ 0x7fc0_0000
+pub nan-bits : bits_of (Some nan) ≡ 0x7fc0_0000
 unfolding to_bits
 nan-bits = refl
 
@@ -32,8 +30,8 @@ nan-bits = refl
 pub worked-row : row_of
     (record {
       marks = 5;
-      residual = Value (record { value = of_bits binary32 0x3f80_0000; remainder = Found (pos 0) });
-      figures = record { degree = 4; adjacent = 3; valid = 0; continuation = Held (of_bits binary32 0x3f00_0000) (of_bits binary32 0x4000_0000); cells = Absent; reason = BadContinuation };
+      residual = Value (record { value = of_bits binary32 0x3f80_0000; remainder = Some (pos 0) });
+      figures = record { degree = 4; adjacent = 3; valid = 0; continuation = Some (record { cosine = of_bits binary32 0x3f00_0000; ratio = of_bits binary32 0x4000_0000 }); cells = None; reason = Some BadContinuation };
       boundary = 1;
     })
     ≡ 5 ∷ 2 ∷ 7 ∷ 4 ∷ 1 ∷ 3 ∷ 0 ∷ 0

@@ -1,13 +1,11 @@
 -- "Rows come in cell order, by u, then v": the bytes of what is shown of each rank. Assumes nothing.
-use Rattle.std.specs.Prelude.{Bool, true, false, List, [], ◌∷◌, ◌++◌, ℕ, ◌+◌, ◌*◌, ◌/◌, ◌%◌, get_or, Float}
-use Rattle.std.proofs.Math.Option.{Option, none, some}
+use Rattle.std.specs.Prelude.{Bool, List, [], ◌∷◌, ◌++◌, ℕ, ◌+◌, ◌*◌, ◌/◌, ◌%◌, get_or, Option, Some, None, is_some, Float}
 use Rattle.std.specs.Float.{binary32}
 use Rattle.std.specs.Float.Ieee.{to_bits}
 use Rattle.folds.specs.Column.{overlaid}
 use Rattle.folds.specs.Marked.{bit}
 use Rattle.edge_shape.specs.Figures.{reason_number}
 use Rattle.edge_shape.specs.declared.Measure.{Measure}
-use Rattle.edge_shape.specs.declared.Measure.TheVariants.{Absent, Held}
 use Rattle.local_h.specs.declared.Residual.{Residual}
 use Rattle.local_h.specs.declared.Residual.TheVariants.{Value, NoFit}
 use Rattle.judged.specs.Shown.{Shown}
@@ -17,29 +15,28 @@ use Rattle.sheet_file.specs.Bytes.{little_endian}
 
 -- "Absent is zero; NaN is 0x7FC00000", the pattern that to_bits has for it
 abbrev pub bits_of : Option Float → ℕ
-bits_of none = 0
-bits_of (some x) = to_bits binary32 x
+bits_of None = 0
+bits_of (Some x) = to_bits binary32 x
 
 abbrev pub is_present : Option Float → Bool
-is_present none = false
-is_present (some x) = true
+is_present x = is_some x
 
 -- the number of a residual
 abbrev pub residual_float : Residual → Option Float
-residual_float NoFit = none
-residual_float (Value d) = some d.value
+residual_float NoFit = None
+residual_float (Value d) = Some d.value
 
 -- the least cosine and the largest ratio of a measure
-abbrev pub cosine_of : Measure → Option Float
-cosine_of Absent = none
-cosine_of (Held c q) = some c
+abbrev pub cosine_of : Option Measure → Option Float
+cosine_of None = None
+cosine_of (Some m) = Some m.cosine
 
-abbrev pub ratio_of : Measure → Option Float
-ratio_of Absent = none
-ratio_of (Held c q) = some q
+abbrev pub ratio_of : Option Measure → Option Float
+ratio_of None = None
+ratio_of (Some m) = Some m.ratio
 
 -- "residual, least continuation cosine, largest continuation ratio, least cell cosine, largest cell ratio"
-abbrev pub floats_of : Option Float → Measure → Measure → List (Option Float)
+abbrev pub floats_of : Option Float → Option Measure → Option Measure → List (Option Float)
 floats_of residual continuation cells = residual ∷ cosine_of continuation ∷ ratio_of continuation ∷ cosine_of cells ∷ ratio_of cells ∷ []
 
 -- "Byte 2: which floats are present, from bit 0 in the order below."

@@ -12,7 +12,7 @@ ghost use Rattle.rows.specs.Rows.{bits_of, is_present, residual_float, cosine_of
 
 use edge_shape::{Figures, Measure};
 use judged::Findings;
-use judged::figures::{FigureCounts, FigureMeasures};
+use judged::figures::FigureColumn;
 use local_h::Residual;
 
 // The bytes of a row.
@@ -40,22 +40,22 @@ fn residual_bits(r: Residual) -> u32
 }
 
 // The pattern of the cosine, or 0.
-fn cosine_bits(m: Measure) -> u32
+fn cosine_bits(m: Option<Measure>) -> u32
     ensures { result ≡ bits_of (cosine_of m) }
 {
     match m {
-        Measure::Absent => 0,
-        Measure::Held(c, _) => float::to_bits(c),
+        None => 0,
+        Some(m) => float::to_bits(m.cosine),
     }
 }
 
 // The pattern of the ratio, or 0.
-fn ratio_bits(m: Measure) -> u32
+fn ratio_bits(m: Option<Measure>) -> u32
     ensures { result ≡ bits_of (ratio_of m) }
 {
     match m {
-        Measure::Absent => 0,
-        Measure::Held(_, q) => float::to_bits(q),
+        None => 0,
+        Some(m) => float::to_bits(m.ratio),
     }
 }
 
@@ -70,17 +70,14 @@ fn residual_count(r: Residual) -> u8
 }
 
 // 1 if there are a cosine and a ratio, else 0.
-fn measure_count(m: Measure) -> u8
+fn measure_count(m: Option<Measure>) -> u8
     ensures { (result ≡ bit (is_present (cosine_of m))) × (result ≤ 1) }
 {
-    match m {
-        Measure::Absent => 0,
-        Measure::Held(_, _) => 1,
-    }
+    u8::from(m.is_some())
 }
 
 // Which floats are present: the cosine and the ratio of a measure are so together.
-fn present(residual: Residual, continuation: Measure, cells: Measure) -> u8
+fn present(residual: Residual, continuation: Option<Measure>, cells: Option<Measure>) -> u8
     ensures { result ≡ presence (floats_of (residual_float residual) continuation cells) }
 {
     residual_count(residual) + 6 * measure_count(continuation) + 24 * measure_count(cells)
@@ -112,26 +109,19 @@ fn put_row(marks: u8, residual: Residual, f: Figures, boundary: u8, rows: &mut [
 }
 
 // Writes the rows of ranks 0 to n - 1 of a judged sheet.
-pub fn write_rows(
-    j: Findings,
-    counts: &FigureCounts,
-    measures: &FigureMeasures,
-    n: usize,
-    rows: &mut [u8],
-)
+#[inline(never)]
+pub fn write_rows(j: Findings, figures: &FigureColumn, n: usize, rows: &mut [u8])
     requires { (n ≤ max_points) × (row_size * n ≤ length rows.old) }
-    ensures { rows.new ≡ rows_over n (shown_at (judged_from j counts.now measures.now)) rows.old }
+    ensures { rows.new ≡ rows_over n (shown_at (judged_from j figures.now)) rows.old }
 {
-    let mut k: usize = 0;
-    while k < n {
+    for k in 0..n {
         put_row(
             j.marks[k],
             j.residuals[k],
-            judged::figures::figures_from(counts, measures, k),
+            figures[k],
             j.boundary[k],
             rows,
             ROW_SIZE * k,
         );
-        k += 1;
     }
 }

@@ -1,4 +1,5 @@
 -- "2,304 points pass": the sheet of the 48 by 48 target is accepted. Assumes nothing.
+use Rattle.std.specs.Prelude.{is_some}
 use mathlib.Core.Path.{◌≡◌, refl, ap, ◌∙◌}
 use mathlib.Core.Bool.{Bool, true, false, cond, ◌&&◌}
 use mathlib.Core.List.{List}
@@ -67,7 +68,7 @@ board-word i j h l =
 record OnBoard (f : Layout) : Type 0 where
   points-at : f.points ≡ 10
   count-is : f.count ≡ board_points
-  unweighed : f.weighed ≡ false
+  unweighed : is_some f.weights ≡ false
 
 board-point : (f : Layout) → OnBoard f → (i : ℕ) → i < board_points → ith_point board48 f i ≡ board_point i
 board-point f o i h =
@@ -165,12 +166,12 @@ unfolding ruling_for
 accepted-for s ps x e = none_passes refused (accepted s (cell_order ps)) (point_refusals s.score_frac ps) (rw x e)
 
 -- no tag 4, no fraction
-no_fraction : (file : List ℕ) (f : Layout) → f.weighed ≡ false → (settings_of file f).score_frac ≡ Missing
+no_fraction : (file : List ℕ) (f : Layout) → is_some f.weights ≡ false → (settings_of file f).score_frac ≡ Missing
 unfolding fraction_of
 no_fraction file f e = own-fraction file f ∙ rw e
 
-no-weights : (f : Layout) → weights_size f ≡ 0 → f.weighed ≡ false
-no-weights f e = not-true f.weighed (λ t. omega (arith, rw t at e))
+no-weights : (f : Layout) → weights_size f ≡ 0 → is_some f.weights ≡ false
+no-weights f e = not-true (is_some f.weights) (λ t. omega (arith, rw t at e))
 
 board-framed : (w : WellFramed board48) × (point_count w ≡ board_points) × (length w.weights ≡ 0)
 board-framed = short-framed board_bytes board_points board-size (omega arith)

@@ -1,5 +1,6 @@
 -- What is read of a file but for its points depends on its length, on the bytes before the points and on the first seven of tag 4 alone, and
 -- little of it on the two switches. Assumes nothing.
+use Rattle.std.specs.Prelude.{None, Option, Some, is_some}
 use mathlib.Core.Path.{◌≡◌, refl, sym, ap, ◌∙◌}
 use mathlib.Core.Bool.{Bool, true, false, cond, ◌&&◌, ◌||◌, true≢false}
 use mathlib.Core.List.{List, [], ◌∷◌}
@@ -11,16 +12,14 @@ use lib.ListN.{length, get_or}
 use Rattle.folds.specs.Among.{any_in}
 use Rattle.folds.proofs.Below.{and-under}
 use Rattle.refusals.specs.First.{ruled}
+use Rattle.sheet_file.specs.declared.EdgeShapeParams.{EdgeShapeParams}
 use Rattle.sheet_file.specs.Bytes.{byte_at, le16, le32}
 use Rattle.sheet_file.specs.Limit.{outside}
-use Rattle.sheet_file.specs.Frame.{field_at, unweighed, strengths_from, points_from, gate_from, framing_of, gate_start}
+use Rattle.sheet_file.specs.Frame.{field_at, unweighed, strengths_from, points_from, gate_from, framing_of, gate_start, weights_of}
 use Rattle.sheet_file.specs.Refusals.{float_at, defaults_for, settings_in, gate_in, edge_shape_of, fraction_in, fraction_of, settings_of, bad_flag, settings_floats, gate_floats, bad_float, header_refusals}
 use Rattle.sheet_file.specs.declared.Layout.{Layout}
-use Rattle.sheet_file.specs.declared.EdgeGate.{EdgeGate}
-use Rattle.sheet_file.specs.declared.EdgeGate.TheVariants.{Off, On}
 use Rattle.sheet_file.specs.declared.Fraction.{Fraction}
 use Rattle.sheet_file.specs.declared.Fraction.TheVariants.{Missing}
-use Rattle.sheet_file.specs.declared.Framing.TheVariants.{Framed, Misframed}
 use Rattle.sheet_file.proofs.Words.{le16-same, le32-same}
 use Rattle.sheet_file.proofs.Fields.{field_in, points-from-is, StrengthsAt, strengths-there, strengths-absent, GateAt, gate-there, gate-absent, Fields, full-settings, short-settings, fields-of, points-in, before-points}
 use Rattle.points.specs.Records.{points_in}
@@ -36,7 +35,7 @@ pub record SameHeader (file other : List ℕ) (f : Layout) : Type 0 where
   pub same : (k : ℕ) → k < f.points → (f.full ≡ true → (k < 22) ⊎ (24 ≤ k)) → get_or other k 0 ≡ get_or file k 0
   pub after : (k : ℕ) → points_end f ≤ k → k < points_end f + 7 → get_or other k 0 ≡ get_or file k 0
 
-module _ (file other : List ℕ) (f : Layout) (framed : framing_of file ≡ Framed f) (h : SameHeader file other f) where
+module _ (file other : List ℕ) (f : Layout) (framed : framing_of file ≡ Some f) (h : SameHeader file other f) where
   -- ---- before the switches, and after them
 
   low : (k : ℕ) → k < 22 → k < f.points → get_or other k 0 ≡ get_or file k 0
@@ -83,7 +82,7 @@ module _ (file other : List ℕ) (f : Layout) (framed : framing_of file ≡ Fram
       let n : le16 other (at + 1) ≡ le16 file (at + 1) = after-half (at + 1) (omega arith) (omega arith) in
       rw (h.size, n, field-by at 4 (le16 file (at + 1)) (h.after at (omega arith) (omega arith)) n)
 
-  points-same : (at : ℕ) (full gated : Bool) → Late at → points_from file at full gated ≡ Framed f → points_from other at full gated ≡ Framed f
+  points-same : (at : ℕ) (full gated : Bool) → Late at → points_from file at full gated ≡ Some f → points_from other at full gated ≡ Some f
   points-same at full gated l e =
       let p = points-in file f at full gated e in
       let s = (field_in file at 3 (20 * f.count) p.field-there).size_is in
@@ -93,7 +92,7 @@ module _ (file other : List ℕ) (f : Layout) (framed : framing_of file ≡ Fram
       rw (points-from-is other at full gated, n, late-field at 3 (le16 file (at + 1)) l m, q, strengths-same (unweighed full gated (at + 3) (le16 file (at + 1) / 20)))
       (rw (points-from-is file at full gated, q) at e)
 
-  gate_same : (at : ℕ) (full : Bool) → Late at → GateAt file f at full → gate_from other at full ≡ Framed f
+  gate_same : (at : ℕ) (full : Bool) → Late at → GateAt file f at full → gate_from other at full ≡ Some f
   unfolding gate_from
   gate_same at full l (gate-there u e) =
       let p : at + 3 ≤ f.points = omega (arith, (points-in file f (at + 20) full true e).points-at) in
@@ -106,14 +105,14 @@ module _ (file other : List ℕ) (f : Layout) (framed : framing_of file ≡ Fram
   full_is at full (gate-there u e) = (points-in file f (at + 20) full true e).full_is
   full_is at full (gate-absent u e) = (points-in file f at full false e).full_is
 
-  frame-alike : framing_of other ≡ Framed f
+  frame-alike : framing_of other ≡ Some f
   unfolding framing_of
   frame-alike = go (fields-of file f framed)
     where
       first : (n : ℕ) → field_at other 0 1 n ≡ field_at file 0 1 n
       first n = let b = before-points file f framed in field-by 0 1 n (low 0 (omega arith) (omega arith)) (low_half 1 (omega arith) (omega arith))
 
-      go : Fields file f → cond (field_at other 0 1 21) (gate_from other 24 true) (cond (field_at other 0 1 4) (gate_from other 7 false) Misframed) ≡ Framed f
+      go : Fields file f → cond (field_at other 0 1 21) (gate_from other 24 true) (cond (field_at other 0 1 4) (gate_from other 7 false) None) ≡ Some f
       go (full-settings u g) = rw (first 21, u) (gate_same 24 true (λ t. omega arith) g)
       go (short-settings v u g) = rw (first 21, v, first 4, u) (gate_same 7 false (λ t. absurd (true≢false (sym t ∙ full_is 7 false g))) g)
 
@@ -141,7 +140,7 @@ module _ (file other : List ℕ) (f : Layout) (framed : framing_of file ≡ Fram
   unfolding edge_shape_of
   edge_same = go f.gated (before-points file f framed).gate
     where
-      go : (b : Bool) → (b ≡ true → gate_start f.full + 17 ≤ f.points) → cond b (On (gate_in other (gate_start f.full))) Off ≡ cond b (On (gate_in file (gate_start f.full))) Off
+      go : (b : Bool) → (b ≡ true → gate_start f.full + 17 ≤ f.points) → cond b (Some (gate_in other (gate_start f.full))) None ≡ cond b (Some (gate_in file (gate_start f.full))) None
       go true l = rw (gate-in-same (gate_start f.full) (gate-late f.full) (l refl))
       go false l = refl
 
@@ -163,17 +162,17 @@ module _ (file other : List ℕ) (f : Layout) (framed : framing_of file ≡ Fram
 
   fraction-same : fraction_of other f ≡ fraction_of file f
   unfolding fraction_of
-  fraction-same = go f.weighed (strengths-at (before-points file f framed).after)
+  fraction-same = go (is_some f.weights) (strengths-at (before-points file f framed).after)
     where
-      strengths-at : StrengthsAt file f (points_end f) → f.weighed ≡ true → f.strengths ≡ points_end f + 3
+      strengths-at : StrengthsAt file f (points_end f) → is_some f.weights ≡ true → (weights_of f).at ≡ points_end f + 3
       strengths-at (strengths-there t w s e) b = s
       strengths-at (strengths-absent w e) b = absurd (true≢false (sym b ∙ w))
 
-      go : (b : Bool) → (b ≡ true → f.strengths ≡ points_end f + 3) → cond b (fraction_in (float_at other f.strengths)) Missing ≡ cond b (fraction_in (float_at file f.strengths)) Missing
-      go true s = let e = s refl in rw (after-word f.strengths (omega arith) (omega arith))
+      go : (b : Bool) → (b ≡ true → (weights_of f).at ≡ points_end f + 3) → cond b (fraction_in (float_at other (weights_of f).at)) Missing ≡ cond b (fraction_in (float_at file (weights_of f).at)) Missing
+      go true s = let e = s refl in rw (after-word (weights_of f).at (omega arith) (omega arith))
       go false s = refl
 
-  settings-in-same : (g : EdgeGate) (x : Fraction) → 27 ≤ f.points → settings_in other g x ≡ switched (settings_in file g x) (byte_at other 22) (byte_at other 23)
+  settings-in-same : (g : Option EdgeShapeParams) (x : Fraction) → 27 ≤ f.points → settings_in other g x ≡ switched (settings_in file g x) (byte_at other 22) (byte_at other 23)
   unfolding settings_in
   settings-in-same g x l =
       rw (low_word 3 (omega arith) (omega arith), low_word 7 (omega arith) (omega arith), low_half 11 (omega arith) (omega arith), low_word 13 (omega arith) (omega arith), low 17 (omega arith) (omega arith), low_word 18 (omega arith) (omega arith))
@@ -183,7 +182,7 @@ module _ (file other : List ℕ) (f : Layout) (framed : framing_of file ≡ Fram
   unfolding settings_of
   settings-alike = rw (edge_same, fraction-same) (go f.full (before-points file f framed).long (edge_shape_of file f) (fraction_of file f))
     where
-      go : (b : Bool) → (b ≡ true → 27 ≤ f.points) → (g : EdgeGate) (x : Fraction)
+      go : (b : Bool) → (b ≡ true → 27 ≤ f.points) → (g : Option EdgeShapeParams) (x : Fraction)
           → cond b (settings_in other g x) (defaults_for (float_at other 3) g x)
           ≡ cond b (switched (cond b (settings_in file g x) (defaults_for (float_at file 3) g x)) (byte_at other 22) (byte_at other 23)) (cond b (settings_in file g x) (defaults_for (float_at file 3) g x))
       go true l g x = settings-in-same g x (l refl)
@@ -193,7 +192,7 @@ module _ (file other : List ℕ) (f : Layout) (framed : framing_of file ≡ Fram
 
   -- a file whose flags are as good is ruled on by the same header, and then by its own settings and points
   pub carried-alike : bad_flag other f ≡ bad_flag file f → (room : ℕ)
-      → ruling_of other room ≡ ruled refused (ruling_for (settings_of other f) (points_in other f)) (header_refusals file room (Framed f))
+      → ruling_of other room ≡ ruled refused (ruling_for (settings_of other f) (points_in other f)) (header_refusals file room (Some f))
   unfolding header_refusals
   carried-alike e room = by-points other room ∙ rw (frame-alike, e, floats_same)
 
@@ -202,11 +201,11 @@ module _ (file other : List ℕ) (f : Layout) (framed : framing_of file ≡ Fram
 pub same-headed : (file : List ℕ) (f : Layout) → Headed file file f
 same-headed file f = record { size = refl; head = λ k l. refl; after = λ k l m. refl }
 
-module _ (file other : List ℕ) (f : Layout) (framed : framing_of file ≡ Framed f) (h : Headed file other f) where
+module _ (file other : List ℕ) (f : Layout) (framed : framing_of file ≡ Some f) (h : Headed file other f) where
   alike : SameHeader file other f
   alike = record { size = h.size; same = λ k m l. h.head k m; after = h.after }
 
-  pub frame_same : framing_of other ≡ Framed f
+  pub frame_same : framing_of other ≡ Some f
   frame_same = frame-alike file other f framed alike
 
   own-switches : f.full ≡ true → switched (settings_of file f) (byte_at file 22) (byte_at file 23) ≡ settings_of file f
@@ -225,5 +224,5 @@ module _ (file other : List ℕ) (f : Layout) (framed : framing_of file ≡ Fram
   flags-same = and-under f.full (λ e. let l = (before-points file f framed).long e in rw (h.head 17 (omega arith), h.head 22 (omega arith), h.head 23 (omega arith)))
 
   -- a file with this header is ruled on by it, and then by its own points
-  pub carried : (room : ℕ) → ruling_of other room ≡ ruled refused (ruling_for (settings_of file f) (points_in other f)) (header_refusals file room (Framed f))
+  pub carried : (room : ℕ) → ruling_of other room ≡ ruled refused (ruling_for (settings_of file f) (points_in other f)) (header_refusals file room (Some f))
   carried room = carried-alike file other f framed alike flags-same room ∙ rw settings-same

@@ -1,5 +1,6 @@
 -- The limit of points: it is as `LimitPromise` says of every file and buffer; and sheets at the limit, above it, of the most points that
 -- can be framed, and of one more. Assumes nothing.
+use Rattle.std.specs.Prelude.{is_some}
 use mathlib.Core.Path.{◌≡◌, refl, sym, ◌∙◌}
 use mathlib.Core.Bool.{Bool, true, false, cond, not, ◌&&◌, true≢false}
 use mathlib.Core.Logic.{inl, inr}
@@ -16,7 +17,7 @@ use Rattle.refusals.proofs.Laws.{neither-holds}
 use Rattle.folds.proofs.Column.{replicate-at}
 use Rattle.view.specs.View.{max_points}
 use Rattle.sheet_file.specs.Bytes.{Bytes, byte_at, le16}
-use Rattle.sheet_file.specs.Frame.{layout_of}
+use Rattle.sheet_file.specs.Frame.{layout_of, weights_of}
 use Rattle.sheet_file.specs.Grammar.{absent, WellFramed, most_records}
 use Rattle.sheet_file.specs.Refusals.{misframed, misfit}
 use Rattle.sheet_file.specs.declared.Layout.{Layout}
@@ -40,10 +41,10 @@ module _ (file : List ℕ) (room : ℕ) where
 
   -- a tag 4 that fits, or none
   pub fits : (w : WellFramed file) → WeightsFit w → misfit (layout_of file) ≡ false
-  fits w o = go (layout_of file).weighed (weights-counted file w) o
+  fits w o = go (is_some (layout_of file).weights) (weights-counted file w) o
     where
       n : ℕ
-      n = (layout_of file).strengths_len
+      n = (weights_of (layout_of file)).len
 
       go : (b : Bool) → cond b (3 + n) 0 ≡ length w.weights → WeightsFit w → b && not (eqb n (4 + 4 * (layout_of file).count)) ≡ false
       go true e (inl z) = absurd (omega arith)
@@ -51,10 +52,10 @@ module _ (file : List ℕ) (room : ℕ) where
       go false e o = refl
 
   fitting : (w : WellFramed file) → misfit (layout_of file) ≡ false → WeightsFit w
-  fitting w m = go (layout_of file).weighed (weights-counted file w) m
+  fitting w m = go (is_some (layout_of file).weights) (weights-counted file w) m
     where
       n : ℕ
-      n = (layout_of file).strengths_len
+      n = (weights_of (layout_of file)).len
 
       go : (b : Bool) → cond b (3 + n) 0 ≡ length w.weights → b && not (eqb n (4 + 4 * (layout_of file).count)) ≡ false → WeightsFit w
       go true e m = inr (omega (arith, eqb-true n (4 + 4 * (layout_of file).count) (not-false (eqb n (4 + 4 * (layout_of file).count)) m), points-counted file w))
@@ -208,8 +209,8 @@ module _ (p : List ℕ) (n : ℕ) (size : length p ≡ 20 * n) (room : ℕ) wher
 
           go : StrengthsAt file (layout_of file) (7 + 3 + 20 * count) → ⊥
           go (strengths-there t u s e) =
-              no_room n count (layout_of file).strengths_len (length p / 65536) (omega (arith, size, counted)) l (omega (arith, counted)) (omega (arith, short-size p n size))
-              (omega (arith, (field_in file (7 + 3 + 20 * count) 4 (layout_of file).strengths_len t).size_is, le16-small file c (7 + 3 + 20 * count + 1)))
+              no_room n count (weights_of (layout_of file)).len (length p / 65536) (omega (arith, size, counted)) l (omega (arith, counted)) (omega (arith, short-size p n size))
+              (omega (arith, (field_in file (7 + 3 + 20 * count) 4 (weights_of (layout_of file)).len t).size_is, le16-small file c (7 + 3 + 20 * count + 1)))
           go (strengths-absent u e) = omega (arith, short-size p n size, counted)
 
 -- ---- the sheet of n points of zeros, by n

@@ -1,5 +1,6 @@
 -- The moved file consists of bytes; it is the file with a added to every u and b to every v, and no other file is; and its cells are in range,
 -- where the moved cells of the accepted points are. Assumes nothing.
+use Rattle.std.specs.Prelude.{Some}
 use mathlib.Core.Path.{◌≡◌, sym, ap, ◌∙◌}
 use mathlib.Core.Bool.{Bool, true, false, cond, not, ◌||◌}
 use mathlib.Core.List.{List}
@@ -26,7 +27,6 @@ use Rattle.cells.proofs.Coordinates.{lift-range}
 use Rattle.sort.proofs.Sorted.{sorted-has}
 use Rattle.sheet_file.specs.Bytes.{Bytes, le32}
 use Rattle.sheet_file.specs.Frame.{framing_of, layout_of, layout_in}
-use Rattle.sheet_file.specs.declared.Framing.TheVariants.{Framed}
 use Rattle.sheet_file.specs.declared.Layout.{Layout}
 use Rattle.sheet_file.specs.declared.Settings.{Settings}
 use Rattle.sheet_file.proofs.Words.{le32-small}
@@ -131,7 +131,7 @@ module _ (file : List ℕ) (a b : ℤ) where
       go (yes h) = rw (moved_at k h) (either (ltb k f.points || leb (points_end f) k) _ _ (bytes k) (small (place ((k - f.points) / 20)) ((k - f.points) % 20)))
       go (no h) = rw (list_over (length file) (byte_moved file a b) k 0 (omega (arith, h))) (omega arith)
 
-  module _ (framed : framing_of file ≡ Framed f) where
+  module _ (framed : framing_of file ≡ Some f) where
     size-stays : length other ≡ length file
     unfolding moved_file
     size-stays = length-list (length file) (byte_moved file a b)

@@ -1,5 +1,6 @@
 -- Accepted points that are moved, their cells staying in range, are accepted with the same settings, and in cell order they are the old ones
 -- moved: of a list of points, and of a file. Assumes nothing.
+use Rattle.std.specs.Prelude.{Some, is_some}
 use mathlib.Core.Path.{◌≡◌, refl, sym, ap, ◌∙◌}
 use mathlib.Core.Bool.{Bool, true, false, cond}
 use mathlib.Core.List.{List, map}
@@ -22,10 +23,9 @@ use Rattle.sort.specs.Sorted.{sort}
 use Rattle.sort.proofs.Sorted.{sort-all, all-at}
 use Rattle.grid.specs.Moved.{Moved}
 use Rattle.sheet_file.specs.Bytes.{Bytes, le32}
-use Rattle.sheet_file.specs.Frame.{framing_of, layout_of}
+use Rattle.sheet_file.specs.Frame.{framing_of, layout_of, weights_of}
 use Rattle.sheet_file.specs.Refusals.{settings_of, header_refusals}
 use Rattle.sheet_file.specs.declared.Fraction.{Fraction}
-use Rattle.sheet_file.specs.declared.Framing.TheVariants.{Framed}
 use Rattle.sheet_file.specs.declared.Layout.{Layout}
 use Rattle.sheet_file.specs.declared.Settings.{Settings}
 use Rattle.sheet_file.proofs.Words.{le32-same}
@@ -169,17 +169,17 @@ module _ (file other : List ℕ) (f : Layout) (a b : ℤ) (o : FileDisplaced fil
   headed : Headed file other f
   headed = record { size = o.size; head = o.head; after = λ k l m. o.after k l }
 
-  strength-stays : framing_of file ≡ Framed f → (i : ℕ) → ith_strength other f i ≡ ith_strength file f i
-  strength-stays framed i = go f.weighed (λ w. strengths-after file f w (before-points file f framed))
+  strength-stays : framing_of file ≡ Some f → (i : ℕ) → ith_strength other f i ≡ ith_strength file f i
+  strength-stays framed i = go (is_some f.weights) (λ w. strengths-after file f w (before-points file f framed))
     where
       at : ℕ
-      at = f.strengths + 4 + 4 * i
+      at = (weights_of f).at + 4 + 4 * i
 
-      go : (b : Bool) → (b ≡ true → points_end f ≤ f.strengths) → cond b (le32 other at) 0 ≡ cond b (le32 file at) 0
+      go : (b : Bool) → (b ≡ true → points_end f ≤ (weights_of f).at) → cond b (le32 other at) 0 ≡ cond b (le32 file at) 0
       go true s = let l = s refl in le32-same file at other at (λ k m. o.after (at + k) (omega arith))
       go false s = refl
 
-  record-moved : framing_of file ≡ Framed f → (i : ℕ) → i < f.count → Displaced a b (ith_point file f i) (ith_point other f i)
+  record-moved : framing_of file ≡ Some f → (i : ℕ) → i < f.count → Displaced a b (ith_point file f i) (ith_point other f i)
   record-moved framed i h = record {
     cell = o.cell i h;
     index = word-stays i 8 h (omega arith) (omega arith);
@@ -188,7 +188,7 @@ module _ (file other : List ℕ) (f : Layout) (a b : ℤ) (o : FileDisplaced fil
     strength = strength-stays framed i;
   }
 
-  all-displaced : framing_of file ≡ Framed f → AllDisplaced a b (points_in file f) (points_in other f)
+  all-displaced : framing_of file ≡ Some f → AllDisplaced a b (points_in file f) (points_in other f)
   unfolding points_in
   all-displaced framed = record {
     size = length-points other f ∙ sym (length-points file f);
@@ -209,7 +209,7 @@ offset file other a b bf bo o in-range room s ps e =
     let m = displaced a b (settings_of file f) s old new ps (all-displaced file other f a b o k.framed) (words-in file f bf) (words-in other f bo) in-range k.ruled-so in
     record {
       points = m.points;
-      ruling = carried file other f k.framed (headed file other f a b o) room ∙ none_passes refused (ruling_for (settings_of file f) new) (header_refusals file room (Framed f)) fine ∙ m.ruling;
+      ruling = carried file other f k.framed (headed file other f a b o) room ∙ none_passes refused (ruling_for (settings_of file f) new) (header_refusals file room (Some f)) fine ∙ m.ruling;
       size = m.size;
       along = m.along;
     }

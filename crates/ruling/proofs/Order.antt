@@ -1,4 +1,5 @@
 -- Another order of the points leaves the ruling the same: of a list of points, and of a file. Assumes nothing.
+use Rattle.std.specs.Prelude.{Some, is_some}
 use mathlib.Core.Path.{◌≡◌, refl, sym, ap, ◌∙◌}
 use mathlib.Core.Bool.{Bool, true, false, cond, not, ◌&&◌}
 use mathlib.Core.List.{List, [], ◌++◌, map, Permᴰ}
@@ -11,13 +12,12 @@ use Rattle.folds.specs.Lists.{All, list_of}
 use Rattle.folds.proofs.Lists.{length-list, list_at, is-list}
 use Rattle.cells.specs.Points.{Point}
 use Rattle.sheet_file.specs.Bytes.{Bytes, le32}
-use Rattle.sheet_file.specs.Frame.{framing_of}
+use Rattle.sheet_file.specs.Frame.{framing_of, weights_of}
 use Rattle.sheet_file.specs.Refusals.{misfit, settings_of, header_refusals}
 use Rattle.refusals.specs.First.{ruled}
 use Rattle.refusals.proofs.Laws.{holds, none-applies-in, ruled-same-end}
 use Rattle.folds.specs.Among.{any_in}
 use Rattle.sheet_file.specs.declared.Fraction.{Fraction}
-use Rattle.sheet_file.specs.declared.Framing.TheVariants.{Framed}
 use Rattle.sheet_file.proofs.Words.{SameBytes, le32-same}
 use Rattle.sheet_file.proofs.Fields.{framed-held}
 use Rattle.sheet_file.specs.declared.Layout.{Layout}
@@ -56,7 +56,7 @@ relisted s ps qs h p =
 abbrev point_of : Bool → List ℕ → Point
 point_of weighed r = point_in r 0 (cond weighed (le32 r 20) 0)
 
-module _ (file : List ℕ) (f : Layout) (framed : framing_of file ≡ Framed f) (fit : misfit f ≡ false) where
+module _ (file : List ℕ) (f : Layout) (framed : framing_of file ≡ Some f) (fit : misfit f ≡ false) where
   abbrev at : ℕ → ℕ
   at i = f.points + 20 * i
 
@@ -70,28 +70,28 @@ module _ (file : List ℕ) (f : Layout) (framed : framing_of file ≡ Framed f) 
       rw z (get_or-append (bytes_at file (at i) 20) _ 0 k (omega (arith, first-size i h)) ∙ get_or-take 20 (drop (at i) file) k 0 l ∙ get_or-drop (at i) file k 0)
 
   -- and the others its strength's
-  strength-is : (i : ℕ) → i < f.count → cond f.weighed (le32 (record_of file f i) 20) 0 ≡ ith_strength file f i
-  strength-is i h = go f.weighed refl
+  strength-is : (i : ℕ) → i < f.count → cond (is_some f.weights) (le32 (record_of file f i) 20) 0 ≡ ith_strength file f i
+  strength-is i h = go (is_some f.weights) refl
     where
       from : ℕ
-      from = f.strengths + 4 + 4 * i
+      from = (weights_of f).at + 4 + 4 * i
 
       last-bytes : (b : List ℕ) → SameBytes 4 file from (bytes_at file (at i) 20 ++ (bytes_at file from 4)) 20
       last-bytes b k l =
           let e : 20 + k ≡ length (bytes_at file (at i) 20) + k = omega (arith, first-size i h) in
           rw e (get_or-append-add (bytes_at file (at i) 20) (bytes_at file from 4) k 0 ∙ get_or-take 4 (drop from file) k 0 l ∙ get_or-drop from file k 0)
 
-      go : (b : Bool) → f.weighed ≡ b → cond b (le32 (bytes_at file (at i) 20 ++ cond (b && not (misfit f)) (bytes_at file from 4) []) 20) 0 ≡ cond b (le32 file from) 0
+      go : (b : Bool) → is_some f.weights ≡ b → cond b (le32 (bytes_at file (at i) 20 ++ cond (b && not (misfit f)) (bytes_at file from 4) []) 20) 0 ≡ cond b (le32 file from) 0
       go true w = rw fit (le32-same file from (bytes_at file (at i) 20 ++ bytes_at file from 4) 20 (last-bytes []))
       go false w = refl
 
-  point-is : (i : ℕ) → i < f.count → point_of f.weighed (record_of file f i) ≡ ith_point file f i
+  point-is : (i : ℕ) → i < f.count → point_of (is_some f.weights) (record_of file f i) ≡ ith_point file f i
   point-is i h = rw (strength-is i h) (point-same file (at i) (record_of file f i) 0 (ith_strength file f i) (first-bytes i h))
 
-  points-are : map (point_of f.weighed) (records_in file f) ≡ points_in file f
+  points-are : map (point_of (is_some f.weights)) (records_in file f) ≡ points_in file f
   unfolding records_in points_in
   points-are =
-      let point = point_of f.weighed in
+      let point = point_of (is_some f.weights) in
       let each = record_of file f in
       let n = f.count in
       is-list (point []) n (ith_point file f) (map point (list_of n each)) (length-map (list_of n each) point ∙ length-list n each)
@@ -104,19 +104,19 @@ perm-map g (mathlib.Core.List.Permᴰ.swap e f) = mathlib.Core.List.Permᴰ.swap
 perm-map g (mathlib.Core.List.Permᴰ.trans p q) = mathlib.Core.List.Permᴰ.trans (perm-map g p) (perm-map g q)
 
 -- where no number of the header applies, tag 4 fits
-header-fits : (file : List ℕ) (room : ℕ) (f : Layout) → any_in holds (header_refusals file room (Framed f)) ≡ false → misfit f ≡ false
+header-fits : (file : List ℕ) (room : ℕ) (f : Layout) → any_in holds (header_refusals file room (Some f)) ≡ false → misfit f ≡ false
 unfolding header_refusals
-header-fits file room f h = none-applies-in (header_refusals file room (Framed f)) h 12
+header-fits file room f h = none-applies-in (header_refusals file room (Some f)) h 12
 
-pub same-ruling : (file other : List ℕ) (f : Layout) → Bytes file → framing_of file ≡ Framed f → Relisted file other f → (room : ℕ) → ruling_of file room ≡ ruling_of other room
+pub same-ruling : (file other : List ℕ) (f : Layout) → Bytes file → framing_of file ≡ Some f → Relisted file other f → (room : ℕ) → ruling_of file room ≡ ruling_of other room
 same-ruling file other f b e r room =
     carried file file f e (same-headed file f) room
-    ∙ ruled-same-end refused (ruling_for (settings_of file f) (points_in file f)) (ruling_for (settings_of file f) (points_in other f)) (header_refusals file room (Framed f)) same_points
+    ∙ ruled-same-end refused (ruling_for (settings_of file f) (points_in file f)) (ruling_for (settings_of file f) (points_in other f)) (header_refusals file room (Some f)) same_points
     ∙ sym (carried file other f e r.rest room)
   where
-    same_points : any_in holds (header_refusals file room (Framed f)) ≡ false → ruling_for (settings_of file f) (points_in file f) ≡ ruling_for (settings_of file f) (points_in other f)
+    same_points : any_in holds (header_refusals file room (Some f)) ≡ false → ruling_for (settings_of file f) (points_in file f) ≡ ruling_for (settings_of file f) (points_in other f)
     same_points h =
         let m = header-fits file room f h in
         let p : Permᴰ (points_in file f) (points_in other f) =
-        rw (points-are file f e m, points-are other f (frame_same file other f e r.rest) m) at (perm-map (point_of f.weighed) r.records) in
+        rw (points-are file f e m, points-are other f (frame_same file other f e r.rest) m) at (perm-map (point_of (is_some f.weights)) r.records) in
         relisted (settings_of file f) (points_in file f) (points_in other f) (words-in file f b) p

@@ -1,4 +1,5 @@
 -- Points that are accepted stand in cell order: all in range, no two in one cell; of a list of points, and of a file. Assumes nothing.
+use Rattle.std.specs.Prelude.{Some, is_some}
 use mathlib.Core.Path.{◌≡◌, refl, sym, ap, ◌∙◌}
 use mathlib.Core.Bool.{Bool, true, false, cond, true≢false}
 use mathlib.Core.List.{List, [], ◌∷◌, Permᴰ}
@@ -24,10 +25,9 @@ use Rattle.sort.proofs.Sorted.{At, all-at, at_all, sort-perm, sort-length, sort-
 use Rattle.grid.specs.InOrder.{CellOrder}
 use Rattle.grid.proofs.InOrder.{order-by-keys}
 use Rattle.sheet_file.specs.Bytes.{Bytes, le32}
-use Rattle.sheet_file.specs.Frame.{framing_of, layout_of}
+use Rattle.sheet_file.specs.Frame.{framing_of, layout_of, weights_of}
 use Rattle.sheet_file.specs.Refusals.{settings_of, misfit}
 use Rattle.sheet_file.specs.declared.Fraction.{Fraction}
-use Rattle.sheet_file.specs.declared.Framing.TheVariants.{Framed}
 use Rattle.sheet_file.specs.declared.Layout.{Layout}
 use Rattle.sheet_file.specs.declared.Settings.{Settings}
 use Rattle.sheet_file.proofs.Words.{le32-small}
@@ -187,9 +187,9 @@ sound-for s t ps qs h few e =
 -- ---- of a file
 
 strength-small : (file : List ℕ) (f : Layout) (i : ℕ) → Bytes file → ith_strength file f i < 2 ^ 32
-strength-small file f i b = go f.weighed
+strength-small file f i b = go (is_some f.weights)
   where
-    go : (t : Bool) → cond t (le32 file (f.strengths + 4 + 4 * i)) 0 < 2 ^ 32
+    go : (t : Bool) → cond t (le32 file ((weights_of f).at + 4 + 4 * i)) 0 < 2 ^ 32
     go true = le32-small file b _
     go false = omega arith
 
@@ -203,7 +203,7 @@ words-in file f b =
 
 -- what an accepted ruling says
 pub record AcceptedFile (file : List ℕ) (f : Layout) (s : Settings) (ps : List Point) : Type 0 where
-  pub framed : framing_of file ≡ Framed f
+  pub framed : framing_of file ≡ Some f
   pub fits : misfit f ≡ false
   pub few : f.count ≤ max_points
   pub settings-are : s ≡ settings_of file f

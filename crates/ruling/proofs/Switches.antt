@@ -1,5 +1,6 @@
 -- "Changing only the two switches": the file stays accepted, with the same points, and of its settings the two switches alone change.
 -- Assumes nothing.
+use Rattle.std.specs.Prelude.{Some, is_some}
 use mathlib.Core.Path.{◌≡◌, refl, sym, ◌∙◌}
 use mathlib.Core.Bool.{Bool, true, false, cond, ◌||◌}
 use mathlib.Core.List.{List}
@@ -12,11 +13,10 @@ use Rattle.folds.proofs.Lists.{list_ext}
 use Rattle.refusals.proofs.Laws.{none_passes}
 use Rattle.cells.specs.Points.{Point, nowhere}
 use Rattle.sheet_file.specs.Bytes.{byte_at, le32}
-use Rattle.sheet_file.specs.Frame.{framing_of, layout_of}
+use Rattle.sheet_file.specs.Frame.{framing_of, layout_of, weights_of}
 use Rattle.sheet_file.specs.Refusals.{settings_of, no_flag, bad_flag, header_refusals}
 use Rattle.sheet_file.specs.declared.Layout.{Layout}
 use Rattle.sheet_file.specs.declared.Settings.{Settings}
-use Rattle.sheet_file.specs.declared.Framing.TheVariants.{Framed}
 use Rattle.sheet_file.proofs.Words.{le32-same}
 use Rattle.sheet_file.proofs.Fields.{before-points, strengths-after}
 use Rattle.points.specs.Records.{ith_strength, ith_point, points_in}
@@ -28,7 +28,7 @@ use Rattle.ruling.proofs.Given.{other-settings, none-applies, in-file}
 use Rattle.ruling.proofs.Header.{SameHeader, settings-alike, carried-alike}
 use Rattle.ruling.proofs.Standing.{accepted-file}
 
-module _ (file other : List ℕ) (f : Layout) (h : Switched file other) (framed : framing_of file ≡ Framed f) (full : f.full ≡ true) where
+module _ (file other : List ℕ) (f : Layout) (h : Switched file other) (framed : framing_of file ≡ Some f) (full : f.full ≡ true) where
   alike : SameHeader file other f
   alike = record { size = h.size; same = λ k m l. h.rest k (l full); after = λ k l m. h.rest k (inr (omega (arith, (before-points file f framed).long full))) }
 
@@ -43,12 +43,12 @@ module _ (file other : List ℕ) (f : Layout) (h : Switched file other) (framed 
   late k l = h.rest k (inr (omega (arith, (before-points file f framed).long full)))
 
   strengths-are : (i : ℕ) → ith_strength other f i ≡ ith_strength file f i
-  strengths-are i = go f.weighed (λ w. strengths-after file f w (before-points file f framed))
+  strengths-are i = go (is_some f.weights) (λ w. strengths-after file f w (before-points file f framed))
     where
       at : ℕ
-      at = f.strengths + 4 + 4 * i
+      at = (weights_of f).at + 4 + 4 * i
 
-      go : (b : Bool) → (b ≡ true → points_end f ≤ f.strengths) → cond b (le32 other at) 0 ≡ cond b (le32 file at) 0
+      go : (b : Bool) → (b ≡ true → points_end f ≤ (weights_of f).at) → cond b (le32 other at) 0 ≡ cond b (le32 file at) 0
       go true s = let l = s refl in le32-same file at other at (λ k m. late (at + k) (omega arith))
       go false s = refl
 
@@ -73,4 +73,4 @@ switches file other h full room s ps e =
     let same : ruling_for t (points_in file f) ≡ accepted t ps = other-settings s t (points_in file f) ps refl (rw (← k.settings-are) at k.ruled-so) in
     carried-alike file other f k.framed (alike file other f h k.framed full) (flags-fine file other f h k.framed full ok ∙ sym ok) room
     ∙ rw (settings-switched file other f h k.framed full, ← k.settings-are, points-are file other f h k.framed full)
-    (none_passes refused (ruling_for t (points_in file f)) (header_refusals file room (Framed f)) fine ∙ same)
+    (none_passes refused (ruling_for t (points_in file f)) (header_refusals file room (Some f)) fine ∙ same)

@@ -1,5 +1,6 @@
 -- Tag 4 on sheets of no point, one point and two: its numbers 12, 13 and 14 and their places among the others, and another order of points that
 -- takes the strengths along or leaves them behind. Assumes nothing.
+use Rattle.std.specs.Prelude.{None, Some}
 use mathlib.Core.Path.{◌≡◌, refl, sym, ap, ◌∙◌}
 use mathlib.Core.Bool.{Bool, true, false}
 use mathlib.Core.List.{List, [], ◌∷◌, ◌++◌, map, Permᴰ}
@@ -21,9 +22,7 @@ use Rattle.sheet_file.specs.Bytes.{Bytes, le16, le32}
 use Rattle.sheet_file.specs.Frame.{field_at, end_from, strengths_from, points_from, gate_from, framing_of, layout_of}
 use Rattle.sheet_file.specs.Grammar.{field, absent, present, WellFramed, most_records}
 use Rattle.sheet_file.specs.Refusals.{defaults_for, edge_shape_of, fraction_of, settings_of, bad_flag, bad_float}
-use Rattle.sheet_file.specs.declared.EdgeGate.TheVariants.{Off}
 use Rattle.sheet_file.specs.declared.Fraction.TheVariants.{Given}
-use Rattle.sheet_file.specs.declared.Framing.TheVariants.{Framed}
 use Rattle.sheet_file.specs.declared.Layout.{Layout}
 use Rattle.sheet_file.specs.declared.Settings.{Settings}
 use Rattle.sheet_file.proofs.Words.{bytes-join}
@@ -101,7 +100,7 @@ abbrev alone : List Point
 alone = point 3 7 one two ∷ []
 
 abbrev weighed : ℕ → Settings
-weighed fraction = defaults_for (f32 0) Off (Given (f32 fraction))
+weighed fraction = defaults_for (f32 0) None (Given (f32 fraction))
 
 pub one-weighed : ruling_of (weighed_sheet one alone) 28 ≡ accepted (weighed one) alone
 unfolding file-computes
@@ -109,7 +108,7 @@ one-weighed = refl
 
 -- after settings of length 21 and tag 2 its data begin at byte 70
 pub all-fields : framing_of (field 1 (replicate 21 0) ++ field 2 (replicate 17 0) ++ field 3 (point_bytes alone) ++ weights one alone)
-    ≡ Framed (record { full = true; gated = true; points = 47; count = 1; weighed = true; strengths = 70; strengths_len = 8 })
+    ≡ Some (record { full = true; gated = true; points = 47; count = 1; weights = Some (record { at = 70; len = 8 }) })
 unfolding file-computes
 all-fields = refl
 
@@ -266,7 +265,7 @@ pub left-behind-accepted : ruling_of left_behind 56 ≡ accepted (weighed one) (
 unfolding file-computes
 left-behind-accepted = refl
 
-pub listed-framed : framing_of listed ≡ Framed (layout_of listed)
+pub listed-framed : framing_of listed ≡ Some (layout_of listed)
 unfolding file-computes
 listed-framed = refl
 
@@ -308,7 +307,7 @@ without_strengths file f = map (take 20) (records_in file f)
 abbrev strength_in : Ruling → ℕ
 strength_in x = (get_or (points_by x) 0 nowhere).strength
 
-pub strengths-needed : ((file other : List ℕ) (f : Layout) → Bytes file → framing_of file ≡ Framed f → Headed file other f → Permᴰ (without_strengths file f) (without_strengths other f)
+pub strengths-needed : ((file other : List ℕ) (f : Layout) → Bytes file → framing_of file ≡ Some f → Headed file other f → Permᴰ (without_strengths file f) (without_strengths other f)
     → (room : ℕ) → ruling_of file room ≡ ruling_of other room) → ⊥
 unfolding file-computes records_in
 strengths-needed h =

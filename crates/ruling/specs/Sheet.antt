@@ -1,10 +1,9 @@
 -- The ruling as the code hands it back: the settings and the table of the points, or the number of a refusal and no points.
 -- Assumes nothing.
-use Rattle.std.specs.Prelude.{◌≡◌, List, [], ℕ, length}
+use Rattle.std.specs.Prelude.{◌≡◌, List, [], ℕ, length, None}
 use Rattle.folds.specs.Arith.{zero_f}
 use Rattle.cells.specs.Points.{Point}
 use Rattle.sheet_file.specs.Refusals.{defaults_for}
-use Rattle.sheet_file.specs.declared.EdgeGate.TheVariants.{Off}
 use Rattle.sheet_file.specs.declared.Fraction.TheVariants.{Missing}
 use Rattle.sheet_file.specs.declared.Settings.{Settings}
 use Rattle.points.specs.Table.{Tabled}
@@ -18,7 +17,7 @@ number_by (accepted s ps) = 0
 
 -- the settings; of a refused file, the defaults for cell size 0
 abbrev pub settings_by : Ruling → Settings
-settings_by (refused k) = defaults_for zero_f Off Missing
+settings_by (refused k) = defaults_for zero_f None Missing
 settings_by (accepted s ps) = s
 
 -- the points in cell order; of a refused file, none

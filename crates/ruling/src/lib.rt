@@ -8,7 +8,7 @@ ghost use Rattle.ruling.specs.Sheet.{Ruled};
 ghost use Rattle.std.specs.Prelude.{◌≡◌, []};
 
 use points::Table;
-use sheet_file::{EdgeGate, Fraction, Header, Reading, Settings};
+use sheet_file::{Fraction, Header, Reading, Settings};
 use view::MAX_POINTS;
 
 // A result buffer of this size has room for the rows of every sheet.
@@ -34,7 +34,7 @@ fn refused_with(table: Table) -> Sheet
     ensures { Ruled (refused table.number) result }
 {
     Sheet {
-        settings: Settings::new(0.0, EdgeGate::Off, Fraction::Missing),
+        settings: Settings::new(0.0, None, Fraction::Missing),
         count: 0,
         table,
     }

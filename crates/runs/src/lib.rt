@@ -1,11 +1,12 @@
 // The record of a run: how it starts, when it is full, and the record with one sheet more. What it is stands in specs/Run.antt.
 #![tactic(auto)]
 
-ghost use Rattle.std.specs.Prelude.{◌≡◌, ◌<◌, length, get_or};
+ghost use Rattle.std.specs.Prelude.{◌≡◌, ℕ, ◌+◌, ◌<◌, length, get_or};
+ghost use Rattle.folds.specs.Lists.{list_of};
 ghost use Rattle.runs.specs.Run.{summed, run_from, new_run, full, with_sheet, Takes};
 
 use marks::COUNTS;
-use marks::filters::{COMPONENT, FILTERS, LEAF, ORIENTATION, VALIDATE, WRONG};
+use marks::filters::{FILTERS, Filter};
 
 // Kept and the four filters that there were under the old count; never more.
 pub const OLD_SUMS: usize = 5;
@@ -20,7 +21,14 @@ pub const MOST_SHEETS: u32 = 65535;
 pub const SUM_LIMIT: u32 = 0x8000_0000;
 
 // The places in a tally of the numbers that a run adds up, in the order of its sums.
-const SUMMED: [usize; NEW_SUMS] = [FILTERS, VALIDATE, ORIENTATION, WRONG, LEAF, COMPONENT];
+const SUMMED: [usize; NEW_SUMS] = [
+    FILTERS,
+    Filter::Validate as usize,
+    Filter::Orientation as usize,
+    Filter::WrongLabel as usize,
+    Filter::Leaf as usize,
+    Filter::Component as usize,
+];
 
 // The sums of the tallies under the old count, which counted cells; how many sheets were accepted; and the sums of their tallies, which
 // count indices.
@@ -62,13 +70,10 @@ pub fn is_full(run: Run) -> bool
     if MOST_SHEETS <= run.sheets {
         return true;
     }
-    let sums = run.new_sums;
-    let mut i = 0;
-    while i < NEW_SUMS {
-        if SUM_LIMIT <= sums[i] {
+    for sum in run.new_sums {
+        if SUM_LIMIT <= sum {
             return true;
         }
-        i += 1;
     }
     false
 }
@@ -81,23 +86,26 @@ fn summed_place(i: usize) -> usize
     SUMMED[i]
 }
 
+// The new sums of the record with one sheet more, which has this tally.
+fn sums_with(run: Run, tally: [usize; COUNTS]) -> [u32; NEW_SUMS]
+    requires { Takes run tally }
+    ensures { result ≡ list_of (length summed) (λ (i : ℕ). get_or run.new_sums i 0 + get_or tally (get_or summed i 0) 0) }
+{
+    let mut sums = run.new_sums;
+    for (i, sum) in sums.iter_mut().enumerate() {
+        *sum += tally[summed_place(i)] as u32;
+    }
+    sums
+}
+
 // The record with one sheet more, which has this tally.
 pub fn with_sheet(run: Run, tally: [usize; COUNTS]) -> Run
     requires { Takes run tally }
     ensures { result ≡ with_sheet run tally }
 {
-    let old = run.old_sums;
-    let new = run.new_sums;
-    let mut sums = [0u32; NEW_SUMS];
-    let mut i = 0;
-    while i < NEW_SUMS {
-        sums[i] = new[i] + tally[summed_place(i)] as u32;
-        i += 1;
-    }
-    let sheets = run.sheets + 1;
     Run {
-        old_sums: old,
-        sheets,
-        new_sums: sums,
+        sheets: run.sheets + 1,
+        new_sums: sums_with(run, tally),
+        ..run
     }
 }

@@ -9,18 +9,18 @@ use lib.Dec.{eqb, leb}
 use lib.ListN.{length}
 use Rattle.folds.proofs.Below.{and_left, and_right, not-false}
 use Rattle.sheet_file.specs.Bytes.{byte_at, le16}
-use Rattle.sheet_file.specs.Frame.{field_at, end_from, weighed_at, unweighed, strengths_from, points_from, gate_from, framing_of, layout_in, layout_of, gate_start, Held}
+use Rattle.sheet_file.specs.Frame.{field_at, end_from, weighed_at, unweighed, strengths_from, points_from, gate_from, framing_of, layout_in, layout_of, weights_of, gate_start, Held}
 use Rattle.sheet_file.specs.Refusals.{misframing, misframed, misfit}
+use Rattle.sheet_file.specs.declared.Weights.{Weights}
 use Rattle.sheet_file.specs.declared.Layout.{Layout}
-use Rattle.sheet_file.specs.declared.Framing.{Framing}
-use Rattle.sheet_file.specs.declared.Framing.TheVariants.{Framed, Misframed}
+use Rattle.std.specs.Prelude.{Option, Some, None, is_some, unwrap_or}
 
-pub is_framed : (file : List ℕ) → misframed file ≡ false → framing_of file ≡ Framed (layout_of file)
+pub is_framed : (file : List ℕ) → misframed file ≡ false → framing_of file ≡ Some (layout_of file)
 is_framed file m = go (framing_of file) m
   where
-    go : (x : Framing) → misframing x ≡ false → x ≡ Framed (layout_in x)
-    go (Framed f) m = refl
-    go Misframed m = absurd (true≢false m)
+    go : (x : Option Layout) → misframing x ≡ false → x ≡ Some (layout_in x)
+    go (Some f) m = refl
+    go None m = absurd (true≢false m)
 
 -- ---- one field
 
@@ -40,33 +40,41 @@ field_in file at tag n e =
       size_is = eqb-true (le16 file (at + 1)) n (and_right (eqb (byte_at file at) tag) (eqb (le16 file (at + 1)) n) r);
     }
 
+-- the data of tag 4, if it is there
+pub weights-there : (f : Layout) → is_some f.weights ≡ true → f.weights ≡ Some (weights_of f)
+weights-there f e = go f.weights e
+  where
+    go : (x : Option Weights) → is_some x ≡ true → x ≡ Some (unwrap_or x (record { at = 0; len = 0 }))
+    go (Some w) e = refl
+    go None e = absurd (false≢true e)
+
 -- a tag 4 that fits: "4 bytes plus 4 per point"
-pub fitting-len : (f : Layout) → f.weighed ≡ true → misfit f ≡ false → f.strengths_len ≡ 4 + 4 * f.count
-fitting-len f w e = eqb-true f.strengths_len (4 + 4 * f.count) (not-false (eqb f.strengths_len (4 + 4 * f.count)) (rw w at e))
+pub fitting-len : (f : Layout) → is_some f.weights ≡ true → misfit f ≡ false → (weights_of f).len ≡ 4 + 4 * f.count
+fitting-len f w e = eqb-true (weights_of f).len (4 + 4 * f.count) (not-false (eqb (weights_of f).len (4 + 4 * f.count)) (rw w at e))
 
 -- ---- one definition opened at a time
 
 pub points-from-is : (file : List ℕ) (at : ℕ) (full gated : Bool)
-    → points_from file at full gated ≡ let n = le16 file (at + 1) in cond (field_at file at 3 n && eqb (n % 20) 0) (strengths_from file (at + 3 + n) (unweighed full gated (at + 3) (n / 20))) Misframed
+    → points_from file at full gated ≡ let n = le16 file (at + 1) in cond (field_at file at 3 n && eqb (n % 20) 0) (strengths_from file (at + 3 + n) (unweighed full gated (at + 3) (n / 20))) None
 unfolding points_from
 points-from-is file at full gated = refl
 
 -- ---- all of them
 
 -- what follows of a framing that is made by a test
-by-test : (b : Bool) (x : Framing) (f : Layout) → cond b x Misframed ≡ Framed f → (b ≡ true) × (x ≡ Framed f)
+by-test : (b : Bool) (x : Option Layout) (f : Layout) → cond b x None ≡ Some f → (b ≡ true) × (x ≡ Some f)
 by-test true x f e = (refl, e)
-by-test false x f e = absurd (let z : ◌≡◌ {A = ℕ} 0 1 = cc in omega arith)
+by-test false x f e = cc
 
 module _ (file : List ℕ) (f : Layout) where
-  end-in : (at : ℕ) (g : Layout) → end_from file at g ≡ Framed f → (at ≡ length file) × (g ≡ f)
+  end-in : (at : ℕ) (g : Layout) → end_from file at g ≡ Some f → (at ≡ length file) × (g ≡ f)
   unfolding end_from
-  end-in at g e = let w = by-test (eqb at (length file)) (Framed g) f e in (eqb-true at (length file) w.0, cc w.1)
+  end-in at g e = let w = by-test (eqb at (length file)) (Some g) f e in (eqb-true at (length file) w.0, cc w.1)
 
   -- what stands after tag 3, at a position: tag 4, with which the file ends, or the end
   pub data StrengthsAt (at : ℕ) : Type 0 where
-    strengths-there : field_at file at 4 f.strengths_len ≡ true → f.weighed ≡ true → f.strengths ≡ at + 3 → at + 3 + f.strengths_len ≡ length file → StrengthsAt at
-    strengths-absent : f.weighed ≡ false → at ≡ length file → StrengthsAt at
+    strengths-there : field_at file at 4 (weights_of f).len ≡ true → is_some f.weights ≡ true → (weights_of f).at ≡ at + 3 → at + 3 + (weights_of f).len ≡ length file → StrengthsAt at
+    strengths-absent : is_some f.weights ≡ false → at ≡ length file → StrengthsAt at
 
   -- and the rest of the layout is as it was
   pub record SameStart (g : Layout) : Type 0 where
@@ -75,7 +83,7 @@ module _ (file : List ℕ) (f : Layout) where
     pub points-at : f.points ≡ g.points
     pub count-is : f.count ≡ g.count
 
-  strengths-in : (at : ℕ) (g : Layout) → g.weighed ≡ false → strengths_from file at g ≡ Framed f → StrengthsAt at × SameStart g
+  strengths-in : (at : ℕ) (g : Layout) → is_some g.weights ≡ false → strengths_from file at g ≡ Some f → StrengthsAt at × SameStart g
   unfolding strengths_from
   strengths-in at g z e = go (field_at file at 4 n) refl e
     where
@@ -90,11 +98,11 @@ module _ (file : List ℕ) (f : Layout) where
         count-is = sym (ap (λ (x : Layout). x.count) q) ∙ d;
       }
 
-      go : (t : Bool) → field_at file at 4 n ≡ t → cond t (end_from file (at + 3 + n) (weighed_at g (at + 3) n)) (end_from file at g) ≡ Framed f → StrengthsAt at × SameStart g
+      go : (t : Bool) → field_at file at 4 n ≡ t → cond t (end_from file (at + 3 + n) (weighed_at g (at + 3) n)) (end_from file at g) ≡ Some f → StrengthsAt at × SameStart g
       go true t e =
           let w = end-in (at + 3 + n) (weighed_at g (at + 3) n) e in
-          let l : n ≡ f.strengths_len = ap (λ (x : Layout). x.strengths_len) w.1 in
-          (strengths-there (rw l at t) (sym (ap (λ (x : Layout). x.weighed) w.1)) (sym (ap (λ (x : Layout). x.strengths) w.1)) (rw l at w.0), same (weighed_at g (at + 3) n) w.1 refl refl refl refl)
+          let l : n ≡ (weights_of f).len = ap (λ (x : Layout). (weights_of x).len) w.1 in
+          (strengths-there (rw l at t) (sym (ap (λ (x : Layout). is_some x.weights) w.1)) (sym (ap (λ (x : Layout). (weights_of x).at) w.1)) (rw l at w.0), same (weighed_at g (at + 3) n) w.1 refl refl refl refl)
       go false t e = let w = end-in at g e in (strengths-absent (rw w.1 at z) w.0, same g w.1 refl refl refl refl)
 
   -- tag 3 stands at a position, and after it tag 4 or the end
@@ -105,7 +113,7 @@ module _ (file : List ℕ) (f : Layout) where
     pub gated-is : f.gated ≡ gated
     pub points-at : f.points ≡ at + 3
 
-  pub points-in : (at : ℕ) (full gated : Bool) → points_from file at full gated ≡ Framed f → PointsAt at full gated
+  pub points-in : (at : ℕ) (full gated : Bool) → points_from file at full gated ≡ Some f → PointsAt at full gated
   unfolding points_from
   points-in at full gated e =
       let n = le16 file (at + 1) in
@@ -125,14 +133,14 @@ module _ (file : List ℕ) (f : Layout) where
 
   -- the fields after tag 1, with or without tag 2
   pub data GateAt (at : ℕ) (full : Bool) : Type 0 where
-    gate-there : field_at file at 2 17 ≡ true → points_from file (at + 20) full true ≡ Framed f → GateAt at full
-    gate-absent : field_at file at 2 17 ≡ false → points_from file at full false ≡ Framed f → GateAt at full
+    gate-there : field_at file at 2 17 ≡ true → points_from file (at + 20) full true ≡ Some f → GateAt at full
+    gate-absent : field_at file at 2 17 ≡ false → points_from file at full false ≡ Some f → GateAt at full
 
-  gate-at : (at : ℕ) (full : Bool) → gate_from file at full ≡ Framed f → GateAt at full
+  gate-at : (at : ℕ) (full : Bool) → gate_from file at full ≡ Some f → GateAt at full
   unfolding gate_from
   gate-at at full e = go (field_at file at 2 17) refl e
     where
-      go : (b : Bool) → field_at file at 2 17 ≡ b → cond b (points_from file (at + 20) full true) (points_from file at full false) ≡ Framed f → GateAt at full
+      go : (b : Bool) → field_at file at 2 17 ≡ b → cond b (points_from file (at + 20) full true) (points_from file at full false) ≡ Some f → GateAt at full
       go true t e = gate-there t e
       go false t e = gate-absent t e
 
@@ -141,11 +149,11 @@ module _ (file : List ℕ) (f : Layout) where
     full-settings : field_at file 0 1 21 ≡ true → GateAt 24 true → Fields
     short-settings : field_at file 0 1 21 ≡ false → field_at file 0 1 4 ≡ true → GateAt 7 false → Fields
 
-  pub fields-of : framing_of file ≡ Framed f → Fields
+  pub fields-of : framing_of file ≡ Some f → Fields
   unfolding framing_of
   fields-of e = go (field_at file 0 1 21) refl e
     where
-      go : (a : Bool) → field_at file 0 1 21 ≡ a → cond a (gate_from file 24 true) (cond (field_at file 0 1 4) (gate_from file 7 false) Misframed) ≡ Framed f → Fields
+      go : (a : Bool) → field_at file 0 1 21 ≡ a → cond a (gate_from file 24 true) (cond (field_at file 0 1 4) (gate_from file 7 false) None) ≡ Some f → Fields
       go true t e = full-settings t (gate-at 24 true e)
       go false t e = let w = by-test (field_at file 0 1 4) (gate_from file 7 false) f e in short-settings t w.0 (gate-at 7 false w.1)
 
@@ -169,7 +177,7 @@ module _ (file : List ℕ) (f : Layout) where
       let p = points-in at full false e in
       record { short = omega arith; long = λ b. omega (arith, h (sym p.full_is ∙ b)); gate = λ b. absurd (false≢true (sym p.gated-is ∙ b)); after = placed p.points-at p.after }
 
-  pub before-points : framing_of file ≡ Framed f → BeforePoints
+  pub before-points : framing_of file ≡ Some f → BeforePoints
   before-points e = go (fields-of e)
     where
       go : Fields → BeforePoints
@@ -177,10 +185,10 @@ module _ (file : List ℕ) (f : Layout) where
       go (short-settings u t g) = before-gate 7 false (omega arith) refl (λ b. absurd (false≢true b)) g
 
   -- the strengths stand after the points
-  pub strengths-after : f.weighed ≡ true → BeforePoints → f.points + 20 * f.count ≤ f.strengths
+  pub strengths-after : is_some f.weights ≡ true → BeforePoints → f.points + 20 * f.count ≤ (weights_of f).at
   strengths-after w b = go b.after
     where
-      go : {at : ℕ} → StrengthsAt at → at ≤ f.strengths
+      go : {at : ℕ} → StrengthsAt at → at ≤ (weights_of f).at
       go (strengths-there t u s e) = omega arith
       go (strengths-absent u e) = absurd (false≢true (sym u ∙ w))
 
@@ -188,12 +196,12 @@ module _ (file : List ℕ) (f : Layout) where
   after-points (strengths-there t w s e) = omega arith
   after-points (strengths-absent w e) = omega arith
 
-  pub framed-held : framing_of file ≡ Framed f → Held file f
+  pub framed-held : framing_of file ≡ Some f → Held file f
   framed-held e =
       let b = before-points e in
       let l = after-points b.after in
       record { short = omega arith; long = λ t. omega (arith, b.long t); gate = λ t. omega (arith, b.gate t); fit = l; weights = weights b.after }
     where
-      weights : {at : ℕ} → StrengthsAt at → f.weighed ≡ true → f.strengths + f.strengths_len ≤ length file
+      weights : {at : ℕ} → StrengthsAt at → is_some f.weights ≡ true → (weights_of f).at + (weights_of f).len ≤ length file
       weights (strengths-there t w s e) b = omega arith
       weights (strengths-absent w e) b = absurd (false≢true (sym w ∙ b))

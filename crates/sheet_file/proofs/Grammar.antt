@@ -12,12 +12,11 @@ use lib.Seq.{drop-cons, drop-drop, drop-length, get_or-append-add, length-take-l
 use borrow.Author.Tests.{le-leb, lt-leb, eq-eqb, ne_eqb}
 use Rattle.folds.proofs.Below.{and-false}
 use Rattle.sheet_file.specs.Bytes.{Bytes, byte_at, le16}
-use Rattle.sheet_file.specs.Frame.{field_at, unweighed, weighed_at, strengths_from, points_from, gate_from, framing_of, layout_of, weights_size}
+use Rattle.sheet_file.specs.Frame.{field_at, unweighed, weighed_at, strengths_from, points_from, gate_from, framing_of, layout_of, weights_of, weights_size}
 use Rattle.sheet_file.specs.Grammar.{field, Optional, absent, present, WellFramed}
 use Rattle.sheet_file.specs.Refusals.{misframing, misframed}
 use Rattle.sheet_file.specs.declared.Layout.{Layout}
-use Rattle.sheet_file.specs.declared.Framing.{Framing}
-use Rattle.sheet_file.specs.declared.Framing.TheVariants.{Framed, Misframed}
+use Rattle.std.specs.Prelude.{Option, Some, None, is_some}
 use Rattle.sheet_file.proofs.Fields.{FieldIn, field_in, StrengthsAt, strengths-there, strengths-absent, GateAt, gate-there, gate-absent, Fields, full-settings, short-settings, fields-of, points-in}
 
 -- ---- a field that is found is one
@@ -42,12 +41,12 @@ module _ (file : List ℕ) (b : Bytes file) (f : Layout) where
   strengths-found : (at : ℕ) → StrengthsAt file f at → (w : List ℕ) × Optional 4 (λ (n : ℕ). Unit {0}) w × (drop at file ≡ w)
   strengths-found at (strengths-absent u e) = ([], absent refl, rw e (drop-length file))
   strengths-found at (strengths-there t u s e) =
-      let n = f.strengths_len in
+      let n = (weights_of f).len in
       let w = take n (drop (at + 3) file) in
       (field 4 w, present w tt refl, field_found file at 4 n b t ∙ rw (e, drop-length file) (append-nil (field 4 w)))
 
   -- tag 3 from a position on, and what stands after it
-  points-found : (at : ℕ) (full gated : Bool) → points_from file at full gated ≡ Framed f
+  points-found : (at : ℕ) (full gated : Bool) → points_from file at full gated ≡ Some f
       → (p w : List ℕ) × (length p % 20 ≡ 0) × Optional 4 (λ (n : ℕ). Unit {0}) w × (drop at file ≡ field 3 p ++ w)
   points-found at full gated e =
       let n = 20 * f.count in
@@ -83,7 +82,7 @@ module _ (file : List ℕ) (b : Bytes file) (f : Layout) where
         in_order = field_found file 0 1 n b t ∙ rw w.6;
       }
 
-  framed-well : framing_of file ≡ Framed f → WellFramed file
+  framed-well : framing_of file ≡ Some f → WellFramed file
   framed-well e = go (fields-of file f e)
     where
       go : Fields file f → WellFramed file
@@ -141,13 +140,13 @@ module _ (file : List ℕ) where
     after : FourthIn (at + 3 + n)
 
   -- a framing with n points and m bytes of tag 4
-  record Counted (x : Framing) (n m : ℕ) : Type 0 where
+  record Counted (x : Option Layout) (n m : ℕ) : Type 0 where
     layout : Layout
-    framed : x ≡ Framed layout
+    framed : x ≡ Some layout
     counted : layout.count ≡ n
     weighed : weights_size layout ≡ m
 
-  strengths-framed : (at : ℕ) (g : Layout) → g.weighed ≡ false → FourthIn at → Counted (strengths_from file at g) g.count (left at)
+  strengths-framed : (at : ℕ) (g : Layout) → is_some g.weights ≡ false → FourthIn at → Counted (strengths_from file at g) g.count (left at)
   unfolding strengths_from
   strengths-framed at g z (fourth n h e) = record {
     layout = weighed_at g (at + 3) n;
@@ -231,6 +230,6 @@ module _ (file : List ℕ) where
   pub accepted-well : Bytes file → misframed file ≡ false → WellFramed file
   accepted-well b e = go (framing_of file) refl e
     where
-      go : (x : Framing) → framing_of file ≡ x → misframing x ≡ false → WellFramed file
-      go (Framed f) h e = framed-well file b f h
-      go Misframed h e = absurd (true≢false e)
+      go : (x : Option Layout) → framing_of file ≡ x → misframing x ≡ false → WellFramed file
+      go (Some f) h e = framed-well file b f h
+      go None h e = absurd (true≢false e)

@@ -8,11 +8,10 @@ use native.Mathlib.Omega.{arith}
 use lib.ListN.{length, get_or, replicate, length-append, length-replicate}
 use lib.Seq.{get_or-append-add}
 use Rattle.sheet_file.specs.Bytes.{Bytes}
-use Rattle.sheet_file.specs.Frame.{framing_of, points_from}
+use Rattle.sheet_file.specs.Frame.{framing_of, points_from, weights_of}
 use Rattle.sheet_file.specs.Grammar.{field, present, WellFramed, most_records, most_data, longest}
 use Rattle.sheet_file.specs.declared.Layout.{Layout}
-use Rattle.sheet_file.specs.declared.Framing.{Framing}
-use Rattle.sheet_file.specs.declared.Framing.TheVariants.{Framed, Misframed}
+use Rattle.std.specs.Prelude.{Option, Some, None}
 use Rattle.sheet_file.proofs.Words.{le16-small}
 use Rattle.sheet_file.proofs.Fields.{field_in, StrengthsAt, strengths-there, strengths-absent, GateAt, gate-there, gate-absent, Fields, full-settings, short-settings, fields-of, points-in}
 
@@ -20,10 +19,10 @@ module _ (file : List ℕ) (b : Bytes file) where
   module _ (f : Layout) where
     -- a field's length is a two-byte number
     strengths-end : (at : ℕ) → StrengthsAt file f at → length file ≤ at + 3 + most_data
-    strengths-end at (strengths-there t u s e) = omega (arith, (field_in file at 4 f.strengths_len t).size_is, le16-small file b (at + 1))
+    strengths-end at (strengths-there t u s e) = omega (arith, (field_in file at 4 (weights_of f).len t).size_is, le16-small file b (at + 1))
     strengths-end at (strengths-absent u e) = omega arith
 
-    points-end : (at : ℕ) (full gated : Bool) → points_from file at full gated ≡ Framed f → length file ≤ at + 3 + 20 * most_records + 3 + most_data
+    points-end : (at : ℕ) (full gated : Bool) → points_from file at full gated ≡ Some f → length file ≤ at + 3 + 20 * most_records + 3 + most_data
     points-end at full gated e =
         let p = points-in file f at full gated e in
         omega (arith, (field_in file at 3 (20 * f.count) p.field-there).size_is, le16-small file b (at + 1), strengths-end (at + 3 + 20 * f.count) p.after)
@@ -36,12 +35,12 @@ module _ (file : List ℕ) (b : Bytes file) where
     framed-end (full-settings u g) = gate-end 24 true g
     framed-end (short-settings v u g) = omega (arith, gate-end 7 false g)
 
-  pub too_long : longest < length file → framing_of file ≡ Misframed
+  pub too_long : longest < length file → framing_of file ≡ None
   too_long l = go (framing_of file) refl
     where
-      go : (x : Framing) → framing_of file ≡ x → x ≡ Misframed
-      go (Framed f) e = absurd (omega (arith, framed-end f (fields-of file f e)))
-      go Misframed e = refl
+      go : (x : Option Layout) → framing_of file ≡ x → x ≡ None
+      go (Some f) e = absurd (omega (arith, framed-end f (fields-of file f e)))
+      go None e = refl
 
 -- more records than `most_records` cannot be framed
 pub most-points : (file : List ℕ) → Bytes file → (w : WellFramed file) → length w.points / 20 ≤ most_records

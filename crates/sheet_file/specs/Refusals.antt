@@ -1,19 +1,15 @@
 -- The settings of a sheet file, the conditions of the numbers 1, 12 and 2 to 5, and what is read of a file and the length of a result buffer.
 -- Assumes nothing.
-use Rattle.std.specs.Prelude.{◌≡◌, Bool, true, false, cond, not, ◌&&◌, ◌||◌, List, [], ◌∷◌, ℕ, ◌+◌, ◌*◌, ◌≤◌, eqb, ltb, length, Float}
+use Rattle.std.specs.Prelude.{◌≡◌, Bool, true, false, cond, not, ◌&&◌, ◌||◌, List, [], ◌∷◌, ℕ, ◌+◌, ◌*◌, ◌≤◌, eqb, ltb, length, Float, Option, Some, None, is_some, is_none}
 use Rattle.folds.specs.Arith.{f32}
 use Rattle.folds.specs.Among.{any_in}
 use Rattle.view.specs.View.{max_points}
 use Rattle.refusals.specs.First.{Refusal, ruled}
 use Rattle.sheet_file.specs.Bytes.{byte_at, le16, le32}
 use Rattle.sheet_file.specs.Limit.{outside}
-use Rattle.sheet_file.specs.Frame.{framing_of, layout_in, gate_start, Held}
+use Rattle.sheet_file.specs.Frame.{framing_of, layout_in, weights_of, gate_start, Held}
 use Rattle.sheet_file.specs.declared.Layout.{Layout}
-use Rattle.sheet_file.specs.declared.Framing.{Framing}
-use Rattle.sheet_file.specs.declared.Framing.TheVariants.{Framed, Misframed}
 use Rattle.sheet_file.specs.declared.EdgeShapeParams.{EdgeShapeParams}
-use Rattle.sheet_file.specs.declared.EdgeGate.{EdgeGate}
-use Rattle.sheet_file.specs.declared.EdgeGate.TheVariants.{Off, On}
 use Rattle.sheet_file.specs.declared.Fraction.{Fraction}
 use Rattle.sheet_file.specs.declared.Fraction.TheVariants.{Missing, Outside, Given}
 use Rattle.sheet_file.specs.declared.Settings.{Settings}
@@ -28,7 +24,7 @@ float_at file at = f32 (le32 file at)
 -- ---- the settings
 
 -- "Length 4 gives the cell size only; the rest is `ValidationParams::default` with both switches 1": 0.15, 3, 0.20, off, 0.0
-unfoldable pub defaults_for : Float → EdgeGate → Fraction → Settings
+unfoldable pub defaults_for : Float → Option EdgeShapeParams → Fraction → Settings
 defaults_for cell_size gate fraction = record {
   cell_size = cell_size;
   line_tol_rel = f32 0x3E19999A;
@@ -44,7 +40,7 @@ defaults_for cell_size gate fraction = record {
 
 -- "cell size f32, line tolerance f32, line minimum u16, local tolerance f32, step flag u8, step threshold f32, wrong-label switch u8,
 -- largest-patch switch u8", from byte 3 of the file on
-unfoldable pub settings_in : List ℕ → EdgeGate → Fraction → Settings
+unfoldable pub settings_in : List ℕ → Option EdgeShapeParams → Fraction → Settings
 settings_in file gate fraction = record {
   cell_size = float_at file 3;
   line_tol_rel = float_at file 7;
@@ -69,15 +65,15 @@ gate_in file at = record {
 }
 
 -- "Absent means no edge-shape gate"
-unfoldable pub edge_shape_of : List ℕ → Layout → EdgeGate
-edge_shape_of file f = cond f.gated (On (gate_in file (gate_start f.full))) Off
+unfoldable pub edge_shape_of : List ℕ → Layout → Option EdgeShapeParams
+edge_shape_of file f = cond f.gated (Some (gate_in file (gate_start f.full))) None
 
 -- "Tag 4, optional, .. carries a fraction f32": that in its first four bytes; one that number 13 refuses is only said to be so
 abbrev pub fraction_in : Float → Fraction
 fraction_in x = cond (outside x) Outside (Given x)
 
 unfoldable pub fraction_of : List ℕ → Layout → Fraction
-fraction_of file f = cond f.weighed (fraction_in (float_at file f.strengths)) Missing
+fraction_of file f = cond (is_some f.weights) (fraction_in (float_at file (weights_of f).at)) Missing
 
 unfoldable pub settings_of : List ℕ → Layout → Settings
 settings_of file f = cond f.full (settings_in file (edge_shape_of file f) (fraction_of file f)) (defaults_for (float_at file 3) (edge_shape_of file f) (fraction_of file f))
@@ -85,16 +81,15 @@ settings_of file f = cond f.full (settings_in file (edge_shape_of file f) (fract
 -- ---- the conditions
 
 -- "1. The fields, their order, their lengths or the end of the file differ from the list above."
-abbrev pub misframing : Framing → Bool
-misframing (Framed f) = false
-misframing Misframed = true
+abbrev pub misframing : Option Layout → Bool
+misframing x = is_none x
 
 abbrev pub misframed : List ℕ → Bool
 misframed file = misframing (framing_of file)
 
 -- "It refuses with 12, right after 1, a tag 4 that is not 4 bytes plus 4 per point"
 abbrev pub misfit : Layout → Bool
-misfit f = f.weighed && not (eqb f.strengths_len (4 + 4 * f.count))
+misfit f = is_some f.weights && not (eqb (weights_of f).len (4 + 4 * f.count))
 
 -- "2. There are more than 2,048 points"; document 02, A.4, makes it 2,304
 abbrev pub too_many : Layout → Bool
@@ -150,7 +145,7 @@ pub record WeightsHeld (file : List ℕ) (f : Layout) : Type 0 where
 -- ---- what is read
 
 -- the refusals of a file that is framed so, before its points are looked at, in their order
-unfoldable pub header_refusals : List ℕ → ℕ → Framing → List Refusal
+unfoldable pub header_refusals : List ℕ → ℕ → Option Layout → List Refusal
 header_refusals file room x =
     let f = layout_in x in
     (1, misframing x)
@@ -165,7 +160,7 @@ abbrev pub header_of : List ℕ → Layout → Header
 header_of file f = record { settings = settings_of file f; layout = f }
 
 -- "A call returns the first number that applies"
-unfoldable pub reading_in : List ℕ → ℕ → Framing → Reading
+unfoldable pub reading_in : List ℕ → ℕ → Option Layout → Reading
 unfolding header_refusals
 reading_in file room x = ruled Refused (Accepted (header_of file (layout_in x))) (header_refusals file room x)
 

@@ -1,13 +1,13 @@
 // The sheet file: its fields, the refusals 1, 12 and 2 to 5 and the settings. Any bytes are read.
 #![tactic(auto)]
 
-ghost use Rattle.std.specs.Prelude.{◌≡◌, true, false, ◌+◌, ◌*◌, ◌≤◌, ◌<◌, length};
+ghost use Rattle.std.specs.Prelude.{◌≡◌, true, false, ◌+◌, ◌*◌, ◌≤◌, ◌<◌, length, IfSome, IsTrue};
 ghost use Rattle.folds.specs.Among.{any_in};
 ghost use Rattle.folds.specs.Arith.{f32};
 ghost use Rattle.sheet_file.specs.Bytes.{le16, le32};
 ghost use Rattle.sheet_file.specs.Grammar.{longest};
 ghost use Rattle.sheet_file.specs.Limit.{outside};
-ghost use Rattle.sheet_file.specs.Frame.{field_at, end_from, weighed_at, unweighed, strengths_from, points_from, gate_from, framing_of, gate_start, Held};
+ghost use Rattle.sheet_file.specs.Frame.{field_len, field_at, end_from, strengths_from, points_from, gate_from, framing_of, gate_start, Held};
 ghost use Rattle.sheet_file.specs.Refusals.{float_at, defaults_for, settings_in, gate_in, edge_shape_of, fraction_of, settings_of, misfit, no_flag, bad_flag, settings_floats, gate_floats, bad_float, FloatHeld, SettingsHeld, GateHeld, FloatsHeld, WeightsHeld, reading_in, reading_of};
 
 use view::MAX_POINTS;
@@ -30,35 +30,22 @@ pub fn file_size() -> usize
 
 // ---- numbers in the file
 
-fn wide(x: u8) -> u32
-    ensures { (result ≡ x) × (result < 256) }
-{
-    x as u32
-}
-
-fn long(x: u8) -> u16
-    ensures { (result ≡ x) × (result < 256) }
-{
-    x as u16
-}
-
 // The u16 in the two bytes from `at` on.
+#[tactic(auto, unfolding(crate::specs::Bytes::le16))]
 fn u16_at(file: &[u8], at: usize) -> u16
     requires { at + 2 ≤ length file.now }
     ensures { result ≡ le16 file.now at }
 {
-    long(file[at]) + 256 * long(file[at + 1])
+    u16::from_le_bytes([file[at], file[at + 1]])
 }
 
 // The u32 in the four bytes from `at` on.
+#[tactic(auto, unfolding(crate::specs::Bytes::le32))]
 pub fn u32_at(file: &[u8], at: usize) -> u32
     requires { at + 4 ≤ length file.now }
     ensures { result ≡ le32 file.now at }
 {
-    wide(file[at])
-        + 256 * wide(file[at + 1])
-        + 65536 * wide(file[at + 2])
-        + 16777216 * wide(file[at + 3])
+    u32::from_le_bytes([file[at], file[at + 1], file[at + 2], file[at + 3]])
 }
 
 // Whether the float with this pattern is not finite or exceeds 16,384 in magnitude. The highest bit of a pattern is the sign, and
@@ -105,12 +92,6 @@ pub struct EdgeShapeParams {
     pub cell_opposite_length_ratio_max: f32,
 }
 
-#[derive(Clone, Copy)]
-pub enum EdgeGate {
-    Off,
-    On(EdgeShapeParams),
-}
-
 // The fraction of tag 4: none without that tag; one that number 13 refuses, of which no f32 is made; or the fraction.
 #[derive(Clone, Copy)]
 pub enum Fraction {
@@ -129,7 +110,7 @@ pub struct Settings {
     pub step_deviation_thresh_rel: f32,
     pub apply_wrong_label_drops: bool,
     pub apply_largest_component: bool,
-    pub edge_shape: EdgeGate,
+    pub edge_shape: Option<EdgeShapeParams>,
     pub score_frac: Fraction,
 }
 
@@ -149,7 +130,8 @@ impl Settings {
     pub const APPLY_LARGEST_COMPONENT: bool = true;
 
     // The defaults for a cell size, with or without an edge-shape gate and a fraction.
-    pub fn new(cell_size: f32, edge_shape: EdgeGate, score_frac: Fraction) -> Self
+    #[tactic(auto, unfolding(crate::specs::Refusals::defaults_for))]
+    pub fn new(cell_size: f32, edge_shape: Option<EdgeShapeParams>, score_frac: Fraction) -> Self
         ensures { result ≡ defaults_for cell_size edge_shape score_frac }
     {
         Self {
@@ -169,117 +151,98 @@ impl Settings {
 
 // ---- the fields
 
-// Where the fields stand: whether tag 1 has length 21, whether there is a tag 2, where the points begin and how many there are, whether there
-// is a tag 4, where its data begin and how many bytes they are.
+// Where the data of tag 4 begin, and how many bytes they are.
+#[derive(Clone, Copy)]
+pub struct Weights {
+    pub at: usize,
+    pub len: usize,
+}
+
+// Where the fields stand: whether tag 1 has length 21, whether there is a tag 2, where the points begin and how many there are, and the data
+// of tag 4, if there is one.
 #[derive(Clone, Copy)]
 pub struct Layout {
     pub full: bool,
     pub gated: bool,
     pub points: usize,
     pub count: usize,
-    pub weighed: bool,
-    pub strengths: usize,
-    pub strengths_len: usize,
+    pub weights: Option<Weights>,
 }
 
-#[derive(Clone, Copy)]
-pub enum Framing {
-    Framed(Layout),
-    Misframed,
+// How many bytes of data the field with this tag has, if it stands at `at`: its length is in its own two bytes.
+#[tactic(auto, unfolding(crate::specs::Frame::field_at, crate::specs::Frame::field_len))]
+fn field_len(file: &[u8], at: usize, tag: u8) -> Option<usize>
+    requires { at ≤ length file.now }
+    ensures value { result ≡ field_len file.now at tag }
+    ensures inside { IfSome result (λ n. at + 3 + n ≤ length file.now) }
+{
+    if file.len() - at < 3 || file[at] != tag {
+        return None;
+    }
+    let len = usize::from(u16_at(file, at + 1));
+    (len <= file.len() - at - 3).then_some(len)
 }
 
 // Whether the field with this tag and `len` bytes of data stands at `at`.
+#[tactic(auto, unfolding(crate::specs::Frame::field_at, crate::specs::Frame::field_len))]
 fn field_at(file: &[u8], at: usize, tag: u8, len: usize) -> bool
     requires { at ≤ length file.now }
-    ensures { result ≡ field_at file.now at tag len }
+    ensures value { result ≡ field_at file.now at tag len }
+    ensures inside { IsTrue result → at + 3 + len ≤ length file.now }
 {
-    if file.len() - at < 3 {
-        return false;
-    }
-    if file.len() - at - 3 < len {
-        return false;
-    }
-    if file[at] == tag {
-        return view::wide(u16_at(file, at + 1)) == len;
-    }
-    false
+    field_len(file, at, tag) == Some(len)
 }
 
 // The end of the file, which the last field must reach: it ends at `at`.
-fn end_from(file: &[u8], at: usize, f: Layout) -> Framing
+#[tactic(auto, unfolding(crate::specs::Frame::end_from))]
+fn end_from(file: &[u8], at: usize, f: Layout) -> Option<Layout>
     ensures { result ≡ end_from file.now at f }
 {
-    if at == file.len() {
-        return Framing::Framed(f);
-    }
-    Framing::Misframed
+    (at == file.len()).then_some(f)
 }
 
-// The layout with `len` bytes of data of tag 4 from `at` on.
-fn weighed_at(f: Layout, at: usize, len: usize) -> Layout
-    ensures { result ≡ weighed_at f at len }
-{
-    Layout {
-        full: f.full,
-        gated: f.gated,
-        points: f.points,
-        count: f.count,
-        weighed: true,
-        strengths: at,
-        strengths_len: len,
-    }
-}
-
-// The layout without tag 4.
-fn unweighed(full: bool, gated: bool, points: usize, count: usize) -> Layout
-    ensures { result ≡ unweighed full gated points count }
-{
-    Layout {
-        full,
-        gated,
-        points,
-        count,
-        weighed: false,
-        strengths: 0,
-        strengths_len: 0,
-    }
-}
-
-// Tag 4, if it stands at `at`, of the length in its own two bytes, and then the end of the file.
-fn strengths_from(file: &[u8], at: usize, f: Layout) -> Framing
+// Tag 4, if it stands at `at`, and then the end of the file.
+#[tactic(auto, unfolding(crate::specs::Frame::field_len, crate::specs::Frame::strengths_from))]
+fn strengths_from(file: &[u8], at: usize, f: Layout) -> Option<Layout>
     requires { at ≤ length file.now }
     ensures { result ≡ strengths_from file.now at f }
 {
-    if file.len() - at < 3 {
-        return end_from(file, at, f);
+    match field_len(file, at, 4) {
+        Some(len) => end_from(
+            file,
+            at + 3 + len,
+            Layout {
+                weights: Some(Weights { at: at + 3, len }),
+                ..f
+            },
+        ),
+        None => end_from(file, at, f),
     }
-    let n = view::wide(u16_at(file, at + 1));
-    if field_at(file, at, 4, n) {
-        return end_from(file, at + 3 + n, weighed_at(f, at + 3, n));
-    }
-    end_from(file, at, f)
 }
 
-// Tag 3, whose length stands in its own two bytes, and then tag 4.
-fn points_from(file: &[u8], at: usize, full: bool, gated: bool) -> Framing
+// Tag 3, and then tag 4.
+#[tactic(auto, unfolding(crate::specs::Frame::field_len, crate::specs::Frame::points_from))]
+fn points_from(file: &[u8], at: usize, full: bool, gated: bool) -> Option<Layout>
     requires { at ≤ length file.now }
     ensures { result ≡ points_from file.now at full gated }
 {
-    if file.len() - at < 3 {
-        return Framing::Misframed;
+    let len = field_len(file, at, 3)?;
+    if len % 20 != 0 {
+        return None;
     }
-    let n = view::wide(u16_at(file, at + 1));
-    if field_at(file, at, 3, n) {
-        if n % 20 == 0 {
-            return strengths_from(file, at + 3 + n, unweighed(full, gated, at + 3, n / 20));
-        }
-        return Framing::Misframed;
-    }
-    Framing::Misframed
+    let f = Layout {
+        full,
+        gated,
+        points: at + 3,
+        count: len / 20,
+        weights: None,
+    };
+    strengths_from(file, at + 3 + len, f)
 }
 
 // Tag 2, if it stands at `at`, and then tag 3.
-fn gate_from(file: &[u8], at: usize, full: bool) -> Framing
+#[tactic(auto, unfolding(crate::specs::Frame::gate_from))]
+fn gate_from(file: &[u8], at: usize, full: bool) -> Option<Layout>
     requires { at ≤ length file.now }
     ensures { result ≡ gate_from file.now at full }
 {
@@ -289,8 +252,9 @@ fn gate_from(file: &[u8], at: usize, full: bool) -> Framing
     points_from(file, at, full, false)
 }
 
-// The fields of the whole file.
-pub fn frame(file: &[u8]) -> Framing
+// The fields of the whole file, if they are the right ones in their order.
+#[tactic(auto, unfolding(crate::specs::Frame::framing_of))]
+pub fn frame(file: &[u8]) -> Option<Layout>
     ensures { result ≡ framing_of file.now }
 {
     if field_at(file, 0, 1, 21) {
@@ -299,7 +263,7 @@ pub fn frame(file: &[u8]) -> Framing
     if field_at(file, 0, 1, 4) {
         return gate_from(file, 7, false);
     }
-    Framing::Misframed
+    None
 }
 
 // ---- what is read
@@ -324,14 +288,12 @@ fn is_no_flag(b: u8) -> bool
 }
 
 // Whether the step flag or a switch is neither 0 nor 1.
+#[tactic(auto, unfolding(crate::specs::Refusals::bad_flag))]
 fn has_bad_flag(file: &[u8], f: Layout) -> bool
     requires { Held file.now f }
     ensures { result ≡ bad_flag file.now f }
 {
-    if f.full {
-        return is_no_flag(file[17]) | is_no_flag(file[22]) | is_no_flag(file[23]);
-    }
-    false
+    f.full && (is_no_flag(file[17]) || is_no_flag(file[22]) || is_no_flag(file[23]))
 }
 
 // Whether a float of tag 1 is outside the limit.
@@ -361,26 +323,19 @@ fn gate_outside(file: &[u8], at: usize) -> bool
 fn gate_start(full: bool) -> usize
     ensures { result ≡ gate_start full }
 {
-    if full {
-        return 27;
-    }
-    10
+    if full { 27 } else { 10 }
 }
 
+#[tactic(auto, unfolding(crate::specs::Refusals::bad_float))]
 fn has_bad_float(file: &[u8], f: Layout) -> bool
     requires { Held file.now f }
     ensures { result ≡ bad_float file.now f }
 {
-    if settings_outside(file, f) {
-        return true;
-    }
-    if f.gated {
-        return gate_outside(file, gate_start(f.full));
-    }
-    false
+    settings_outside(file, f) || f.gated && gate_outside(file, gate_start(f.full))
 }
 
 // The edge-shape gate in the data of tag 2 from `at` on.
+#[tactic(auto, unfolding(crate::specs::Refusals::gate_in))]
 fn gate_in(file: &[u8], at: usize) -> EdgeShapeParams
     requires { GateHeld file.now at }
     ensures { result ≡ gate_in file.now at }
@@ -394,33 +349,34 @@ fn gate_in(file: &[u8], at: usize) -> EdgeShapeParams
     }
 }
 
-fn edge_shape_of(file: &[u8], f: Layout) -> EdgeGate
+#[tactic(auto, unfolding(crate::specs::Refusals::edge_shape_of))]
+fn edge_shape_of(file: &[u8], f: Layout) -> Option<EdgeShapeParams>
     requires { FloatsHeld file.now f }
     ensures { result ≡ edge_shape_of file.now f }
 {
     if f.gated {
-        return EdgeGate::On(gate_in(file, gate_start(f.full)));
+        Some(gate_in(file, gate_start(f.full)))
+    } else {
+        None
     }
-    EdgeGate::Off
 }
 
 // The fraction in the first four bytes of tag 4's data.
+#[tactic(auto, unfolding(crate::specs::Refusals::fraction_of))]
 fn fraction_of(file: &[u8], f: Layout) -> Fraction
     requires { WeightsHeld file.now f }
     ensures { result ≡ fraction_of file.now f }
 {
-    if f.weighed {
-        let at = f.strengths;
-        if is_outside(file, at) {
-            return Fraction::Outside;
-        }
-        return Fraction::Given(float_at(file, at));
+    match f.weights {
+        Some(w) if is_outside(file, w.at) => Fraction::Outside,
+        Some(w) => Fraction::Given(float_at(file, w.at)),
+        None => Fraction::Missing,
     }
-    Fraction::Missing
 }
 
 // The settings in the 21 bytes of tag 1.
-fn settings_in(file: &[u8], gate: EdgeGate, fraction: Fraction) -> Settings
+#[tactic(auto, unfolding(crate::specs::Refusals::settings_in))]
+fn settings_in(file: &[u8], gate: Option<EdgeShapeParams>, fraction: Fraction) -> Settings
     requires { SettingsHeld file.now }
     ensures { result ≡ settings_in file.now gate fraction }
 {
@@ -438,6 +394,7 @@ fn settings_in(file: &[u8], gate: EdgeGate, fraction: Fraction) -> Settings
     }
 }
 
+#[tactic(auto, unfolding(crate::specs::Refusals::settings_of))]
 fn settings_of(file: &[u8], f: Layout) -> Settings
     requires { FloatsHeld file.now f }
     ensures { result ≡ settings_of file.now f }
@@ -455,16 +412,14 @@ fn is_misfit(f: Layout) -> bool
     requires { 20 * f.count < 0x1_0000_0000_0000_0000 }
     ensures { result ≡ misfit f }
 {
-    if f.weighed {
-        return f.strengths_len != 4 + 4 * f.count;
-    }
-    false
+    f.weights.is_some_and(|w| w.len != 4 + 4 * f.count)
 }
 
 // Refusals 12 and 2 to 5 of a file with this layout.
+#[tactic(auto, unfolding(crate::specs::Refusals::reading_in))]
 fn read_framed(file: &[u8], room: usize, f: Layout) -> Reading
     requires { Held file.now f }
-    ensures { result ≡ reading_in file.now room (Framing.Framed f) }
+    ensures { result ≡ reading_in file.now room (Some f) }
 {
     if is_misfit(f) {
         return Reading::Refused(12);
@@ -488,11 +443,12 @@ fn read_framed(file: &[u8], room: usize, f: Layout) -> Reading
 }
 
 // The settings of a file and where its fields stand, or one of the numbers 1, 12 and 2 to 5; `room` is the length of the result buffer.
+#[tactic(auto, unfolding(crate::specs::Refusals::reading_of))]
 pub fn read(file: &[u8], room: usize) -> Reading
     ensures { result ≡ reading_of file.now room }
 {
     match frame(file) {
-        Framing::Framed(f) => read_framed(file, room, f),
-        Framing::Misframed => Reading::Refused(1),
+        Some(f) => read_framed(file, room, f),
+        None => Reading::Refused(1),
     }
 }

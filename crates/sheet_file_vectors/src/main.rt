@@ -76,11 +76,9 @@ fn replay<R: Read, W: Print>(input: &mut R, rt: &W, file: &mut [u8]) -> bool {
 fn main(rt: HostRuntime) {
     let mut input = rt.stdin();
     let mut file = [0u8; LONGEST];
-    let mut left: usize = 10000;
-    while 0 < left {
+    for _ in 0..10000 {
         if !replay(&mut input, &rt, &mut file) {
             return;
         }
-        left -= 1;
     }
 }

@@ -1,5 +1,5 @@
 -- The two cases of the ruling, as the code meets them. Assumes nothing.
-use Rattle.std.proofs.Common.{◌≡◌, ℕ, ◌*◌, ◌/◌, ◌≤◌, Bool, true, false, cond, ltb, List, length, refl, ap, ◌∙◌, arith, ltb-false}
+use Rattle.std.proofs.Common.{◌≡◌, ℕ, ◌*◌, ◌/◌, ◌≤◌, Bool, true, false, cond, ltb, List, ◌++◌, drop, length, refl, sym, ap, ◌∙◌, arith, ltb-false}
 use Rattle.view.specs.View.{max_points, view_at}
 use Rattle.cells.specs.Cell.{Cell, cells_at, cells_of}
 use Rattle.cells.proofs.Keys.{cells_are}
@@ -10,12 +10,16 @@ use Rattle.ruling.specs.declared.Sheet.{Sheet}
 use Rattle.ruling.proofs.Standing.{accepted-order}
 use Rattle.judged.specs.Judged.{Judged}
 use Rattle.predict.specs.Fills.{fills_of}
-use Rattle.predict.specs.declared.Prediction.{Prediction}
+use Rattle.predict.specs.Predict.{Prediction}
 use Rattle.drop_set.specs.Filters.{sides_of}
 use Rattle.judging.specs.Judging.{Arrays, judged_by, judged_for, fills_for}
 use Rattle.judging.proofs.Sheets.{AcceptedSheet, accepted-sheet, refused-sheet, sheet-arrays, sheet-judged, sheet-fills, sheet-few}
 use Rattle.kept.proofs.Cases.{rows_fit}
-use Rattle.text.specs.Stored.{Stored}
+use Rattle.std.specs.Prelude.{Result, Ok}
+use Rattle.text.specs.Answer.{Shows}
+use Rattle.text.specs.declared.NoRoom.{NoRoom}
+use Rattle.sheet_file.specs.declared.Settings.{Settings}
+use Rattle.cells.specs.Points.{Point}
 use Rattle.sheet_fills.specs.Bytes.{fill_size, fills_bytes, dropped_count}
 use Rattle.sheet_fills.specs.Answer.{as_rows, fill_ruling, fill_answer_of, fills_after}
 use Rattle.sheet_fills.specs.declared.FillAnswer.{FillAnswer}
@@ -43,31 +47,49 @@ module _ (file buffer : List ℕ) (bytes : Bytes file) (r : Sheet) (h : Ruled (f
   pub few : r.table.number ≡ 0 → r.count ≤ max_points
   few z = sheet-few file room r bytes (of z)
 
-  -- with the table of ranks
-  module _ (z : r.table.number ≡ 0) {ranks : List ℕ} (f : ranks ≡ ranks_of r.count r.table.keys r.table.idx) where
-    pub done : {j : Judged} {fills : List Prediction} {after : List ℕ} {end : ℕ} → j ≡ judged_by r.settings r.count r.table.keys r.table.idx r.table.x r.table.y r.table.strength
-        → fills ≡ fills_of (view_at r.count ranks r.table.x r.table.y) (sides_of r.settings) j.marks
-        → Stored buffer 0 (fills_bytes (cells_at r.table.keys) j.marks fills r.count) after end
-        → (◌≡◌ {A = FillAnswer} (Filled (record { points = r.count; fills = end / fill_size })) (fill_answer_of file (length buffer))) × (after ≡ fills_after file buffer)
-    unfolding fill_answer_of fills_after
-    done {j} {fills} {after} {end} e g t =
+  -- with the table of ranks, the judged sheet and its fills
+  module _ (z : r.table.number ≡ 0) {ranks : List ℕ} (f : ranks ≡ ranks_of r.count r.table.keys r.table.idx) {j : Judged} {fills : List Prediction}
+      (e : j ≡ judged_by r.settings r.count r.table.keys r.table.idx r.table.x r.table.y r.table.strength)
+      (g : fills ≡ fills_of (view_at r.count ranks r.table.x r.table.y) (sides_of r.settings) j.marks)
+      {after : List ℕ} {w : Result ℕ NoRoom} (t : Shows (fills_bytes (cells_at r.table.keys) j.marks fills r.count) buffer after w) where
+    abbrev points : List Point
+    points = (of z).points
+
+    abbrev settings : Settings
+    settings = (of z).settings
+
+    -- the bytes, over the cells
+    abbrev whole : List ℕ
+    whole = fills_bytes (cells_of points) (judged_for settings points).marks (fills_for settings points) (length points)
+
+    same : fills_bytes (cells_at r.table.keys) j.marks fills r.count ≡ whole
+    same =
         let o = of z in
-        let ps = o.points in
-        let s = o.settings in
-        let judged : j ≡ judged_for s ps = e ∙ sheet-judged file room r bytes o in
-        let filled : fills ≡ fills_for s ps = g ∙ sheet-fills file room r bytes o f (ap (λ (x : Judged). x.marks) judged) in
-        let cells : cells_at r.table.keys ≡ cells_of ps = ap cells_at o.sheet.table_is.keys-are ∙ cells_are ps (accepted-order file room s ps bytes o.ruled).inside in
-        let same : fills_bytes (cells_at r.table.keys) j.marks fills r.count ≡ fills_bytes (cells_of ps) (judged_for s ps).marks (fills_for s ps) (length ps) =
+        let judged : j ≡ judged_for settings points = e ∙ sheet-judged file room r bytes o in
+        let filled : fills ≡ fills_for settings points = g ∙ sheet-fills file room r bytes o f (ap (λ (x : Judged). x.marks) judged) in
+        let cells : cells_at r.table.keys ≡ cells_of points = ap cells_at o.sheet.table_is.keys-are ∙ cells_are points (accepted-order file room settings points bytes o.ruled).inside in
         ap (λ (c : ℕ → Cell). fills_bytes c j.marks fills r.count) cells
-        ∙ ap (λ (x : Judged). fills_bytes (cells_of ps) x.marks fills r.count) judged
-        ∙ ap (λ (l : List Prediction). fills_bytes (cells_of ps) (judged_for s ps).marks l r.count) filled
-        ∙ ap (fills_bytes (cells_of ps) (judged_for s ps).marks (fills_for s ps)) o.sheet.count-is in
-        let long = bytes-long (cells_of ps) (judged_for s ps).marks (fills_for s ps) (length ps) in
-        let size = bytes-few (cells_of ps) (judged_for s ps).marks (fills_for s ps) (length ps) in
-        let fit = room-for-fills (length buffer) (length ps) (rows_fit file room s ps o.ruled) (accepted-order file room s ps bytes o.ruled).few in
-        let w = fits_whole (rw same at t) (omega (arith, size, fit)) in
-        let count : end / fill_size ≡ dropped_count (judged_for s ps).marks (length ps) = omega (arith, w.0, long) in
-        rw o.ruled (ap (λ (n : ℕ). Filled (record { points = n; fills = end / fill_size })) o.sheet.count-is ∙ ap (λ (c : ℕ). Filled (record { points = length ps; fills = c })) count, w.1)
+        ∙ ap (λ (x : Judged). fills_bytes (cells_of points) x.marks fills r.count) judged
+        ∙ ap (λ (l : List Prediction). fills_bytes (cells_of points) (judged_for settings points).marks l r.count) filled
+        ∙ ap (fills_bytes (cells_of points) (judged_for settings points).marks (fills_for settings points)) o.sheet.count-is
+
+    -- there is room for them
+    pub fitted : (w ≡ Ok (length whole)) × (after ≡ whole ++ drop (length whole) buffer)
+    fitted =
+        let o = of z in
+        let size = bytes-few (cells_of points) (judged_for settings points).marks (fills_for settings points) (length points) in
+        let fit = room-for-fills (length buffer) (length points) (rows_fit file room settings points o.ruled) (accepted-order file room settings points bytes o.ruled).few in
+        fits_whole (rw same at t) (omega (arith, size, fit))
+
+    pub done : {size : ℕ} → w ≡ Ok size → (◌≡◌ {A = FillAnswer} (Filled (record { points = r.count; fills = size / fill_size })) (fill_answer_of file (length buffer))) × (after ≡ fills_after file buffer)
+    unfolding fill_answer_of fills_after
+    done {size} y =
+        let o = of z in
+        let long = bytes-long (cells_of points) (judged_for settings points).marks (fills_for settings points) (length points) in
+        let u : ◌≡◌ {A = Result ℕ NoRoom} (Ok size) (Ok (length whole)) = sym y ∙ fitted.0 in
+        let n : size ≡ length whole = cc u in
+        let count : size / fill_size ≡ dropped_count (judged_for settings points).marks (length points) = omega (arith, n, long) in
+        rw o.ruled (ap (λ (n : ℕ). Filled (record { points = n; fills = size / fill_size })) o.sheet.count-is ∙ ap (λ (c : ℕ). Filled (record { points = length points; fills = c })) count, fitted.1)
 
   pub turned : (r.table.number ≡ 0 → ⊥) → (◌≡◌ {A = FillAnswer} (Refused r.table.number) (fill_answer_of file (length buffer))) × (buffer ≡ fills_after file buffer)
   unfolding fill_answer_of fills_after

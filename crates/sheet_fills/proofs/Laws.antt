@@ -1,17 +1,17 @@
 -- The bytes of fills: how many there are, and where they stand in the buffer. Assumes nothing.
-use Rattle.std.proofs.Common.{◌≡◌, ℕ, zero, suc, ◌+◌, ◌-◌, ◌*◌, ◌%◌, ◌^◌, ◌<◌, ◌≤◌, Bool, true, false, cond, not, eqb, leb, List, [], ◌++◌, length, get_or, drop, pos, ◌-ℤ◌, sym, refl, ap, ◌∙◌, arith, length-append, take_all, w32, of_z, le-ltb, lt-ltb, le-leb}
+use Rattle.std.proofs.Common.{◌≡◌, ℕ, zero, suc, ◌+◌, ◌-◌, ◌*◌, ◌%◌, ◌^◌, ◌<◌, ◌≤◌, Bool, true, false, cond, not, eqb, List, [], ◌++◌, length, get_or, drop, pos, ◌-ℤ◌, sym, refl, ap, ◌∙◌, arith, length-append, take_all, w32, of_z, le-ltb, lt-ltb}
 use Prim.{Dec, yes, no}
 use native.Mathlib.Decide.{dec_lt}
 use Rattle.folds.specs.Below.{tally}
 use Rattle.folds.proofs.Below.{tally-none, tally-more, tally-le}
 use Rattle.cells.specs.Points.{bias}
 use Rattle.cells.specs.Cell.{Cell}
-use Rattle.predict.specs.declared.Prediction.{Prediction}
-use Rattle.predict.specs.declared.Prediction.TheVariants.{NoPair, Pairs}
-use Rattle.text.specs.Stored.{Stored}
+use Rattle.predict.specs.Predict.{Prediction}
+use Rattle.std.specs.Prelude.{None, Some, Result, Ok}
+use Rattle.text.specs.Answer.{Shows}
 use Rattle.text.specs.Text.{each}
-use Rattle.text.specs.declared.Written.TheVariants.{Whole, NoRoom}
-use Rattle.text.proofs.Stores.{each_none, each_more, shows}
+use Rattle.text.specs.declared.NoRoom.{NoRoom}
+use Rattle.text.proofs.Stores.{each_none, each_more, shown-whole}
 use Rattle.sheet_fills.specs.Bytes.{fill_size, prediction_bytes, fill_bytes, bytes_for, fills_bytes, dropped_count}
 
 -- ---- a cell number as i32
@@ -35,19 +35,19 @@ unbiased b r h l e = go (dec_lt b bias)
 
 fill-long : (c : Cell) (x : Prediction) → length (fill_bytes c x) ≡ fill_size
 unfolding fill_bytes prediction_bytes
-fill-long c NoPair = refl
-fill-long c (Pairs p) = refl
+fill-long c None = refl
+fill-long c (Some p) = refl
 
 module _ (cell : ℕ → Cell) (marks : List ℕ) (fills : List Prediction) where
-  abbrev piece : ℕ → List ℕ
-  piece k = bytes_for (cell k) (get_or marks k 0) (get_or fills k NoPair)
+  abbrev pub piece : ℕ → List ℕ
+  piece k = bytes_for (cell k) (get_or marks k 0) (get_or fills k None)
 
   piece-long : (k : ℕ) → length (piece k) ≡ cond (not (eqb (get_or marks k 0) 0)) fill_size 0
   piece-long k = go (eqb (get_or marks k 0) 0)
     where
-      go : (b : Bool) → length (cond b [] (fill_bytes (cell k) (get_or fills k NoPair))) ≡ cond (not b) fill_size 0
+      go : (b : Bool) → length (cond b [] (fill_bytes (cell k) (get_or fills k None))) ≡ cond (not b) fill_size 0
       go true = refl
-      go false = fill-long (cell k) (get_or fills k NoPair)
+      go false = fill-long (cell k) (get_or fills k None)
 
   abbrev dropped : ℕ → Bool
   dropped k = not (eqb (get_or marks k 0) 0)
@@ -72,13 +72,8 @@ module _ (cell : ℕ → Cell) (marks : List ℕ) (fills : List Prediction) wher
 -- ---- where they stand
 
 -- a text that fits stands whole at the start of the buffer
-pub fits_whole : {l t m : List ℕ} {e : ℕ} → Stored l 0 t m e → length t ≤ length l → (e ≡ length t) × (m ≡ t ++ drop (length t) l)
-fits_whole {l} {t} {m} {e} s h =
-    let w = shows s refl in (
-      go (leb e (length m)) (w.answer ∙ rw (le-leb (length t) (length l) h)),
-      w.buffer ∙ ap (λ (x : List ℕ). x ++ drop (length t) l) (take_all (length l) t h),
-    )
-  where
-    go : (b : Bool) → cond b (Whole e) NoRoom ≡ Whole (length t) → e ≡ length t
-    go true q = cc
-    go false q = absurd (let z : ◌≡◌ {A = ℕ} 0 1 = cc in omega arith)
+pub fits_whole : {l t m : List ℕ} {r : Result ℕ NoRoom} → Shows t l m r → length t ≤ length l → (r ≡ Ok (length t)) × (m ≡ t ++ drop (length t) l)
+fits_whole {l} {t} s h = (
+  shown-whole s h,
+  s.buffer ∙ ap (λ (x : List ℕ). x ++ drop (length t) l) (take_all (length l) t h),
+)

@@ -8,8 +8,8 @@ use Rattle.std.proofs.Common.{of_z}
 use Rattle.folds.specs.Below.{tally}
 use Rattle.cells.specs.Cell.{Cell}
 use Rattle.sheet_file.specs.Bytes.{little_endian}
-use Rattle.predict.specs.declared.Prediction.{Prediction}
-use Rattle.predict.specs.declared.Prediction.TheVariants.{NoPair, Pairs}
+use Rattle.predict.specs.Predict.{Prediction}
+use Rattle.std.specs.Prelude.{None, Some}
 use Rattle.text.specs.Text.{each}
 
 -- the bytes of a fill: 20 for each dropped point
@@ -23,8 +23,8 @@ signed_bytes z = little_endian (of_z w32 z)
 -- the number of pairs as u32, and x and y as f32; zeros where there is no pair
 unfoldable pub prediction_bytes : Prediction → List ℕ
 unfolding to_bits
-prediction_bytes NoPair = little_endian 0 ++ little_endian 0 ++ little_endian 0
-prediction_bytes (Pairs p) = little_endian p.n_axis_pairs ++ little_endian (to_bits binary32 p.x) ++ little_endian (to_bits binary32 p.y)
+prediction_bytes None = little_endian 0 ++ little_endian 0 ++ little_endian 0
+prediction_bytes (Some p) = little_endian p.n_axis_pairs ++ little_endian (to_bits binary32 p.x) ++ little_endian (to_bits binary32 p.y)
 
 -- "u, v, pairs, x and y"
 unfoldable pub fill_bytes : Cell → Prediction → List ℕ
@@ -38,7 +38,7 @@ bytes_for cell marks fill = cond (marks == 0) [] (fill_bytes cell fill)
 -- "in cell order": of n ranks
 unfoldable pub fills_bytes : (ℕ → Cell) → List ℕ → List Prediction → ℕ → List ℕ
 unfolding each fill_bytes
-fills_bytes cell marks fills n = each (λ k. bytes_for (cell k) (slice_index marks k) (slice_index_or fills k NoPair)) n
+fills_bytes cell marks fills n = each (λ k. bytes_for (cell k) (slice_index marks k) (slice_index_or fills k None)) n
 
 -- how many of n ranks are dropped
 unfoldable pub dropped_count : List ℕ → ℕ → ℕ

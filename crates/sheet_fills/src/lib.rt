@@ -3,21 +3,23 @@
 #![tactic(auto)]
 
 ghost use Rattle.std.specs.Prelude.{◌≡◌, ◌≤◌, ◌++◌, length, pos, ◌-ℤ◌};
-ghost use Rattle.view.specs.View.{max_points};
+ghost use Rattle.view.specs.View.{max_points, view_at};
 ghost use Rattle.cells.specs.Points.{bias};
 ghost use Rattle.cells.specs.Cell.{cell_of_key, cells_at};
 ghost use Rattle.sheet_file.specs.Bytes.{little_endian};
+ghost use Rattle.predict.specs.Fills.{fills_of};
+ghost use Rattle.drop_set.specs.Filters.{sides_of};
 ghost use Rattle.ruling.specs.Sheet.{Ruled};
-ghost use Rattle.predict.specs.declared.Prediction.TheVariants.{Pairs};
 ghost use Rattle.text.specs.Stored.{Stored};
+ghost use Rattle.text.specs.Answer.{Shows};
 ghost use Rattle.sheet_fills.specs.Bytes.{signed_bytes, prediction_bytes, bytes_for, fills_bytes};
 ghost use Rattle.sheet_fills.specs.Answer.{as_rows, fill_ruling, fill_answer_of, fills_after};
 
-use judged::Terms;
-use judged::figures::{FIGURE_COUNTS_SIZE, FIGURE_MEASURES_SIZE};
-use predict::{Fills, PredictedPosition, Prediction};
+use edge_shape::NO_FIGURES;
+use predict::{Fills, PredictedPosition};
 use ruling::{ROWS_SIZE, Sheet};
-use view::{MAX_POINTS, Marks, RANKS_SIZE, Words};
+use text::{NoRoom, Writer};
+use view::{MAX_POINTS, Marks, RANKS_SIZE, Ranks, Words};
 
 // The bytes of a fill.
 pub const FILL_SIZE: usize = 20;
@@ -37,62 +39,73 @@ pub enum FillAnswer {
 // ---- the bytes of a fill
 
 // The cell number b - BIAS.
-fn put_cell_number(b: u32, out: &mut [u8], at: usize) -> usize
-    ensures { Stored out.old at (signed_bytes (pos b -ℤ pos bias)) out.new result }
+fn put_cell_number(w: &mut Writer, b: u32)
+    ensures { Stored w.old (signed_bytes (pos b -ℤ pos bias)) w.new }
 {
-    little_endian::put_u32(std::num::wrapping_sub_u32(b, cells::BIAS), out, at)
+    little_endian::put_u32(w, b.wrapping_sub(cells::BIAS));
 }
 
-fn put_numbers(a: u32, b: u32, c: u32, out: &mut [u8], at: usize) -> usize
-    ensures { Stored out.old at (little_endian a ++ little_endian b ++ little_endian c) out.new result }
+fn put_numbers(w: &mut Writer, a: u32, b: u32, c: u32)
+    ensures { Stored w.old (little_endian a ++ little_endian b ++ little_endian c) w.new }
 {
-    let d = little_endian::put_u32(a, out, at);
-    let e = little_endian::put_u32(b, out, d);
-    little_endian::put_u32(c, out, e)
+    little_endian::put_u32(w, a);
+    little_endian::put_u32(w, b);
+    little_endian::put_u32(w, c);
 }
 
-fn put_position(p: PredictedPosition, out: &mut [u8], at: usize) -> usize
-    ensures { Stored out.old at (prediction_bytes (Pairs p)) out.new result }
-{
-    let x = float::to_bits(p.x);
-    let y = float::to_bits(p.y);
-    put_numbers(p.n_axis_pairs as u32, x, y, out, at)
-}
-
-fn put_prediction(p: Prediction, out: &mut [u8], at: usize) -> usize
-    ensures { Stored out.old at (prediction_bytes p) out.new result }
+fn put_prediction(w: &mut Writer, p: Option<PredictedPosition>)
+    ensures { Stored w.old (prediction_bytes p) w.new }
 {
     match p {
-        Prediction::NoPair => put_numbers(0, 0, 0, out, at),
-        Prediction::Pairs(position) => put_position(position, out, at),
+        None => put_numbers(w, 0, 0, 0),
+        Some(p) => put_numbers(
+            w,
+            p.n_axis_pairs as u32,
+            float::to_bits(p.x),
+            float::to_bits(p.y),
+        ),
     }
 }
 
 // The fill of the point whose cell has this key, if it has a mark.
-fn put_fill(key: u32, marks: u8, fill: Prediction, out: &mut [u8], at: usize) -> usize
-    ensures { Stored out.old at (bytes_for (cell_of_key key) marks fill) out.new result }
+fn put_fill(w: &mut Writer, key: u32, marks: u8, fill: Option<PredictedPosition>)
+    ensures { Stored w.old (bytes_for (cell_of_key key) marks fill) w.new }
 {
     if marks == 0 {
-        return at;
+        return;
     }
-    let a = put_cell_number(cells::u_part(key), out, at);
-    let b = put_cell_number(cells::v_part(key), out, a);
-    put_prediction(fill, out, b)
+    put_cell_number(w, cells::u_part(key));
+    put_cell_number(w, cells::v_part(key));
+    put_prediction(w, fill);
 }
 
-// The fills of n points in cell order, from the start of the buffer; the place after them.
-fn put_fills(n: usize, keys: &Words, marks: &Marks, fills: Fills, out: &mut [u8]) -> usize
+// The fills of n points in cell order, from the start of the buffer: how many bytes they are.
+#[inline(never)]
+fn put_fills(
+    n: usize,
+    keys: &Words,
+    marks: &Marks,
+    fills: Fills,
+    out: &mut [u8],
+) -> Result<usize, NoRoom>
     requires { n ≤ max_points }
-    ensures { Stored out.old 0 (fills_bytes (cells_at keys.now) marks.now fills n) out.new result }
+    ensures { Shows (fills_bytes (cells_at keys.now) marks.now fills n) out.old out.new result }
 {
-    let mut to: usize = 0;
-    let mut k = 0;
-    while k < n {
-        let next = put_fill(keys[k], marks[k], fills[k], out, to);
-        to = next;
-        k += 1;
+    let mut w = Writer::new(out);
+    for k in 0..n {
+        put_fill(&mut w, keys[k], marks[k], fills[k]);
     }
-    to
+    w.answer()
+}
+
+// The fills of a judged sheet, from the start of the buffer: how many bytes they are.
+#[inline(never)]
+fn write_fills(sheet: &Sheet, ranks: &Ranks, marks: &Marks, out: &mut [u8]) -> Result<usize, NoRoom>
+    requires { sheet.now.count ≤ max_points }
+    ensures { Shows (fills_bytes (cells_at sheet.now.table.keys) marks.now (fills_of (view_at sheet.now.count ranks.now sheet.now.table.x sheet.now.table.y) (sides_of sheet.now.settings) marks.now) sheet.now.count) out.old out.new result }
+{
+    let fills = judging::fills(sheet, ranks, marks);
+    put_fills(sheet.count, &sheet.table.keys, marks, fills, out)
 }
 
 // ---- the call
@@ -109,26 +122,25 @@ fn as_rows(room: usize) -> usize
 }
 
 // Writes the fills of a sheet that was read of a file; or gives the number of a refusal, and writes nothing.
+#[inline(never)]
 fn fill_read(file: &[u8], sheet: Sheet, out: &mut [u8]) -> FillAnswer
     requires { Ruled (fill_ruling file.now (length out.old)) sheet }
     ensures answer { result ≡ fill_answer_of file.now (length out.old) }
     ensures fills { out.new ≡ fills_after file.now out.old }
 {
-    let settings = sheet.settings;
     let n = sheet.count;
-    let terms = Terms { settings, count: n };
     let number = sheet.table.number;
     if number == 0 {
-        let mut counts = [0u8; FIGURE_COUNTS_SIZE];
-        let mut measures = [0.0f32; FIGURE_MEASURES_SIZE];
+        let mut figures = [NO_FIGURES; MAX_POINTS];
         let mut ranks = [0u16; RANKS_SIZE];
-        let j = judging::judge_sheet(&sheet, &mut ranks, &mut counts, &mut measures);
+        let j = judging::judge_sheet(&sheet, &mut ranks, &mut figures);
         let marks = j.marks;
-        let fills = judging::fills(terms, &ranks, &sheet.table.x, &sheet.table.y, &marks);
-        let end = put_fills(n, &sheet.table.keys, &marks, fills, out);
+        let Ok(size) = write_fills(&sheet, &ranks, &marks, out) else {
+            unreachable!()
+        };
         return FillAnswer::Filled(FillCounts {
             points: n,
-            fills: end / FILL_SIZE,
+            fills: size / FILL_SIZE,
         });
     }
     FillAnswer::Refused(number)

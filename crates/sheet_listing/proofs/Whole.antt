@@ -1,4 +1,5 @@
 -- A buffer of listing_size bytes has room for the text of any bytes. Assumes nothing.
+use Rattle.std.proofs.Common.{Result, Ok}
 use mathlib.Core.Path.{◌≡◌, refl, ◌∙◌}
 use mathlib.Core.List.{List}
 use Prim.{Dec, yes, no}
@@ -20,13 +21,12 @@ use Rattle.ruling.specs.Ruling.{Ruling, refused, accepted, ruling_of, rows_size}
 use Rattle.ruling.proofs.Given.{is-given, sheet-number}
 use Rattle.ruling.proofs.Standing.{sound, accepted-order}
 use Rattle.text.specs.Answer.{Shows}
-use Rattle.text.specs.declared.Written.{Written}
-use Rattle.text.specs.declared.Written.TheVariants.{Whole}
-use Rattle.text.proofs.Stores.{refusal-length}
+use Rattle.text.specs.declared.NoRoom.{NoRoom}
+use Rattle.text.proofs.Stores.{refusal-length, shown-whole, shown-first}
 use Rattle.listing.specs.Listing.{listing_size}
 use Rattle.listing.proofs.Size.{listing-fits}
 use Rattle.predict.specs.declared.PredictedPosition.{PredictedPosition}
-use Rattle.predict.specs.declared.Prediction.TheVariants.{NoPair, Pairs}
+use Rattle.std.specs.Prelude.{None, Some}
 use Rattle.predict.proofs.Few.{fills-few}
 use Rattle.drop_set.specs.Filters.{sides_of}
 use Rattle.judging.specs.Judging.{judged_for, fills_for}
@@ -55,7 +55,7 @@ module _ (file : List ℕ) (b : Bytes file) (s : Settings) (ps : List Point) (e 
   indices-small = column-small (length ps) (2 ^ 32) (λ (k : ℕ). (get_or ps k nowhere).index) (omega arith) index-small
 
   -- the square lattice has four offsets
-  one-digit : (k : ℕ) (p : PredictedPosition) → get_or (fills_for s ps) k NoPair ≡ Pairs p → p.n_axis_pairs < 10
+  one-digit : (k : ℕ) (p : PredictedPosition) → get_or (fills_for s ps) k None ≡ Some p → p.n_axis_pairs < 10
   unfolding fills_for
   one-digit k p q = omega (arith, fills-few (view_of ps) (sides_of s) (judged_for s ps).marks k p q)
 
@@ -73,10 +73,9 @@ text-fits file b = rw (text-is file) (go (ruling_of file rows_size) refl)
     go (accepted s ps) e = listed-fits file b s ps e
 
 -- so list_sheet, lent such a buffer, writes the text whole
-pub whole : (s before after : List ℕ) (r : Written) → Bytes s → listing_size ≤ length before → Shows (text_of s) before after r → r ≡ Whole (length (text_of s))
-whole s before after r b l h = h.answer ∙ rw (le-leb (length (text_of s)) (length before) (omega (arith, text-fits s b)))
+pub whole : (s before after : List ℕ) (r : Result ℕ NoRoom) → Bytes s → listing_size ≤ length before → Shows (text_of s) before after r → r ≡ Ok (length (text_of s))
+whole s before after r b l h = shown-whole h (omega (arith, text-fits s b))
 
 -- and its first bytes are then the text
-pub printed : (s before after : List ℕ) (r : Written) → Bytes s → listing_size ≤ length before → Shows (text_of s) before after r → take (length (text_of s)) after ≡ text_of s
-printed s before after r b l h =
-    rw (h.buffer, take_all (length before) (text_of s) (omega (arith, text-fits s b))) (take-append_seam (text_of s) (drop (length (text_of s)) before))
+pub printed : (s before after : List ℕ) (r : Result ℕ NoRoom) → Bytes s → listing_size ≤ length before → Shows (text_of s) before after r → take (length (text_of s)) after ≡ text_of s
+printed s before after r b l h = shown-first h (omega (arith, text-fits s b))

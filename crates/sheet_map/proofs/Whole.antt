@@ -1,4 +1,5 @@
 -- A buffer of map_size bytes has room for what is printed of any bytes. Assumes nothing.
+use Rattle.std.proofs.Common.{Result, Ok}
 use mathlib.Core.Path.{◌≡◌, refl, ap, ◌∙◌}
 use mathlib.Core.Bool.{true}
 use mathlib.Core.List.{List}
@@ -15,9 +16,8 @@ use Rattle.sheet_file.specs.declared.Settings.{Settings}
 use Rattle.ruling.specs.Ruling.{Ruling, refused, accepted, ruling_of, rows_size}
 use Rattle.ruling.proofs.Standing.{accepted-order}
 use Rattle.text.specs.Answer.{Shows}
-use Rattle.text.specs.declared.Written.{Written}
-use Rattle.text.specs.declared.Written.TheVariants.{Whole}
-use Rattle.text.proofs.Stores.{refusal-length}
+use Rattle.text.specs.declared.NoRoom.{NoRoom}
+use Rattle.text.proofs.Stores.{refusal-length, shown-whole, shown-first}
 use Rattle.map_lines.specs.Map.{map_size}
 use Rattle.map_lines.proofs.Size.{map-fits}
 use Rattle.judging.specs.Judging.{judged_for}
@@ -38,10 +38,9 @@ text-fits file b = rw (text-is file) (go (map_ruling_of file) refl)
         map-fits (length ps) (cells_of ps) (judged_for s ps).marks (v-within file b s ps d.ruled) d.narrow
 
 -- so the function that writes the text, lent such a buffer, writes it whole
-pub whole : (s before after : List ℕ) (r : Written) → Bytes s → map_size ≤ length before → Shows (map_text_of s) before after r → r ≡ Whole (length (map_text_of s))
-whole s before after r b l h = h.answer ∙ rw (le-leb (length (map_text_of s)) (length before) (omega (arith, text-fits s b)))
+pub whole : (s before after : List ℕ) (r : Result ℕ NoRoom) → Bytes s → map_size ≤ length before → Shows (map_text_of s) before after r → r ≡ Ok (length (map_text_of s))
+whole s before after r b l h = shown-whole h (omega (arith, text-fits s b))
 
 -- and its first bytes are then the text
-pub printed : (s before after : List ℕ) (r : Written) → Bytes s → map_size ≤ length before → Shows (map_text_of s) before after r → take (length (map_text_of s)) after ≡ map_text_of s
-printed s before after r b l h =
-    rw (h.buffer, take_all (length before) (map_text_of s) (omega (arith, text-fits s b))) (take-append_seam (map_text_of s) (drop (length (map_text_of s)) before))
+pub printed : (s before after : List ℕ) (r : Result ℕ NoRoom) → Bytes s → map_size ≤ length before → Shows (map_text_of s) before after r → take (length (map_text_of s)) after ≡ map_text_of s
+printed s before after r b l h = shown-first h (omega (arith, text-fits s b))

@@ -6,42 +6,33 @@ ghost use Rattle.text.specs.Answer.{Shows};
 ghost use Rattle.sheet_map.specs.Text.{map_text_of};
 ghost use Rattle.sheet_map.specs.Table.{drawn_by};
 
-use judged::Terms;
-use judged::figures::{FIGURE_COUNTS_SIZE, FIGURE_MEASURES_SIZE};
+use edge_shape::NO_FIGURES;
 use map_lines::spans;
-use map_lines::spans::Axis;
-use ruling::ROWS_SIZE;
-use text::Written;
-use view::{Floats, Words};
+use offsets::Axis;
+use ruling::{ROWS_SIZE, Sheet};
+use text::NoRoom;
+use view::MAX_POINTS;
 
 // Writes the map of points in cell order, or `refused 10`.
-fn draw<'a>(
-    t: Terms,
-    keys: &'a Words,
-    idx: &'a Words,
-    x: &'a Floats,
-    y: &'a Floats,
-    strength: &'a Floats,
-    out: &mut [u8],
-) -> Written
-    requires { Arrays t.count keys.now x.now y.now strength.now }
-    ensures { Shows (drawn_by t.settings t.count keys.now idx.now x.now y.now strength.now) out.old out.new result }
+#[inline(never)]
+fn draw(sheet: &Sheet, out: &mut [u8]) -> Result<usize, NoRoom>
+    requires { Arrays sheet.now.count sheet.now.table.keys sheet.now.table.x sheet.now.table.y sheet.now.table.strength }
+    ensures { Shows (drawn_by sheet.now.settings sheet.now.count sheet.now.table.keys sheet.now.table.idx sheet.now.table.x sheet.now.table.y sheet.now.table.strength) out.old out.new result }
 {
-    let n = t.count;
-    let u = spans::span_along(keys, n, Axis::AlongU);
-    let v = spans::span_along(keys, n, Axis::AlongV);
+    let n = sheet.count;
+    let u = spans::span_along(&sheet.table.keys, n, Axis::AlongU);
+    let v = spans::span_along(&sheet.table.keys, n, Axis::AlongV);
     if map_lines::too_wide(u, v) {
         return text::write_refusal(10, out);
     }
-    let mut counts = [0u8; FIGURE_COUNTS_SIZE];
-    let mut measures = [0.0f32; FIGURE_MEASURES_SIZE];
-    let j = judging::judge(t, keys, idx, x, y, strength, &mut counts, &mut measures);
+    let mut figures = [NO_FIGURES; MAX_POINTS];
+    let j = judging::judge(sheet, &mut figures);
     let marks = j.marks;
-    map_lines::write_map(n, keys, &marks, u, v, out)
+    map_lines::write_map(n, &sheet.table.keys, &marks, u, v, out)
 }
 
 // Writes the map of a sheet file, or `refused` and the number.
-pub fn draw_sheet(file: &[u8], out: &mut [u8]) -> Written
+pub fn draw_sheet(file: &[u8], out: &mut [u8]) -> Result<usize, NoRoom>
     ensures { Shows (map_text_of file.now) out.old out.new result }
 {
     let sheet = ruling::read(file, ROWS_SIZE);
@@ -49,16 +40,5 @@ pub fn draw_sheet(file: &[u8], out: &mut [u8]) -> Written
     if 0 < number {
         return text::write_refusal(number, out);
     }
-    let settings = sheet.settings;
-    let n = sheet.count;
-    let terms = Terms { settings, count: n };
-    draw(
-        terms,
-        &sheet.table.keys,
-        &sheet.table.idx,
-        &sheet.table.x,
-        &sheet.table.y,
-        &sheet.table.strength,
-        out,
-    )
+    draw(&sheet, out)
 }

@@ -104,10 +104,8 @@ fn main(rt: HostRuntime) {
     let mut input = rt.stdin();
     let count = recorded::read_number(&mut input);
     let mut differ: usize = 0;
-    let mut i: usize = 0;
-    while i < count {
-        i += 1;
-        differ += recorded::print_case(&rt, i, replay(&mut input));
+    for i in 0..count {
+        differ += recorded::print_case(&rt, i + 1, replay(&mut input));
     }
     recorded::print_counts(&rt, count, differ);
 }

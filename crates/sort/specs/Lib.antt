@@ -1,4 +1,3 @@
 pub mod Sorted
 pub mod Numbers
 pub mod Packed
-pub mod Parts

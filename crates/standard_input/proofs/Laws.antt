@@ -1,15 +1,9 @@
--- What came may be sliced off the buffer, and stands in it after what came before. Assumes nothing.
-use Rattle.std.proofs.Common.{◌≡◌, ◌∙◌, ap, subst, ℕ, ◌+◌, ◌≤◌, le_refl, List, ◌++◌, length, take, drop, drop_at, length-take-le}
+-- What came stands in the buffer after what came before. Assumes nothing.
+use Rattle.std.proofs.Common.{◌≡◌, ◌∙◌, ap, ℕ, ◌+◌, ◌≤◌, le_refl, List, ◌++◌, length, take, drop, drop_at, length-take-le}
 use Rattle.std.proofs.lemmas.List.{take-append-le}
 use Rattle.std.proofs.lemmas.Slice.{take-put_mid_below}
 use Rattle.std.proofs.Math.Seq.{take-add}
 use borrow.Rule.Slice.PartMut.{put_mid, post_of}
-use Rattle.standard_input.specs.declared.Input.{Input}
-use Rattle.standard_input.specs.declared.Input.TheVariants.{Read}
-use Rattle.standard_input.specs.Input.{Within}
-
-pub read-within : {size n : ℕ} {r : Input} → Within size r → r ≡ Read n → n ≤ size
-read-within {size} h e = subst (Within size) e h
 
 -- the first bytes of the part follow those before it
 pub one-after-other : (at k n : ℕ) (file part : List ℕ) → at ≤ length file → n ≤ length part → take (at + n) (put_mid at k file part) ≡ take at file ++ take n part

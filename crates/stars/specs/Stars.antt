@@ -1,6 +1,6 @@
 -- "The starred sheets go into one proved table about the rules": each by computation of the definitions. The two starred lines about f32
 -- alone are in `float`, sheets with strengths in WeakEnds.antt. Assumes nothing.
-use Rattle.std.specs.Prelude.{◌≡◌, refl, Bool, true, List, [], ◌∷◌, ℕ, length, get_or}
+use Rattle.std.specs.Prelude.{◌≡◌, refl, Bool, true, List, [], ◌∷◌, ℕ, length, get_or, None}
 use Rattle.folds.specs.Arith.{f32}
 use Rattle.folds.specs.Lists.{All, list_of}
 use Rattle.folds.specs.Marked.{bit}
@@ -10,7 +10,6 @@ use Rattle.sort.specs.Sorted.{sort}
 use Rattle.points.specs.Refusals.{number_for, cell_order}
 use Rattle.grid.specs.Views.{view_of}
 use Rattle.sheet_file.specs.declared.Settings.{Settings}
-use Rattle.sheet_file.specs.declared.EdgeGate.TheVariants.{Off}
 use Rattle.sheet_file.specs.declared.Fraction.TheVariants.{Missing}
 use Rattle.sheet_file.specs.Refusals.{defaults_for}
 use Rattle.local_h.specs.declared.Residual.TheVariants.{NoFit}
@@ -47,7 +46,7 @@ rules-compute = true
 
 -- "Cell size 100, defaults"
 abbrev pub settings : Settings
-settings = defaults_for (f32 0x42C8_0000) Off Missing
+settings = defaults_for (f32 0x42C8_0000) None Missing
 
 -- what the definitions say of points in cell order with settings
 abbrev pub said_of : Settings → List Point → Said

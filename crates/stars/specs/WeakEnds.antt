@@ -1,10 +1,9 @@
 -- Sheets with strengths (document 02, A.5, "Weak ends of a patch"), worked out by hand in the form of the starred sheets: each by computation of
 -- the definitions. Cell size 100, defaults, distinct indices unless said. Assumes nothing.
-use Rattle.std.specs.Prelude.{refl, List, [], ◌∷◌, ℕ}
+use Rattle.std.specs.Prelude.{refl, List, [], ◌∷◌, ℕ, None}
 use Rattle.folds.specs.Arith.{f32}
 use Rattle.folds.specs.Lists.{All}
 use Rattle.cells.specs.Points.{Point}
-use Rattle.sheet_file.specs.declared.EdgeGate.TheVariants.{Off}
 use Rattle.sheet_file.specs.declared.Fraction.TheVariants.{Given}
 use Rattle.sheet_file.specs.Refusals.{defaults_for}
 use Rattle.stars.specs.Stars.{rules-compute, Said, says, Star, Right}
@@ -25,7 +24,7 @@ pt u v i x y s = record { u = u; v = v; index = i; x = x; y = y; strength = s }
 
 -- the patterns of the cell size and the fraction, the points in the order of the file, and what is said of the sheet
 abbrev sheet : ℕ → ℕ → List Point → Said → Star
-sheet cell_size fraction ps s = record { settings = defaults_for (f32 cell_size) Off (Given (f32 fraction)); sheet = ps; said = s }
+sheet cell_size fraction ps s = record { settings = defaults_for (f32 cell_size) None (Given (f32 fraction)); sheet = ps; said = s }
 
 abbrev pub weak_ends : List Star
 weak_ends =

@@ -1,6 +1,7 @@
 -- Steps and their median are finite, so the Rust's test that the median is positive and finite never fails. Assumes nothing.
 use mathlib.Core.Path.{◌≡◌, refl}
 use mathlib.Core.Bool.{Bool, true, false, cond, ◌&&◌}
+use Rattle.std.specs.Prelude.{Option, Some, None}
 use Prim.Native.Nat.{ℕ, ◌/◌, ◌<◌}
 use native.Mathlib.Omega.{arith}
 use lib.Dec.{eqb}
@@ -17,17 +18,16 @@ use Rattle.offsets.specs.Offsets.{prev_u, next_u, prev_v, next_v}
 use Rattle.view.specs.View.{View}
 use Rattle.step.specs.Step.{axis_step, mean_step, kept_step, local_step, step_at}
 use Rattle.step.specs.Deviation.{steps_in}
-use Rattle.step.specs.declared.Step.{Step}
 
-kept-finite : (a : Step) → finite (kept_step a) ≡ true
+kept-finite : (a : Option Float) → finite (kept_step a) ≡ true
 unfolding kept_step of_bits
-kept-finite a = go a.there (lt zero a.value) (finite a.value) refl
+kept-finite None = refl
+kept-finite (Some s) = go (lt zero s) (finite s) refl
   where
-    go : (t p f : Bool) → finite a.value ≡ f → finite (cond (t && (p && f)) a.value zero) ≡ true
-    go true true true e = e
-    go true true false e = refl
-    go true false f e = refl
-    go false p f e = refl
+    go : (p f : Bool) → finite s ≡ f → finite (cond (p && f) s zero) ≡ true
+    go true true e = e
+    go true false e = refl
+    go false f e = refl
 
 -- each step is finite
 pub step-finite : (w : View) (aware : Bool) (m : ℕ) → finite (step_at w aware m) ≡ true

@@ -1,6 +1,6 @@
 -- The local step of an index and its scale: the formulas of `local_step_per_corner` in step.rs and of `scale_at` in mod.rs, with their
 -- operations in their order. Assumes nothing.
-use Rattle.std.specs.Prelude.{Bool, true, false, cond, ◌&&◌, ℕ, eqb, Float}
+use Rattle.std.specs.Prelude.{Bool, cond, ◌&&◌, ℕ, Option, Some, None, eqb, Float}
 use Rattle.std.specs.Float.Ieee.{of_bits, lt, add, sub, mul}
 use Rattle.std.specs.Float.Ieee.Scale.{finite}
 use Rattle.float.specs.Constants.{zero, half}
@@ -11,14 +11,6 @@ use Rattle.folds.specs.Arith.{◌⊕◌, ◌⊖◌, ◌⊗◌}
 use Rattle.offsets.specs.declared.Offset.{Offset}
 use Rattle.offsets.specs.Offsets.{next_u, prev_u, next_v, prev_v}
 use Rattle.view.specs.View.{View, rank_at, present}
-use Rattle.step.specs.declared.Step.{Step}
-
--- a step, or none, whose value is 0
-abbrev pub step_of : Float → Step
-step_of s = record { there = true; value = s }
-
-abbrev pub no_step : Step
-no_step = record { there = false; value = zero }
 
 -- the distance from rank p to rank q
 unfoldable pub spacing : (ℕ → Float) → (ℕ → Float) → ℕ → ℕ → Distance
@@ -27,22 +19,25 @@ spacing x y p q = length_of (x q ⊖ x p) (y q ⊖ y p)
 
 -- The step of rank m along an axis, whose neighbours are at the offsets `before` and `after`: by a central difference where both are
 -- present, by a one-sided one where one is.
-unfoldable pub axis_step : View → Offset → Offset → ℕ → Step
+unfoldable pub axis_step : View → Offset → Offset → ℕ → Option Float
 unfolding spacing mul of_bits
 axis_step w before after m =
     cond (present w m before)
-    (cond (present w m after) (step_of ((spacing w.x w.y (rank_at w m before) (rank_at w m after)).value ⊗ half)) (step_of (spacing w.x w.y (rank_at w m before) m).value))
-    (cond (present w m after) (step_of (spacing w.x w.y m (rank_at w m after)).value) no_step)
+    (cond (present w m after) (Some ((spacing w.x w.y (rank_at w m before) (rank_at w m after)).value ⊗ half)) (Some (spacing w.x w.y (rank_at w m before) m).value))
+    (cond (present w m after) (Some (spacing w.x w.y m (rank_at w m after)).value) None)
 
 -- the mean of the steps along both axes, or the only one
-unfoldable pub mean_step : Step → Step → Step
+unfoldable pub mean_step : Option Float → Option Float → Option Float
 unfolding add mul of_bits
-mean_step a b = cond a.there (cond b.there (step_of ((a.value ⊕ b.value) ⊗ half)) a) b
+mean_step (Some s) (Some t) = Some ((s ⊕ t) ⊗ half)
+mean_step (Some s) None = Some s
+mean_step None b = b
 
 -- "the local step where it is finite and positive", else 0, which stands for no step
-unfoldable pub kept_step : Step → Float
+unfoldable pub kept_step : Option Float → Float
 unfolding lt of_bits
-kept_step a = cond (a.there && (lt zero a.value && finite a.value)) a.value zero
+kept_step (Some s) = cond (lt zero s && finite s) s zero
+kept_step None = zero
 
 unfoldable pub local_step : View → ℕ → Float
 unfolding axis_step mean_step kept_step

@@ -25,7 +25,8 @@ use Rattle.offsets.proofs.Places.{offset_near}
 use Rattle.cells.specs.Cell.{agree}
 use Rattle.cells.proofs.Edges.{agree_same}
 use Rattle.view.specs.View.{View, rank_at, present, degree_at}
-use Rattle.edges.specs.Edges.{edge_by, edge_at, no_edge, StoredEdge, stored_at}
+use Rattle.edges.specs.declared.StoredEdge.{StoredEdge}
+use Rattle.edges.specs.Edges.{edge_by, edge_at, no_edge, stored_at}
 use Rattle.wrong_label_filters.specs.Judged.{positive_edge, in_window, window_lens, sheet_lens, window_x, window_y, overlong, off_axis, fails, end_of_failing, edge_mark}
 use Rattle.wrong_label_filters.specs.Frontier.{distance, kink, kink_at, last_in_line, end_mark, frontier_mark}
 use Rattle.orientation.specs.Orientation.{vote_at, votes_for, orientation_mark}

@@ -12,7 +12,7 @@ use Rattle.offsets.specs.Offsets.{±0}
 use Rattle.view.specs.View.{View}
 use Rattle.cells.specs.Cell.{Cell}
 use Rattle.local_h.specs.Order.{offset_at}
-use Rattle.local_h.specs.Base.{member_at, on_line, is_other, base_of, has_four}
+use Rattle.local_h.specs.Base.{member_at, on_line, is_other, places_of, has_four}
 use Rattle.local_h.specs.Residual.{residual_at}
 use Rattle.local_h.specs.declared.Residual.TheVariants.{NoFit}
 use Rattle.local_h.proofs.Bases.{base-four, other-rank}
@@ -32,14 +32,14 @@ module _ (w : View) (r : Row w) (k : ℕ) (h : k < w.count) where
   no-four =
       not-true (has_four w k)
       (λ e.
-      let o = (base-four w k (ltb-true (base_of w k).d 24 e)).others in
-      let c : (base_of w k).c < 24 = omega (arith, o.third-fourth, o.within) in
-      let b : (base_of w k).b < 24 = omega (arith, o.second-third, c) in
-      let along-a = other-along (base_of w k).a (omega (arith, o.first-second, b)) o.one in
-      let along-b = other-along (base_of w k).b b o.two in
+      let o = (base-four w k (ltb-true (places_of w k).d 24 e)).others in
+      let c : (places_of w k).c < 24 = omega (arith, o.third-fourth, o.within) in
+      let b : (places_of w k).b < 24 = omega (arith, o.second-third, c) in
+      let along-a = other-along (places_of w k).a (omega (arith, o.first-second, b)) o.one in
+      let along-b = other-along (places_of w k).b b o.two in
       true≢false
-      (sym (and_both _ _ (row_line (offset_at (base_of w k).a) (offset_at (base_of w k).b) (offset_at (base_of w k).c) along-a along-b (other-along (base_of w k).c c o.three))
-      (row_line (offset_at (base_of w k).a) (offset_at (base_of w k).b) (offset_at (base_of w k).d) along-a along-b (other-along (base_of w k).d o.within o.four)))
+      (sym (and_both _ _ (row_line (offset_at (places_of w k).a) (offset_at (places_of w k).b) (offset_at (places_of w k).c) along-a along-b (other-along (places_of w k).c c o.three))
+      (row_line (offset_at (places_of w k).a) (offset_at (places_of w k).b) (offset_at (places_of w k).d) along-a along-b (other-along (places_of w k).d o.within o.four)))
       ∙ o.off-line))
 
   pub no-residual : (cell : ℕ → Cell) → residual_at w cell k ≡ NoFit

@@ -24,13 +24,14 @@ use Rattle.offsets.specs.Offsets.{next_u, next_v}
 use Rattle.view.specs.View.{View, max_points, alike, index_has}
 use Rattle.cells.specs.Cell.{Cell}
 use Rattle.sheet_file.specs.declared.Settings.{Settings}
+use Rattle.marks.specs.Marks.{is_at}
 use Rattle.marks.specs.Filters.{validate, orientation, wrong}
 use Rattle.marks.specs.Byte.{with_mark, marked_by}
 use Rattle.step.specs.Step.{scale_at}
-use Rattle.lines.specs.Flags.{LineRule, is_flagged, flag_count, flags_at, line_number}
+use Rattle.lines.specs.Flags.{LineRule, is_flagged, flag_count, flags_at}
 use Rattle.local_h.specs.Residual.{residual_at}
 use Rattle.residuals.specs.ByIndex.{over_at, index_flags}
-use Rattle.blame.specs.Marks.{Evidence, rule1, rule2, rule3, rule4, is_visited, blamed, is_marked}
+use Rattle.blame.specs.Marks.{Evidence, rule1, rule2, rule3, rule4, is_visited, blamed, blames, is_marked}
 use Rattle.edge_shape.specs.Figures.{no_figures}
 use Rattle.edge_shape.specs.declared.Figures.{Figures}
 use Rattle.validate.specs.Validate.{index_step, scales_of, index_scale, flags_of, residual_flags_of, evidence_of, figures_of, is_reason, has_reason, validate_mark}
@@ -82,11 +83,15 @@ marked-is : (w : View) (e : Evidence) (m : ℕ) → is_marked w e m ≡ rule1 e 
 unfolding is_marked
 marked-is w e m = refl
 
+blames-is : (w : View) (e : Evidence) (k m : ℕ) → blames w e k m ≡ is_visited w e k && is_at (blamed w e.flags k) m
+unfolding blames
+blames-is w e k m = refl
+
 -- where no index has a line flag, and no residual is over the tolerance, rules 1 to 4 mark nothing
 no-rule : (w : View) (e : Evidence) → ((m : ℕ) → e.flags m ≡ 0) → ((m : ℕ) → e.over m ≡ false) → (m : ℕ) → is_marked w e m ≡ false
 no-rule w e f o m =
     marked-is w e m
-    ∙ rw (f m, and-false (e.high m), and-false (e.deviates m), some-no (counts (blamed w e.flags) (is_visited w e) m) w.count (λ k h. rw (o k, and-false (eqb (w.by_idx k) k)) (and-false (eqb (blamed w e.flags k) m))))
+    ∙ rw (f m, and-false (e.high m), and-false (e.deviates m), some-no (λ (k : ℕ). blames w e k m) w.count (λ k h. blames-is w e k m ∙ rw (o k, and-false (eqb (w.by_idx k) k))))
 
 seven-plain : T (plain seven)
 unfolding of_bits
@@ -114,7 +119,7 @@ module _ (s : Settings) (w : View) (cell : ℕ → Cell) (p : Plain s) (r : Row 
 
   no-flags : (m : ℕ) → get_or (flags_of s w) m 0 ≡ 0
   unfolding flags_of
-  no-flags = zeros w.count (flags_at w (index_scale s w) s.line_tol_rel s.line_min_members) (λ k h. rw (none (line_number w true) k, none (line_number w false) k))
+  no-flags = zeros w.count (flags_at w (index_scale s w) s.line_tol_rel s.line_min_members) (λ k h. rw (none w.row k, none w.column k))
     where
       rule : LineRule
       rule = record { x = w.x; y = w.y; scale = index_scale s w; tolerance = s.line_tol_rel }

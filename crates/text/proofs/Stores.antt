@@ -10,14 +10,15 @@ use native.Mathlib.Omega.{arith}
 use borrow.Author.Tests.{lt-ltb, le-ltb, lt-leb, leb-true}
 use lib.Dec.{leb}
 use lib.ListN.{length, take, drop, set, length-append, length-set}
-use lib.Seq.{set_out}
+use lib.Seq.{set_out, take-append_seam}
 use Rattle.folds.proofs.Below.{fold-none, fold_more, fold-ext}
 use Rattle.text.specs.Text.{bytes, each, spaces, right_aligned, refusal_of}
 use Rattle.text.specs.Stored.{next_place, place_after, laid, Stored}
 use Rattle.text.proofs.Numbers.{below_or_not, decimal-length}
-use Rattle.text.specs.declared.Written.{Written}
-use Rattle.text.specs.declared.Written.TheVariants.{Whole, NoRoom}
-use Rattle.text.specs.Answer.{written_of, Shows}
+use Rattle.text.specs.declared.NoRoom.{NoRoom}
+use Rattle.text.specs.declared.Writer.{Writer}
+use Rattle.std.proofs.Common.{Result, Ok, Err, MutBor, le-leb, take_all}
+use Rattle.text.specs.Answer.{no_room, written_of, Shows}
 
 length-laid : (l : List ℕ) (at : ℕ) (t : List ℕ) → length (laid l at t) ≡ length l
 length-laid l at [] = refl
@@ -33,20 +34,21 @@ place-then : (size at : ℕ) (s t : List ℕ) → place_after size (place_after 
 place-then size at [] t = refl
 place-then size at (c ∷ s) t = place-then size (next_place size at) s t
 
-pub stored-length : {l : List ℕ} {at : ℕ} {t m : List ℕ} {e : ℕ} → Stored l at t m e → length m ≡ length l
-stored-length {l} {at} {t} p = ap length p.buffer ∙ length-laid l at t
+pub stored-length : {w v : Writer} {t : List ℕ} → Stored w t v → length v.out.now ≡ length w.out.now
+stored-length {w} {v} {t} p = ap length p.buffer ∙ length-laid w.out.now w.at t
 
-module _ {l : List ℕ} {at : ℕ} where
+module _ {w : Writer} where
   -- nothing is stored
-  pub stored-none : Stored l at [] l at
-  stored-none = record { buffer = refl; place = refl }
+  pub stored-none : Stored w [] w
+  stored-none = record { buffer = refl; place = refl; same = refl }
 
   -- a text, and another after it
-  pub stored-then : {s t m o : List ℕ} {e f : ℕ} → Stored l at s m e → Stored m e t o f → Stored l at (s ++ t) o f
-  stored-then {s} {t} {m} {o} {e} {f} p q =
+  pub stored-then : {v u : Writer} {s t : List ℕ} → Stored w s v → Stored v t u → Stored w (s ++ t) u
+  stored-then {v} {u} {s} {t} p q =
       record {
-        buffer = q.buffer ∙ rw (p.buffer, p.place) (laid_then l at s t);
-        place = q.place ∙ rw (stored-length p, p.place) (place-then (length l) at s t);
+        buffer = q.buffer ∙ rw (p.buffer, p.place) (laid_then w.out.now w.at s t);
+        place = q.place ∙ rw (stored-length p, p.place) (place-then (length w.out.now) w.at s t);
+        same = q.same ∙ p.same;
       }
 
 pub each_none : (f : ℕ → List ℕ) → each f 0 ≡ []
@@ -61,12 +63,12 @@ pub each-ext : (f g : ℕ → List ℕ) (n : ℕ) → ((k : ℕ) → k < n → f
 unfolding each
 each-ext f g n h = fold-ext (λ k t. t ++ f k) (λ k t. t ++ g k) [] n (λ k l b. ap (λ (t : List ℕ). b ++ t) (h k l))
 
-module _ (f : ℕ → List ℕ) {l : List ℕ} {at : ℕ} where
-  pub stored-start : Stored l at (each f 0) l at
+module _ (f : ℕ → List ℕ) {w : Writer} where
+  pub stored-start : Stored w (each f 0) w
   stored-start = rw (each_none f) stored-none
 
   -- one turn more of a loop
-  pub stored_more : {k e g : ℕ} {m o : List ℕ} → Stored l at (each f k) m e → Stored m e (f k) o g → Stored l at (each f (k + 1)) o g
+  pub stored_more : {k : ℕ} {v u : Writer} → Stored w (each f k) v → Stored v (f k) u → Stored w (each f (k + 1)) u
   stored_more {k} p q = rw (each_more f k) (stored-then p q)
 
 -- ---- the whole text
@@ -108,21 +110,32 @@ same_answer size t = elim (dec_le (length t) size) [
   | no h ↦ rw (place-beyond size 0 t (omega arith) (omega arith), lt-leb (size + 1) size (omega arith), lt-leb (length t) size (omega arith))
 ]
 
--- a text from the buffer's start on
-pub shows : {l t m : List ℕ} {e : ℕ} {r : Written} → Stored l 0 t m e → r ≡ written_of e (length m) → Shows t l m r
-shows {l} {t} {m} {e} {r} p q =
+-- what a writer of a lent buffer stored from its start on; `after` is what the lender has then
+pub shows : {w v : Writer} {lent : MutBor (List ℕ)} {t after : List ℕ} {r : Result ℕ NoRoom}
+    → w ≡ record { out = lent; at = 0 } → Stored w t v → r ≡ written_of v.at (length v.out.now)
+    → (lent.ghost_name ≡ v.out.ghost_name → after ≡ v.out.now) → Shows t lent.now after r
+shows {w} {v} {lent} {t} {after} {r} e p q back =
+    let p' : Stored (record { out = lent; at = 0 }) t v = rw e at p in
     record {
-      buffer = p.buffer ∙ laid-whole l t;
-      answer = q ∙ rw (stored-length p, p.place) (same_answer (length l) t);
+      buffer = back (sym p'.same) ∙ p'.buffer ∙ laid-whole lent.now t;
+      answer = q ∙ rw (stored-length p', p'.place) (same_answer (length lent.now) t);
     }
 
 -- a text that is written whole ends within the buffer
-pub shown-within : {t before after : List ℕ} {r : Written} {n : ℕ} → Shows t before after r → r ≡ Whole n → n ≤ length before
+pub shown-within : {t before after : List ℕ} {r : Result ℕ NoRoom} {n : ℕ} → Shows t before after r → r ≡ Ok n → n ≤ length before
 shown-within {t} {before} {after} {r} {n} h e = go (leb (length t) (length before)) refl (sym h.answer ∙ e)
   where
-    go : (b : Bool) → leb (length t) (length before) ≡ b → cond b (Whole (length t)) NoRoom ≡ Whole n → n ≤ length before
+    go : (b : Bool) → leb (length t) (length before) ≡ b → cond b (Ok (length t)) (Err no_room) ≡ Ok n → n ≤ length before
     go true l q = let z : length t ≡ n = cc in omega (arith, leb-true (length t) (length before) l)
     go false l q = absurd (let z : ◌≡◌ {A = ℕ} 0 1 = cc in omega arith)
+
+-- a text for which there is room is written whole, and stands before its end
+module _ {t before after : List ℕ} {r : Result ℕ NoRoom} (h : Shows t before after r) (room : length t ≤ length before) where
+  pub shown-whole : r ≡ Ok (length t)
+  shown-whole = h.answer ∙ rw (le-leb (length t) (length before) room)
+
+  pub shown-first : take (length t) after ≡ t
+  shown-first = rw (h.buffer, take_all (length before) t room) (take-append_seam t (drop (length t) before))
 
 -- ---- how long a text is
 

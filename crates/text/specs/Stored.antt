@@ -1,5 +1,6 @@
--- What a piece of the listing leaves in the buffer. Assumes nothing.
+-- What a piece of a text leaves in the buffer. Assumes nothing.
 use Rattle.std.specs.Prelude.{◌≡◌, cond, List, [], ◌∷◌, ℕ, ◌+◌, ltb, length, set}
+use Rattle.text.specs.declared.Writer.{Writer}
 
 -- the place after one byte at `at`, in a buffer of this size; size + 1 says that a byte was left out
 abbrev pub next_place : ℕ → ℕ → ℕ
@@ -15,6 +16,8 @@ abbrev pub laid : List ℕ → ℕ → List ℕ → List ℕ
 laid l at [] = l
 laid l at (c ∷ t) = laid (set l at c) (next_place (length l) at) t
 
-pub record Stored (before : List ℕ) (at : ℕ) (t after : List ℕ) (next : ℕ) : Type 0 where
-  pub buffer : after ≡ laid before at t
-  pub place : next ≡ place_after (length before) at t
+-- the text t is stored in the same buffer, from the writer's place on
+pub record Stored (before : Writer) (t : List ℕ) (after : Writer) : Type 0 where
+  pub buffer : after.out.now ≡ laid before.out.now before.at t
+  pub place : after.at ≡ place_after (length before.out.now) before.at t
+  pub same : after.out.ghost_name ≡ before.out.ghost_name

@@ -1,15 +1,14 @@
 -- The validate mark, residuals and edge figures of a sheet, from its settings s, its view w and the cells of its ranks: document 01,
 -- "Validate marks". The two switches occur in none of it. Assumes nothing.
-use Rattle.std.specs.Prelude.{Bool, true, false, not, ◌||◌, List, ℕ, eqb, get_or, Float}
+use Rattle.std.specs.Prelude.{Bool, true, false, ◌||◌, Option, None, Some, List, ℕ, get_or, Float}
 use Rattle.std.specs.Float.{nan}
 use Rattle.folds.specs.Column.{column}
 use Rattle.folds.specs.Marked.{bit}
 use Rattle.offsets.specs.Offsets.{square_sides, places}
 use Rattle.view.specs.View.{View, max_points}
 use Rattle.cells.specs.Cell.{Cell}
+use Rattle.sheet_file.specs.declared.EdgeShapeParams.{EdgeShapeParams}
 use Rattle.sheet_file.specs.declared.Settings.{Settings}
-use Rattle.sheet_file.specs.declared.EdgeGate.{EdgeGate}
-use Rattle.sheet_file.specs.declared.EdgeGate.TheVariants.{Off, On}
 use Rattle.step.specs.Step.{step_at, scale_at}
 use Rattle.step.specs.Deviation.{deviates}
 use Rattle.lines.specs.Flags.{flags_at}
@@ -17,28 +16,29 @@ use Rattle.local_h.specs.Residual.{residual_at}
 use Rattle.residuals.specs.ByIndex.{index_flags}
 use Rattle.residuals.specs.declared.Flags.{Flags}
 use Rattle.blame.specs.Marks.{Evidence, evidence_by, is_marked}
-use Rattle.edge_shape.specs.Figures.{no_figures, index_figures, reason_number}
+use Rattle.edge_shape.specs.Figures.{no_figures, index_figures}
 use Rattle.edge_shape.specs.declared.Figures.{Figures}
 use Rattle.edge_shape.specs.declared.Reason.{Reason}
 use Rattle.patches.specs.Boxes.{boundary_of}
 
 -- the edge figures of each rank's index. "Absent means no edge-shape gate."
-abbrev pub gate_figures : EdgeGate → View → List Figures
-gate_figures Off w = column max_points no_figures w.count (λ (k : ℕ). no_figures)
-gate_figures (On g) w = index_figures g w
+abbrev pub gate_figures : Option EdgeShapeParams → View → List Figures
+gate_figures None w = column max_points no_figures w.count (λ (k : ℕ). no_figures)
+gate_figures (Some g) w = index_figures g w
 
 -- whether each rank's index lies on the boundary of the box of its patch of all cells
-abbrev pub gate_boundary : EdgeGate → View → (ℕ → Cell) → List ℕ
-gate_boundary Off w cell = column max_points 0 w.count (λ (k : ℕ). 0)
-gate_boundary (On g) w cell = boundary_of w (places square_sides) cell
+abbrev pub gate_boundary : Option EdgeShapeParams → View → (ℕ → Cell) → List ℕ
+gate_boundary None w cell = column max_points 0 w.count (λ (k : ℕ). 0)
+gate_boundary (Some g) w cell = boundary_of w (places square_sides) cell
 
-abbrev pub is_gated : EdgeGate → Bool
-is_gated Off = false
-is_gated (On g) = true
+abbrev pub is_gated : Option EdgeShapeParams → Bool
+is_gated None = false
+is_gated (Some g) = true
 
 -- "(5) an edge reason"
-abbrev pub is_reason : Reason → Bool
-is_reason reason = not (eqb (reason_number reason) 0)
+abbrev pub is_reason : Option Reason → Bool
+is_reason None = false
+is_reason (Some reason) = true
 
 -- by index: that of rank k's index
 abbrev pub has_reason : List Figures → ℕ → Bool

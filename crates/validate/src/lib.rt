@@ -1,137 +1,98 @@
 // The validate mark of each index, its residual and its edge figures: rules 1 to 5 over lines, residuals, steps and edge shapes.
 #![tactic(auto)]
 
-ghost use Rattle.std.specs.Prelude.{◌≡◌, ◌||◌, List, ℕ, ◌≤◌, eqb, Float};
+ghost use Rattle.std.specs.Prelude.{◌≡◌, ◌||◌, ℕ, ◌≤◌, get_or};
 ghost use Rattle.folds.specs.Column.{column};
 ghost use Rattle.folds.specs.Marked.{bit};
 ghost use Rattle.marks.specs.Marks.{is_set};
-ghost use Rattle.view.specs.View.{view_at, max_points, Ranked};
+ghost use Rattle.view.specs.View.{max_points};
+ghost use Rattle.view.specs.Seen.{view_in};
 ghost use Rattle.cells.specs.Cell.{cells_at};
-ghost use Rattle.edge_shape.specs.Given.{WithEdges};
 ghost use Rattle.patches.specs.Boxes.{CellKeys};
-ghost use Rattle.judged.specs.Columns.{Blank, reason_from, figures_in};
+ghost use Rattle.edge_shape.specs.Figures.{no_figures};
+ghost use Rattle.judged.specs.Judged.{blank_figures};
 ghost use Rattle.blame.specs.Marks.{blame_marks};
 ghost use Rattle.residuals.specs.ByIndex.{residuals_of};
 ghost use Rattle.validate.specs.Validate.{evidence_of, is_reason, gate_figures, gate_boundary};
 ghost use Rattle.validate.specs.Parts.{Prepared, validated_of};
 
-use edge_shape::Reason;
-use edges::Edges;
+use blame::Evidence;
+use edges::EdgeTable;
 use judged::Measured;
-use judged::figures::{FigureCounts, FigureMeasures};
+use judged::figures::FigureColumn;
 use local_h::ResidualColumn;
-use sheet_file::{EdgeGate, Settings};
-use view::{Floats, MAX_POINTS, Marks, Ranks, Words};
+use sheet_file::{EdgeShapeParams, Settings};
+use view::{MAX_POINTS, Marks, View, Words};
 
 // Rules 1 to 4: the mark of each rank's index, and its residual, in the place of what stood in the column.
-fn by_rules(
-    s: Settings,
-    ranks: &Ranks,
-    keys: &Words,
-    x: &Floats,
-    y: &Floats,
-    n: usize,
-    residuals: &mut ResidualColumn,
-) -> Marks
-    requires { Ranked n ranks.now }
-    ensures marks { result ≡ blame_marks (view_at n ranks.now x.now y.now) (evidence_of s (view_at n ranks.now x.now y.now) (cells_at keys.now)) }
-    ensures residuals { residuals.new ≡ residuals_of (view_at n ranks.now x.now y.now) (cells_at keys.now) }
+#[inline(never)]
+fn by_rules(s: Settings, view: &View, keys: &Words, residuals: &mut ResidualColumn) -> Marks
+    ensures marks { result ≡ blame_marks (view_in view.now) (evidence_of s (view_in view.now) (cells_at keys.now)) }
+    ensures residuals { residuals.new ≡ residuals_of (view_in view.now) (cells_at keys.now) }
 {
-    let steps = step::steps(ranks, x, y, n, s.use_step_aware);
-    let scales = step::scales(ranks, &steps, n, s.cell_size);
-    let flags = lines::line_flags(ranks, x, y, &scales, n, s.line_tol_rel, s.line_min_members);
-    let tolerance = s.local_h_tol_rel;
-    let r = residuals::index_residuals(ranks, keys, x, y, &scales, n, tolerance, residuals);
-    let over = r.over;
-    let high = r.high;
-    let deviates = step::deviations(&steps, n, s.step_deviation_thresh_rel);
-    blame::marks(ranks, &flags, &over, &high, &deviates, n)
+    let steps = step::steps(&view.lattice, view.x, view.y, s.use_step_aware);
+    let scales = step::scales(view, &steps, s.cell_size);
+    let flags = lines::line_flags(view, &scales, s.line_tol_rel, s.line_min_members);
+    let r = residuals::index_residuals(view, keys, &scales, s.local_h_tol_rel, residuals);
+    let deviates = step::deviations(&steps, view.lattice.count, s.step_deviation_thresh_rel);
+    let evidence = Evidence {
+        flags: &flags,
+        over: &r.over,
+        high: &r.high,
+        deviates: &deviates,
+    };
+    blame::marks(view, &evidence)
 }
 
-// The edge figures of each rank's index, into empty tables; none without a gate.
-pub fn edge_figures(
-    gate: EdgeGate,
-    ranks: &Ranks,
-    x: &Floats,
-    y: &Floats,
-    edges: &Edges,
-    n: usize,
-    counts: &mut FigureCounts,
-    measures: &mut FigureMeasures,
-)
-    requires { WithEdges n ranks.now x.now y.now edges.now × Blank counts.old measures.old }
-    ensures { figures_in counts.new measures.new ≡ gate_figures gate (view_at n ranks.now x.now y.now) }
+// The edge figures of each rank's index, into an empty array; none without a gate.
+#[inline(never)]
+pub fn edge_figures(gate: Option<EdgeShapeParams>, edges: &EdgeTable, figures: &mut FigureColumn)
+    requires { figures.old ≡ blank_figures }
+    ensures { figures.new ≡ gate_figures gate (view_in edges.now.view) }
 {
-    match gate {
-        EdgeGate::Off => {}
-        EdgeGate::On(g) => {
-            judged::figures::evaluate_edge_shape(g, ranks, x, y, edges, n, counts, measures);
-        }
+    if let Some(g) = gate {
+        judged::figures::evaluate_edge_shape(g, edges, figures);
     }
 }
 
 // 1 where each rank's index lies on the boundary of its patch's box; nowhere without a gate.
-fn boundary_by(gate: EdgeGate, ranks: &Ranks, keys: &Words, n: usize) -> Marks
-    requires { Ranked n ranks.now × CellKeys n keys.now }
-    ensures { (xs ys : List Float) → result ≡ gate_boundary gate (view_at n ranks.now xs ys) (cells_at keys.now) }
+fn boundary_by(gate: Option<EdgeShapeParams>, view: &View, keys: &Words) -> Marks
+    requires { CellKeys view.now.lattice.count keys.now }
+    ensures { result ≡ gate_boundary gate (view_in view.now) (cells_at keys.now) }
 {
     match gate {
-        EdgeGate::Off => [0; MAX_POINTS],
-        EdgeGate::On(g) => {
-            let sides = patches::square_sides();
-            patches::boxes::boundary(ranks, keys, &sides, n)
-        }
-    }
-}
-
-// The mark of an index by rules 1 to 4, or by its reason.
-fn mark_with(marked: u8, reason: Reason) -> u8
-    ensures { result ≡ bit (eqb marked 1 || is_reason reason) }
-{
-    if marked == 1 {
-        return 1;
-    }
-    if edge_shape::reason_number(reason) == 0 {
-        0
-    } else {
-        1
+        None => [0; MAX_POINTS],
+        Some(_) => patches::boxes::boundary(view, keys, &patches::square_sides()),
     }
 }
 
 // Rule 5, beside the others.
-fn with_reasons(mark: &Marks, counts: &FigureCounts, n: usize) -> Marks
+fn with_reasons(mark: &Marks, figures: &FigureColumn, n: usize) -> Marks
     requires { n ≤ max_points }
-    ensures { result ≡ column max_points 0 n (λ (k : ℕ). bit (is_set mark.now k || is_reason (reason_from counts.now k))) }
+    ensures { result ≡ column max_points 0 n (λ (k : ℕ). bit (is_set mark.now k || is_reason (get_or figures.now k no_figures).reason)) }
 {
-    let mut out = [0u8; MAX_POINTS];
-    let mut k: usize = 0;
-    while k < n {
-        out[k] = mark_with(mark[k], judged::figures::reason_from(counts, k));
-        k += 1;
-    }
-    out
+    view::filled(0, n, |k| {
+        u8::from(mark[k] == 1 || figures[k].reason.is_some())
+    })
 }
 
 // For each rank the validate mark of its index, which is 0 or 1, and the residual, in the place of what stood in the column: a judged sheet
-// as far as it goes by these. The table of counts has the edge reasons.
+// as far as it goes by these. The figures have the edge reasons.
+#[inline(never)]
 pub fn validate(
     s: Settings,
-    ranks: &Ranks,
+    view: &View,
     keys: &Words,
-    x: &Floats,
-    y: &Floats,
-    n: usize,
-    counts: &FigureCounts,
+    figures: &FigureColumn,
     residuals: &mut ResidualColumn,
 ) -> Measured
-    requires { Prepared s n ranks.now keys.now x.now y.now counts.now }
-    ensures measured { result ≡ validated_of s (view_at n ranks.now x.now y.now) (cells_at keys.now) }
-    ensures residuals { residuals.new ≡ residuals_of (view_at n ranks.now x.now y.now) (cells_at keys.now) }
+    requires { Prepared s (view_in view.now) keys.now figures.now }
+    ensures measured { result ≡ validated_of s (view_in view.now) (cells_at keys.now) }
+    ensures residuals { residuals.new ≡ residuals_of (view_in view.now) (cells_at keys.now) }
 {
-    let gate = s.edge_shape;
-    let ruled = by_rules(s, ranks, keys, x, y, n, residuals);
+    let ruled = by_rules(s, view, keys, residuals);
     Measured {
-        marks: with_reasons(&ruled, counts, n),
-        boundary: boundary_by(gate, ranks, keys, n),
+        marks: with_reasons(&ruled, figures, view.lattice.count),
+        boundary: boundary_by(s.edge_shape, view, keys),
     }
 }

@@ -1,11 +1,16 @@
 // What the filters see of a sheet, as arrays: the most points, the table of ranks and what is read of it. See specs/View.antt.
 #![tactic(auto)]
 
-ghost use Rattle.std.specs.Prelude.{◌≡◌, true, [], ◌+◌, ◌*◌, ◌≤◌, ◌<◌, get_or, ltb};
-ghost use Rattle.view.specs.View.{max_points, ranks_size, rows_at, columns_at, indices_at, view_at, degree_at};
+ghost use Rattle.std.specs.Prelude.{◌≡◌, true, ℕ, ◌+◌, ◌*◌, ◌≤◌, ◌<◌, get_or, ltb, IfSome};
+ghost use Rattle.folds.specs.Column.{column, overlaid};
 ghost use Rattle.folds.specs.Marked.{bit};
-ghost use Rattle.offsets.specs.Offsets.{is_near, place_of};
+ghost use Rattle.offsets.specs.Offsets.{is_near};
+ghost use Rattle.view.specs.View.{max_points, ranks_size, rank_at, degree_at};
+ghost use Rattle.view.specs.Seen.{lattice_in, view_in, below};
 
+mod lattice;
+
+pub use lattice::{Lattice, View};
 use offsets::Offset;
 
 // Every array with an entry for each point has this length.
@@ -44,68 +49,90 @@ pub fn ranks_size() -> usize
     RANKS_SIZE
 }
 
-// A rank or another small number, for use as an index.
-pub fn wide(x: u16) -> usize
-    ensures { result ≡ x }
+// An array with an entry for each point: of the first n what f gives for it, and of those beyond them `rest`.
+pub fn filled<T: Copy, F: Fn(usize) -> T>(rest: T, n: usize, f: F) -> [T; MAX_POINTS]
+    requires few { n ≤ max_points }
+    requires callable { (k : ℕ) → k < n → F.pre f k }
+    ensures { (g : ℕ → T) → ((k : ℕ) (r : T) → k < n → F.post f k r → r ≡ g k) → result ≡ column max_points rest n g }
 {
-    x as usize
+    let mut out = [rest; MAX_POINTS];
+    for k in 0..n {
+        out[k] = f(k);
+    }
+    out
 }
 
-// The rank at place d of the 25 round rank k, or none.
-pub fn rank_at_place(ranks: &Ranks, k: usize, d: usize) -> usize
-    requires { (k < max_points) × (d < 25) }
-    ensures { result ≡ get_or ranks.now (25 * k + d) 0 }
-{
-    wide(ranks[25 * k + d])
+impl Lattice<'_> {
+    // The rank at place d of the 25 round rank k, if there is a point.
+    pub fn at_place(&self, k: usize, d: usize) -> Option<usize>
+        requires { (k < max_points) × (d < 25) }
+        ensures value { result ≡ below self.now.count (get_or self.now.ranks.now (25 * k + d) 0) }
+        ensures inside { IfSome result (λ j. j < self.now.count) }
+    {
+        let j = usize::from(self.ranks[25 * k + d]);
+        if j < self.count { Some(j) } else { None }
+    }
+
+    // The rank at offset o from rank k, if there is a point.
+    pub fn neighbour(&self, k: usize, o: Offset) -> Option<usize>
+        requires { (k < max_points) × (is_near o ≡ true) }
+        ensures value { result ≡ below self.now.count (rank_at (lattice_in self.now) k o) }
+        ensures inside { IfSome result (λ j. j < self.now.count) }
+    {
+        self.at_place(k, offsets::place(o))
+    }
+
+    // The first rank of rank k's row.
+    pub fn row(&self, k: usize) -> usize
+        requires { k < max_points }
+        ensures { result ≡ (lattice_in self.now).row k }
+    {
+        usize::from(self.ranks[ROWS_AT + k])
+    }
+
+    // The first rank of rank k's column.
+    pub fn column(&self, k: usize) -> usize
+        requires { k < max_points }
+        ensures { result ≡ (lattice_in self.now).column k }
+    {
+        usize::from(self.ranks[COLUMNS_AT + k])
+    }
+
+    // The last rank with rank k's index, which is the place of the index.
+    pub fn index(&self, k: usize) -> usize
+        requires { k < max_points }
+        ensures { result ≡ (lattice_in self.now).by_idx k }
+    {
+        usize::from(self.ranks[INDICES_AT + k])
+    }
+
+    // 1 if there is a point at offset o from rank k, else 0.
+    fn there(&self, k: usize, o: Offset) -> u8
+        requires { (k < max_points) × (is_near o ≡ true) }
+        ensures { (result ≡ bit (ltb (rank_at (lattice_in self.now) k o) self.now.count)) × (result ≤ 1) }
+    {
+        u8::from(self.neighbour(k, o).is_some())
+    }
+
+    // How many of the four cells that share an edge with rank k's hold a point.
+    pub fn degree(&self, k: usize) -> u8
+        requires { k < max_points }
+        ensures { result ≡ degree_at (lattice_in self.now) k }
+    {
+        self.there(k, offsets::NEXT_U)
+            + self.there(k, offsets::NEXT_V)
+            + self.there(k, offsets::PREV_U)
+            + self.there(k, offsets::PREV_V)
+    }
 }
 
-// The rank at offset o from rank k, or none.
-pub fn rank_at(ranks: &Ranks, k: usize, o: Offset) -> usize
-    requires { (k < max_points) × (is_near o ≡ true) }
-    ensures { result ≡ get_or ranks.now (25 * k + place_of o) 0 }
-{
-    rank_at_place(ranks, k, offsets::place(o))
-}
-
-// The first rank of rank k's row.
-pub fn row_of(ranks: &Ranks, k: usize) -> usize
-    requires { k < max_points }
-    ensures { result ≡ get_or ranks.now (rows_at + k) 0 }
-{
-    wide(ranks[ROWS_AT + k])
-}
-
-// The first rank of rank k's column.
-pub fn column_of(ranks: &Ranks, k: usize) -> usize
-    requires { k < max_points }
-    ensures { result ≡ get_or ranks.now (columns_at + k) 0 }
-{
-    wide(ranks[COLUMNS_AT + k])
-}
-
-// The last rank with rank k's index, which is the place of the index.
-pub fn index_of(ranks: &Ranks, k: usize) -> usize
-    requires { k < max_points }
-    ensures { result ≡ get_or ranks.now (indices_at + k) 0 }
-{
-    wide(ranks[INDICES_AT + k])
-}
-
-// 1 if there is a point at offset o from rank k, else 0.
-fn there(ranks: &Ranks, n: usize, k: usize, o: Offset) -> u8
-    requires { (k < max_points) × (is_near o ≡ true) }
-    ensures { (result ≡ bit (ltb (get_or ranks.now (25 * k + place_of o) 0) n)) × (result ≤ 1) }
-{
-    if rank_at(ranks, k, o) < n { 1 } else { 0 }
-}
-
-// How many of the four cells that share an edge with rank k's hold a point.
-pub fn degree_at(ranks: &Ranks, n: usize, k: usize) -> u8
-    requires { k < max_points }
-    ensures { result ≡ degree_at (view_at n ranks.now [] []) k }
-{
-    there(ranks, n, k, offsets::NEXT_U)
-        + there(ranks, n, k, offsets::NEXT_V)
-        + there(ranks, n, k, offsets::PREV_U)
-        + there(ranks, n, k, offsets::PREV_V)
+impl View<'_> {
+    // Writes at each rank what is held at the place of its index.
+    pub fn spread<T: Copy>(&self, held: &[T; MAX_POINTS], out: &mut [T; MAX_POINTS])
+        ensures { (d : T) → out.new ≡ overlaid self.now.lattice.count (λ k. get_or held.now ((view_in self.now).by_idx k) d) out.old }
+    {
+        for k in 0..self.lattice.count {
+            out[k] = held[self.lattice.index(k)];
+        }
+    }
 }

@@ -13,12 +13,7 @@ fn print_sheet<R: Print + Eprint>(rt: &R, argument: &[u8]) {
 
 // Whether there is no argument i.
 fn is_missing<R: Env>(rt: &R, i: usize) -> bool {
-    let mut first = [0u8; 1];
-    match rt.arg(i, &mut first) {
-        Err(FillError::NotPresent) => true,
-        Err(FillError::TooLong) => false,
-        Ok(_) => false,
-    }
+    matches!(rt.arg(i, &mut [0u8; 1]), Err(FillError::NotPresent))
 }
 
 // An argument that is longer than the array is no n.
@@ -27,8 +22,7 @@ fn main(rt: HostRuntime) {
         return;
     }
     let mut argument = [0u8; 20];
-    match rt.arg(1, &mut argument) {
-        Ok(size) => print_sheet(&rt, &argument[..size]),
-        Err(_) => {}
+    if let Ok(size) = rt.arg(1, &mut argument) {
+        print_sheet(&rt, &argument[..size]);
     }
 }

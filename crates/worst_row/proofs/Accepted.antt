@@ -1,4 +1,5 @@
 -- The sheet that takes longest is accepted, with its points as they stand in the file. Assumes nothing.
+use Rattle.std.specs.Prelude.{None}
 use mathlib.Core.Path.{◌≡◌, refl, ◌∙◌}
 use mathlib.Core.Bool.{Bool, true, false, cond}
 use mathlib.Core.Logic.{inr}
@@ -24,7 +25,6 @@ use Rattle.cells.proofs.Keys.{range-is}
 use Rattle.sort.proofs.Sorted.{at_all}
 use Rattle.sheet_file.specs.Bytes.{Bytes, le32}
 use Rattle.sheet_file.specs.Refusals.{defaults_for, fraction_in}
-use Rattle.sheet_file.specs.declared.EdgeGate.TheVariants.{Off}
 use Rattle.points.specs.Refusals.{off_range, off_limit, off_strength, same_cell, two_positions, two_strengths, point_refusals, comes_before, cell_order}
 use Rattle.ruling.specs.Ruling.{refused, accepted, ruling_for, ruling_of}
 use Rattle.ruling.proofs.Standing.{Words}
@@ -42,7 +42,7 @@ pub settings-plain : Plain worst_settings
 unfolding defaults_for lt of_bits
 settings-plain = record { cell = refl; ungated = refl; tolerant = refl }
 
-settings-are : defaults_for (f32 (le32 settings_data 0)) Off (fraction_in (f32 (float_bits 2))) ≡ worst_settings
+settings-are : defaults_for (f32 (le32 settings_data 0)) None (fraction_in (f32 (float_bits 2))) ≡ worst_settings
 settings-are = rw (word-there (float_bits 7) [] (bits_small 7), seven_is, bits_inside 2 (omega arith), two_is)
 
 -- ---- one point

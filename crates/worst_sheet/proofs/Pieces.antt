@@ -1,32 +1,16 @@
 -- The fields of the sheet, piece by piece, and how long they are. Assumes nothing.
-use Rattle.std.proofs.Common.{◌≡◌, ℕ, zero, suc, ◌+◌, ◌*◌, ◌/◌, ◌%◌, ◌≤◌, Bool, true, false, cond, leb, List, [], ◌∷◌, ◌++◌, length, take, drop, refl, ap, ◌∙◌, append_assoc, append-nil, add-one, arith, take_all, le-leb}
+use Rattle.std.proofs.Common.{◌≡◌, ℕ, zero, suc, ◌+◌, ◌*◌, ◌/◌, ◌%◌, List, [], ◌∷◌, ◌++◌, length, refl, ap, ◌∙◌, append_assoc, append-nil, add-one, arith}
 use lib.Ieee.{to_bits, of_int}
-use lib.Seq.{take-append_seam}
 use Rattle.folds.specs.Lists.{up_from, list_of}
 use Rattle.text.specs.Text.{each}
 use Rattle.text.specs.Stored.{Stored}
-use Rattle.text.specs.Answer.{written_of, Shows}
-use Rattle.text.specs.declared.Written.TheVariants.{Whole, NoRoom}
-use Rattle.text.proofs.Stores.{shows, stored-length, stored-then, each_none, each_more, each_long}
+use Rattle.text.specs.declared.Writer.{Writer}
+use Rattle.text.proofs.Stores.{stored-then, each_none, each_more, each_long}
 use Rattle.cells.specs.Points.{Point}
 use Rattle.sheet_file.specs.Bytes.{little_endian}
 use Rattle.sheet_file.specs.Grammar.{field}
 use Rattle.written_file.specs.File.{point_bytes, points_bytes, strength_bytes, weights}
 use Rattle.worst_sheet.specs.Worst.{float_bits, strength_at, point_at, worst_points, settings_data, worst_file}
-
--- a text in a buffer that has room for it ends within it, and stands before its end
-pub stored-whole : {l t m : List ℕ} {e : ℕ} → Stored l 0 t m e → length t ≤ length l → (e ≤ length m) × (take e m ≡ t)
-stored-whole {l} {t} {m} {e} p h = (omega (arith, place, stored-length p), rw (place, s.buffer, take_all (length l) t h) (take-append_seam t (drop (length t) l)))
-  where
-    s : Shows t l m (written_of e (length m))
-    s = shows p refl
-
-    go : (b : Bool) → cond b (Whole e) NoRoom ≡ Whole (length t) → e ≡ length t
-    go true q = cc
-    go false q = absurd (let z : ◌≡◌ {A = ℕ} 0 1 = cc in omega arith)
-
-    place : e ≡ length t
-    place = go (leb e (length m)) (s.answer ∙ rw (le-leb (length t) (length l) h))
 
 -- bytes that a function makes of a list of points, from its front on, are those of each point, one after the other
 module _ (all : List Point → List ℕ) (one : Point → List ℕ) (none : all [] ≡ []) (more : (p : Point) (ps : List Point) → all (p ∷ ps) ≡ one p ++ all ps) (f : ℕ → Point) where
@@ -65,5 +49,5 @@ unfolding worst_file
 file-is n = refl
 
 -- a field is stored as its tag and length, and its data after them
-pub stored-field : (body : List ℕ) {l m o : List ℕ} {at e f tag size : ℕ} → length body ≡ size → Stored l at (tag ∷ size % 256 ∷ size / 256 ∷ []) m e → Stored m e body o f → Stored l at (field tag body) o f
+pub stored-field : (body : List ℕ) {w v u : Writer} {tag size : ℕ} → length body ≡ size → Stored w (tag ∷ size % 256 ∷ size / 256 ∷ []) v → Stored v body u → Stored w (field tag body) u
 stored-field body h p q = rw h (stored-then p q)

@@ -1,11 +1,10 @@
 -- A buffer of worst_size bytes has room for every sheet. Assumes nothing.
-use Rattle.std.proofs.Common.{◌≡◌, ℕ, ◌+◌, ◌*◌, ◌≤◌, List, length, take, drop, ap, ◌∙◌, arith, length-append, take_all, le-leb}
+use Rattle.std.proofs.Common.{◌≡◌, ℕ, ◌+◌, ◌*◌, ◌≤◌, List, length, take, Result, Ok, ap, arith, length-append}
 use native.Mathlib.Decide.{dec_lt}
-use lib.Seq.{take-append_seam}
 use Rattle.view.specs.View.{max_points}
 use Rattle.text.specs.Answer.{Shows}
-use Rattle.text.specs.declared.Written.{Written}
-use Rattle.text.specs.declared.Written.TheVariants.{Whole}
+use Rattle.text.specs.declared.NoRoom.{NoRoom}
+use Rattle.text.proofs.Stores.{shown-whole, shown-first}
 use Rattle.written_file.specs.File.{points_bytes, weights}
 use Rattle.worst_sheet.specs.Worst.{float_bits, worst_points, settings_data, worst_file, asked, worst_of, worst_size}
 use Rattle.worst_sheet.proofs.Asked.{worst-is, worst-none}
@@ -22,10 +21,9 @@ worst-fits argument = elim (dec_lt max_points (asked argument)) [
 ]
 
 -- so write_worst, lent such a buffer, writes the sheet whole
-pub whole : (argument before after : List ℕ) (r : Written) → worst_size ≤ length before → Shows (worst_of argument) before after r → r ≡ Whole (length (worst_of argument))
-whole argument before after r l h = h.answer ∙ rw (le-leb (length (worst_of argument)) (length before) (omega (arith, worst-fits argument)))
+pub whole : (argument before after : List ℕ) (r : Result ℕ NoRoom) → worst_size ≤ length before → Shows (worst_of argument) before after r → r ≡ Ok (length (worst_of argument))
+whole argument before after r l h = shown-whole h (omega (arith, worst-fits argument))
 
 -- and the first bytes of the buffer are then the sheet
-pub printed : (argument before after : List ℕ) (r : Written) → worst_size ≤ length before → Shows (worst_of argument) before after r → take (length (worst_of argument)) after ≡ worst_of argument
-printed argument before after r l h =
-    rw (h.buffer, take_all (length before) (worst_of argument) (omega (arith, worst-fits argument))) (take-append_seam (worst_of argument) (drop (length (worst_of argument)) before))
+pub printed : (argument before after : List ℕ) (r : Result ℕ NoRoom) → worst_size ≤ length before → Shows (worst_of argument) before after r → take (length (worst_of argument)) after ≡ worst_of argument
+printed argument before after r l h = shown-first h (omega (arith, worst-fits argument))

@@ -1,7 +1,7 @@
 // The sheet of n points that takes longest, as the bytes of its file, into a buffer that the caller lends. What it is stands in specs/Worst.antt.
 #![tactic(auto)]
 
-ghost use Rattle.std.specs.Prelude.{◌≡◌, ℕ, ◌/◌, ◌%◌, ◌<◌, ◌≤◌, [], ◌∷◌};
+ghost use Rattle.std.specs.Prelude.{◌≡◌, ℕ, ◌/◌, ◌%◌, ◌<◌, ◌≤◌, [], ◌∷◌, IfSome};
 ghost use Rattle.folds.specs.Same.{same_list};
 ghost use Rattle.view.specs.View.{max_points};
 ghost use Rattle.text.specs.Answer.{Shows};
@@ -11,9 +11,10 @@ ghost use Rattle.sheet_file.specs.Bytes.{little_endian};
 ghost use Rattle.sheet_file.specs.Grammar.{most_data};
 ghost use Rattle.written_file.specs.File.{point_bytes};
 ghost use Rattle.worst_sheet.specs.Worst.{float_bits, strength_at, point_at, worst_file, asked, worst_of, worst_size};
-ghost use Rattle.worst_sheet.specs.Value.{value_of};
+ghost use Rattle.worst_sheet.specs.Value.{value_of, asked_in};
 
-use text::Written;
+use little_endian::put_u32;
+use text::{NoRoom, Writer};
 use view::MAX_POINTS;
 
 const SETTINGS_SIZE: usize = 4;
@@ -35,24 +36,13 @@ pub fn worst_size() -> usize
 
 // ---- the number that is asked for
 
-// Where no sheet is asked for.
-const NONE: usize = MAX_POINTS + 1;
-
-fn digit_value(c: u8) -> usize
-    ensures { (result ≡ c % 16) × (result < 16) }
-{
-    (c % 16) as usize
-}
-
 // The number that a decimal text spells; of another text some number.
 fn value_of(argument: &[u8]) -> usize
     ensures { result ≡ value_of argument.now }
 {
     let mut value = 0;
-    let mut i = 0;
-    while i < argument.len() {
-        value = (value * 10 + digit_value(argument[i])) % 65536;
-        i += 1;
+    for c in argument {
+        value = (value * 10 + usize::from(*c % 16)) % 65536;
     }
     value
 }
@@ -62,25 +52,26 @@ fn is_decimal(n: usize, argument: &[u8]) -> bool
     ensures { result ≡ same_list (decimal n) argument.now }
 {
     let mut printed = [0u8; 20];
-    let size = text::put_decimal(n, &mut printed, 0);
+    let mut w = Writer::new(&mut printed);
+    w.decimal(n);
+    let Ok(size) = w.answer() else { unreachable!() };
     check::same(&printed[..size], argument)
 }
 
-// The number of points that the argument asks for, or NONE. The one number that it can be is printed and compared.
-fn asked_points(argument: &[u8]) -> usize
-    ensures { result ≡ asked argument.now }
+// The number of points that the argument asks for, if it asks for a sheet. The one number that it can be is printed and compared.
+fn asked_points(argument: &[u8]) -> Option<usize>
+    ensures points { asked_in result ≡ asked argument.now }
+    ensures few { IfSome result (λ n. n ≤ max_points) }
 {
     let n = value_of(argument);
-    if n < 2 {
-        return NONE;
-    }
-    if MAX_POINTS < n {
-        return NONE;
+    if n < 2 || MAX_POINTS < n {
+        return None;
     }
     if is_decimal(n, argument) {
-        return n;
+        Some(n)
+    } else {
+        None
     }
-    NONE
 }
 
 // ---- the bytes of the sheet
@@ -93,39 +84,34 @@ fn float_bits(n: u32) -> u32
 }
 
 // The tag and the length of a field.
-fn put_head(tag: u8, size: usize, out: &mut [u8], at: usize) -> usize
+fn put_head(w: &mut Writer, tag: u8, size: usize)
     requires { size ≤ most_data }
-    ensures { Stored out.old at (tag ∷ size % 256 ∷ size / 256 ∷ []) out.new result }
+    ensures { Stored w.old (tag ∷ size % 256 ∷ size / 256 ∷ []) w.new }
 {
-    let a = text::put_byte(tag, out, at);
-    let b = text::put_byte((size % 256) as u8, out, a);
-    text::put_byte((size / 256) as u8, out, b)
+    w.byte(tag);
+    w.byte((size % 256) as u8);
+    w.byte((size / 256) as u8);
 }
 
-fn put_point(u: usize, out: &mut [u8], at: usize) -> usize
+fn put_point(w: &mut Writer, u: usize)
     requires { u < max_points }
-    ensures { (n : ℕ) → Stored out.old at (point_bytes (point_at n u)) out.new result }
+    ensures { (n : ℕ) → Stored w.old (point_bytes (point_at n u)) w.new }
 {
     let index = u as u32;
-    let a = little_endian::put_u32(index, out, at);
-    let b = little_endian::put_u32(0, out, a);
-    let c = little_endian::put_u32(index, out, b);
-    let d = little_endian::put_u32(float_bits(7 * index), out, c);
-    little_endian::put_u32(float_bits(0), out, d)
+    put_u32(w, index);
+    put_u32(w, 0);
+    put_u32(w, index);
+    put_u32(w, float_bits(7 * index));
+    put_u32(w, float_bits(0));
 }
 
-fn put_points(n: usize, out: &mut [u8], at: usize) -> usize
+fn put_points(w: &mut Writer, n: usize)
     requires { n ≤ max_points }
-    ensures { Stored out.old at (each (λ u. point_bytes (point_at n u)) n) out.new result }
+    ensures { Stored w.old (each (λ u. point_bytes (point_at n u)) n) w.new }
 {
-    let mut to = at;
-    let mut u = 0;
-    while u < n {
-        let next = put_point(u, out, to);
-        to = next;
-        u += 1;
+    for u in 0..n {
+        put_point(w, u);
     }
-    to
 }
 
 // The strength of point u of n: 2 for the last, else 1.
@@ -139,40 +125,34 @@ fn strength(n: usize, u: usize) -> u32
     float_bits(1)
 }
 
-fn put_strengths(n: usize, out: &mut [u8], at: usize) -> usize
-    ensures { Stored out.old at (each (λ u. little_endian (strength_at n u)) n) out.new result }
+fn put_strengths(w: &mut Writer, n: usize)
+    ensures { Stored w.old (each (λ u. little_endian (strength_at n u)) n) w.new }
 {
-    let mut to = at;
-    let mut u = 0;
-    while u < n {
-        let next = little_endian::put_u32(strength(n, u), out, to);
-        to = next;
-        u += 1;
+    for u in 0..n {
+        put_u32(w, strength(n, u));
     }
-    to
 }
 
-fn put_sheet(n: usize, out: &mut [u8]) -> usize
+fn put_sheet(w: &mut Writer, n: usize)
     requires { n ≤ max_points }
-    ensures { Stored out.old 0 (worst_file n) out.new result }
+    ensures { Stored w.old (worst_file n) w.new }
 {
-    let a = put_head(1, SETTINGS_SIZE, out, 0);
-    let b = text::put_text(&SETTINGS, out, a);
-    let c = put_head(3, 20 * n, out, b);
-    let d = put_points(n, out, c);
-    let e = put_head(4, 4 + 4 * n, out, d);
-    let f = little_endian::put_u32(float_bits(2), out, e);
-    put_strengths(n, out, f)
+    put_head(w, 1, SETTINGS_SIZE);
+    w.text(&SETTINGS);
+    put_head(w, 3, 20 * n);
+    put_points(w, n);
+    put_head(w, 4, 4 + 4 * n);
+    put_u32(w, float_bits(2));
+    put_strengths(w, n);
 }
 
 // Writes the sheet that `argument` asks for to the start of `out`, or nothing.
-pub fn write_worst(argument: &[u8], out: &mut [u8]) -> Written
+pub fn write_worst(argument: &[u8], out: &mut [u8]) -> Result<usize, NoRoom>
     ensures { Shows (worst_of argument.now) out.old out.new result }
 {
-    let n = asked_points(argument);
-    if n <= MAX_POINTS {
-        let next = put_sheet(n, out);
-        return text::answer(next, out.len());
+    let mut w = Writer::new(out);
+    if let Some(n) = asked_points(argument) {
+        put_sheet(&mut w, n);
     }
-    text::answer(0, out.len())
+    w.answer()
 }

@@ -1,4 +1,5 @@
 -- Where the fields of a written file are found: where they were put. Assumes nothing.
+use Rattle.std.specs.Prelude.{Some, is_some}
 use mathlib.Core.Path.{◌≡◌, refl, ap, ◌∙◌}
 use mathlib.Core.Bool.{Bool, true, false}
 use mathlib.Core.Logic.{◌⊎◌, inl, inr}
@@ -10,11 +11,10 @@ use lib.ListN.{length, length-append}
 use lib.Seq.{get_or-append-add}
 use Rattle.cells.specs.Points.{Point}
 use Rattle.sheet_file.specs.Bytes.{byte_at, le16, little_endian}
-use Rattle.sheet_file.specs.Frame.{framing_of, layout_of}
+use Rattle.sheet_file.specs.Frame.{framing_of, layout_of, weights_of}
 use Rattle.sheet_file.specs.Grammar.{field, absent, present, WellFramed}
 use Rattle.sheet_file.specs.declared.Layout.{Layout}
-use Rattle.sheet_file.specs.declared.Framing.TheVariants.{Framed}
-use Rattle.sheet_file.proofs.Fields.{is_framed, field_in, StrengthsAt, strengths-there, strengths-absent, GateAt, gate-there, gate-absent, Fields, full-settings, short-settings, fields-of, PointsAt, points-in}
+use Rattle.sheet_file.proofs.Fields.{weights-there, is_framed, field_in, StrengthsAt, strengths-there, strengths-absent, GateAt, gate-there, gate-absent, Fields, full-settings, short-settings, fields-of, PointsAt, points-in}
 use Rattle.sheet_file.proofs.Grammar.{well-framed, points-counted}
 use Rattle.written_file.specs.File.{points_bytes, strength_bytes, weights, weighed_file}
 use Rattle.written_file.proofs.Parts.{records-length, strengths-length}
@@ -30,15 +30,13 @@ layout_for settings ps = record {
   gated = false;
   points = length settings + 6;
   count = length ps;
-  weighed = true;
-  strengths = length settings + 6 + 20 * length ps + 3;
-  strengths_len = 4 + 4 * length ps;
+  weights = Some (record { at = length settings + 6 + 20 * length ps + 3; len = 4 + 4 * length ps });
 }
 
-same_layout : (f : Layout) {full gated weighed : Bool} {points count strengths n : ℕ} → f.full ≡ full → f.gated ≡ gated → f.points ≡ points → f.count ≡ count → f.weighed ≡ weighed
-    → f.strengths ≡ strengths → f.strengths_len ≡ n
-    → f ≡ record { full = full; gated = gated; points = points; count = count; weighed = weighed; strengths = strengths; strengths_len = n }
-same_layout f a b c d e g h = rw (← a, ← b, ← c, ← d, ← e, ← g, ← h)
+same_layout : (f : Layout) {full gated : Bool} {points count at n : ℕ} → f.full ≡ full → f.gated ≡ gated → f.points ≡ points → f.count ≡ count → is_some f.weights ≡ true
+    → (weights_of f).at ≡ at → (weights_of f).len ≡ n
+    → f ≡ record { full = full; gated = gated; points = points; count = count; weights = Some (record { at = at; len = n }) }
+same_layout f a b c d e g h = rw (← a, ← b, ← c, ← d, ← g, ← h, ← weights-there f e)
 
 module _ (settings : List ℕ) (fraction : ℕ) (ps : List Point) where
   abbrev file : List ℕ
@@ -87,7 +85,7 @@ module _ (settings : List ℕ) (fraction : ℕ) (ps : List Point) where
     third-field n m (inr e) (short-settings u t g) = rw e (next-points 7 false (omega arith) g)
 
     fourth-field : {at : ℕ} → at ≡ length settings + 6 + 20 * length ps → StrengthsAt file f at
-        → (f.weighed ≡ true) × (f.strengths ≡ length settings + 6 + 20 * length ps + 3) × (f.strengths_len ≡ 4 + 4 * length ps)
+        → (is_some f.weights ≡ true) × ((weights_of f).at ≡ length settings + 6 + 20 * length ps + 3) × ((weights_of f).len ≡ 4 + 4 * length ps)
     fourth-field e (strengths-there t u s l) = (u, omega arith, omega (arith, file-length))
     fourth-field e (strengths-absent u l) = absurd (omega (arith, file-length))
 
@@ -98,5 +96,5 @@ module _ (settings : List ℕ) (fraction : ℕ) (ps : List Point) where
         let w = fourth-field (omega arith) p.after in
         same_layout f p.full_is p.gated-is (p.points-at ∙ omega arith) n w.0 w.1 w.2
 
-    pub framed : framing_of file ≡ Framed (layout_for settings ps)
-    framed = is_framed file (well-framed file written-well) ∙ ap Framed layout_is
+    pub framed : framing_of file ≡ Some (layout_for settings ps)
+    framed = is_framed file (well-framed file written-well) ∙ ap Some layout_is

@@ -1,4 +1,5 @@
 -- What is read of a written file: the points and the settings that were written, and no refusal of its header. Assumes nothing.
+use Rattle.std.specs.Prelude.{None, Some}
 use mathlib.Core.Path.{◌≡◌, refl, sym, ap, ◌∙◌}
 use mathlib.Core.Bool.{false, cond}
 use mathlib.Core.Logic.{inl, inr}
@@ -16,13 +17,12 @@ use Rattle.folds.proofs.Lists.{is-list}
 use Rattle.view.specs.View.{max_points}
 use Rattle.refusals.proofs.Laws.{holds, first-given, none_passes}
 use Rattle.cells.specs.Points.{Point, nowhere}
+use Rattle.sheet_file.specs.Frame.{weights_of}
 use Rattle.sheet_file.specs.Bytes.{Bytes, byte_at, le16, le32, little_endian}
 use Rattle.sheet_file.specs.Grammar.{field}
 use Rattle.sheet_file.specs.Limit.{outside}
 use Rattle.sheet_file.specs.Refusals.{float_at, defaults_for, settings_in, edge_shape_of, fraction_in, fraction_of, settings_of, bad_flag, bad_float, header_refusals}
-use Rattle.sheet_file.specs.declared.EdgeGate.TheVariants.{Off}
 use Rattle.sheet_file.specs.declared.Fraction.{Fraction}
-use Rattle.sheet_file.specs.declared.Framing.TheVariants.{Framed}
 use Rattle.sheet_file.specs.declared.Layout.{Layout}
 use Rattle.sheet_file.specs.declared.Settings.{Settings}
 use Rattle.sheet_file.proofs.Words.{bytes-join, le16-same, le32-same}
@@ -46,7 +46,7 @@ head_of tag body = tag ∷ length body % 256 ∷ length body / 256 ∷ []
 -- the settings in the data of tag 1, with this fraction and without tag 2
 abbrev pub settings_for : List ℕ → ℕ → Settings
 settings_for settings fraction =
-    cond (eqb (length settings) 21) (settings_in (field 1 settings) Off (fraction_in (f32 fraction))) (defaults_for (float_at (field 1 settings) 3) Off (fraction_in (f32 fraction)))
+    cond (eqb (length settings) 21) (settings_in (field 1 settings) None (fraction_in (f32 fraction))) (defaults_for (float_at (field 1 settings) 3) None (fraction_in (f32 fraction)))
 
 module _ (settings : List ℕ) (fraction : ℕ) (ps : List Point) where
   abbrev file : List ℕ
@@ -62,16 +62,16 @@ module _ (settings : List ℕ) (fraction : ℕ) (ps : List Point) where
   -- ---- the points
 
   -- the words of tag 4
-  weight-word : (at k : ℕ) → at ≡ f.strengths + k → le32 file at ≡ le32 (weight_data fraction ps) k
+  weight-word : (at k : ℕ) → at ≡ (weights_of f).at + k → le32 file at ≡ le32 (weight_data fraction ps) k
   weight-word at k e =
       word_after (field 1 settings) rest at (3 + 20 * length ps + 3 + k) (omega arith)
       ∙ word_after (field 3 (points_bytes ps)) (weights fraction ps) (3 + 20 * length ps + 3 + k) (3 + k) (omega (arith, records-length ps))
       ∙ word_after (head_of 4 (weight_data fraction ps)) (weight_data fraction ps) (3 + k) k refl
 
   module _ (words : All Words ps) where
-    strength-read : (i : ℕ) → i < length ps → le32 file (f.strengths + 4 + 4 * i) ≡ (get_or ps i nowhere).strength
+    strength-read : (i : ℕ) → i < length ps → le32 file ((weights_of f).at + 4 + 4 * i) ≡ (get_or ps i nowhere).strength
     strength-read i h =
-        weight-word (f.strengths + 4 + 4 * i) (4 + 4 * i) (omega arith)
+        weight-word ((weights_of f).at + 4 + 4 * i) (4 + 4 * i) (omega arith)
         ∙ word_after (little_endian fraction) (strength_bytes ps) (4 + 4 * i) (4 * i) refl ∙ strengths-there ps words i h
 
     record-read : (i w : ℕ) → i < length ps → point_in file (f.points + 20 * i) w ≡ weighing (get_or ps i nowhere) w
@@ -82,7 +82,7 @@ module _ (settings : List ℕ) (fraction : ℕ) (ps : List Point) where
 
     pub points-back : points_in file f ≡ ps
     unfolding points_in
-    points-back = sym (is-list nowhere (length ps) (ith_point file f) ps refl (λ k h. sym (record-read k (le32 file (f.strengths + 4 + 4 * k)) h ∙ ap (weighing (get_or ps k nowhere)) (strength-read k h))))
+    points-back = sym (is-list nowhere (length ps) (ith_point file f) ps refl (λ k h. sym (record-read k (le32 file ((weights_of f).at + 4 + 4 * k)) h ∙ ap (weighing (get_or ps k nowhere)) (strength-read k h))))
 
     -- the points of the file, as it lists them
     pub points-read : SettingsSize settings → points_of file ≡ ps
@@ -104,7 +104,7 @@ module _ (settings : List ℕ) (fraction : ℕ) (ps : List Point) where
   header-byte k h = get_or-append header rest 0 k (omega arith)
 
   -- of all 21 bytes
-  full-settings : (x : Fraction) → length settings ≡ 21 → settings_in file Off x ≡ settings_in header Off x
+  full-settings : (x : Fraction) → length settings ≡ 21 → settings_in file None x ≡ settings_in header None x
   unfolding settings_in
   full-settings x e =
       rw (
@@ -121,7 +121,7 @@ module _ (settings : List ℕ) (fraction : ℕ) (ps : List Point) where
   module _ (small : fraction < 2 ^ 32) where
     fraction-read : fraction_of file f ≡ fraction_in (f32 fraction)
     unfolding fraction_of
-    fraction-read = rw (weight-word f.strengths 0 (omega arith) ∙ word-there fraction (strength_bytes ps) small)
+    fraction-read = rw (weight-word (weights_of f).at 0 (omega arith) ∙ word-there fraction (strength_bytes ps) small)
 
     pub settings-read : SettingsSize settings → settings_of file f ≡ settings_for settings fraction
     unfolding settings_of edge_shape_of
@@ -141,7 +141,7 @@ module _ (settings : List ℕ) (fraction : ℕ) (ps : List Point) where
   floats-read (inr e) = rw (header-word 3 (omega arith), e)
 
   module _ (room : ℕ) (few : length ps ≤ max_points) (enough : 28 * length ps ≤ room) (size : SettingsSize settings) (flags : bad_flag header f ≡ false) (floats : bad_float header f ≡ false) where
-    header-passes : any_in holds (header_refusals file room (Framed f)) ≡ false
+    header-passes : any_in holds (header_refusals file room (Some f)) ≡ false
     unfolding header_refusals
     header-passes =
         rw (
@@ -158,7 +158,7 @@ module _ (settings : List ℕ) (fraction : ℕ) (ps : List Point) where
     pub ruled-by-points : All Words ps → fraction < 2 ^ 32 → ruling_of file room ≡ ruling_for (settings_for settings fraction) ps
     ruled-by-points words small =
         by-points file room
-        ∙ rw (framed settings fraction ps size, settings-read small size, points-back words) (none_passes refused (ruling_for (settings_for settings fraction) ps) (header_refusals file room (Framed f)) header-passes)
+        ∙ rw (framed settings fraction ps size, settings-read small size, points-back words) (none_passes refused (ruling_for (settings_for settings fraction) ps) (header_refusals file room (Some f)) header-passes)
 
 -- ---- settings of length 4
 
@@ -167,7 +167,7 @@ module _ (settings : List ℕ) (fraction : ℕ) (ps : List Point) (size : length
   cell_size = f32 (le32 settings 0)
 
   abbrev short : Settings
-  short = defaults_for cell_size Off (fraction_in (f32 fraction))
+  short = defaults_for cell_size None (fraction_in (f32 fraction))
 
   first_word : le32 (field 1 settings) 3 ≡ le32 settings 0
   first_word = word_after (head_of 1 settings) settings 3 0 refl
@@ -196,7 +196,7 @@ room-refused settings fraction ps room size few h =
     let f = layout_for settings ps in
     by-points file room
     ∙ rw (framed settings fraction ps size)
-    (first-given refused (ruling_for (settings_of file f) (points_in file f)) (header_refusals file room (Framed f)) 3 (lt-ltb room (28 * length ps) h) (rw (eq-eqb (4 + 4 * length ps) (4 + 4 * length ps) refl, le-ltb max_points (length ps) few)))
+    (first-given refused (ruling_for (settings_of file f) (points_in file f)) (header_refusals file room (Some f)) 3 (lt-ltb room (28 * length ps) h) (rw (eq-eqb (4 + 4 * length ps) (4 + 4 * length ps) refl, le-ltb max_points (length ps) few)))
 
 -- ---- bytes
 

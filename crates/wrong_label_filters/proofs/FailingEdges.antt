@@ -1,13 +1,13 @@
 -- The verdict on an edge from counts, and from arrays that hold the edges. Assumes nothing.
 use mathlib.Core.Path.{◌≡◌, refl, sym, ap, ◌∙◌}
 use mathlib.Core.Bool.{Bool, true, false, cond, not, ◌&&◌, ◌||◌, false≢true}
-use mathlib.Core.List.{List, []}
+use mathlib.Core.List.{List}
 use Prim.Native.Nat.{ℕ, ◌+◌, ◌/◌, ◌≤◌, ◌<◌}
 use Prim.{Dec, yes, no}
 use native.Mathlib.Decide.{dec_lt}
 use native.Mathlib.Omega.{arith}
 use lib.Dec.{T, ltb, leb, eqb}
-use borrow.Author.Tests.{leb-true, ltb-true, lt-ltb, le-ltb, ne_eqb}
+use borrow.Author.Tests.{leb-true, lt-ltb, le-ltb, ne_eqb}
 use lib.ListN.{length, get_or}
 use lib.Ieee.{Float, nan, lt, of_bits}
 use lib.Ieee.Positive.{positive as positive-float}
@@ -27,11 +27,13 @@ use Rattle.median.specs.Packed.{positives}
 use Rattle.offsets.specs.declared.Offset.{Offset}
 use Rattle.offsets.specs.Offsets.{own, is_near, place_of, offset_of}
 use Rattle.offsets.proofs.Places.{offset_near}
-use Rattle.view.specs.View.{View, max_points, view_at, rank_at, present}
-use Rattle.edges.specs.Edges.{StoredEdge, edge_at, stored_at, side, part_of, edges_of, edge_place}
-use Rattle.edges.proofs.Laws.{edge-part}
+use Rattle.view.specs.View.{View, max_points, rank_at, present}
+use Rattle.edges.specs.Edges.{edge_at, stored_at}
+use Rattle.edges.specs.declared.StoredEdge.{StoredEdge}
+use Rattle.offsets.specs.declared.axis.Axis.{Axis}
+use Rattle.offsets.specs.Axes.{forward}
 use Rattle.wrong_label_filters.specs.Judged.{positive_edge, in_window, window_lens, sheet_lens, window_x, window_y, overlong, off_axis, fails, end_of_failing, edge_mark}
-use Rattle.wrong_label_filters.specs.Windows.{table_edge, is_under, window_to, with_edge_at, positive_lens, failing_ends}
+use Rattle.wrong_label_filters.specs.Windows.{edge_along, is_under, window_to, with_edge_at, positive_lens, failing_ends}
 use Rattle.wrong_label_filters.specs.declared.judged_edges.Window.{Window}
 
 cond-ext : (b : Bool) {x x' y y' : Bool} → (b ≡ true → x ≡ x') → y ≡ y' → cond b x y ≡ cond b x' y'
@@ -183,13 +185,6 @@ module _ (w v : View) (E F : ℕ → StoredEdge) (k l : ℕ) (a : Alike w v E F 
   pub local-verdict : leb 5 (length (window_lens v F l)) ≡ true → fails w E k ≡ fails v F l
   local-verdict h = fails-is w E k ∙ rw (same-lens, same-x, same-y, h, a.own-edge) (sym (fails-is v F l ∙ rw h))
 
--- edges that agree below the count have the same verdicts
-same-fails : (w : View) (E F : ℕ → StoredEdge) → ((k : ℕ) → k < w.count → E k ≡ F k) → (k : ℕ) → k < w.count → fails w E k ≡ fails w F k
-same-fails w E F same k l =
-    same-verdict w w E F k k
-    (record { own-edge = same k l; there = λ o h. refl; edges = λ o h p. same (rank_at w k o) (ltb-true (rank_at w k o) w.count p) })
-    (sheet-is w E ∙ listed-ext (positive_edge w E) (positive_edge w F) (λ i. (E i).len) (λ i. (F i).len) w.count (λ i g. rw (same i g)) (λ i g p. ap (λ e. e.len) (same i g)) ∙ sym (sheet-is w F))
-
 -- ---- the marks of a direction
 
 module _ (w : View) (o : Offset) where
@@ -217,10 +212,10 @@ module _ (w : View) (o : Offset) where
   unfolding end_of_failing
   ends_is m = refl
 
-  ends-are : (E : ℕ → StoredEdge) → ((k : ℕ) → k < w.count → E k ≡ stored_at w o k) → (m : ℕ) → some (λ k. failing_ends w o (fails w E) k m) w.count ≡ end_of_failing w (stored_at w o) o m
-  ends-are E same m =
-      some-ext (λ k. failing_ends w o (fails w E) k m) (λ k. (eqb k m || eqb (rank_at w k o) m) && fails w (stored_at w o) k) w.count
-      (λ k l. rw (same-fails w E (stored_at w o) same k l) (turn (present w k o) (fails w (stored_at w o) k) (eqb k m || eqb (rank_at w k o) m) (two-ends k)))
+  ends-are : (m : ℕ) → some (λ k. failing_ends w o (fails w (stored_at w o)) k m) w.count ≡ end_of_failing w (stored_at w o) o m
+  ends-are m =
+      some-ext (λ k. failing_ends w o (fails w (stored_at w o)) k m) (λ k. (eqb k m || eqb (rank_at w k o) m) && fails w (stored_at w o) k) w.count
+      (λ k l. turn (present w k o) (fails w (stored_at w o) k) (eqb k m || eqb (rank_at w k o) m) (two-ends k))
       ∙ sym (ends_is m)
 
   -- nothing from the count on is marked
@@ -231,42 +226,15 @@ module _ (w : View) (o : Offset) where
       go k l (yes y) = rw (ne_eqb k m (λ q. omega (arith, l, q)), ne_eqb (rank_at w k o) m (λ q. omega (arith, y, q)), and-false (t k)) (and-false (present w k o))
       go k l (no y) = rw (le-ltb (rank_at w k o) w.count (omega (arith, y)))
 
--- the table's edges are those of the view
-table_is : (w : View) (way : ℕ) (edges : List Float) → w.count ≤ max_points → way < 2 → edges ≡ edges_of w → (k : ℕ) → k < w.count → table_edge edges way k ≡ stored_at w (side way) k
-table_is w way edges few h e k l = whole (stored_at w (side way) k) (at 0 (omega arith)) (at 1 (omega arith)) (at 2 (omega arith))
-  where
-    at : (part : ℕ) → part < 3 → get_or edges (edge_place way part k) nan ≡ part_of part (stored_at w (side way) k)
-    at part p = rw e (edge-part w few way part k h p l)
+-- ---- the marks that the edges along an axis give
 
-    whole : {a b c : Float} (d : StoredEdge) → a ≡ d.len → b ≡ d.ux → c ≡ d.uy → record { len = a; ux = b; uy = c } ≡ d
-    whole d p q r = rw (p, q, r)
-
--- ---- the marks that a way's edges give
-
-module _ (n : ℕ) (ranks : List ℕ) (way : ℕ) (edges : List Float) where
-  abbrev v : View
-  v = view_at n ranks [] []
-
-  -- the marks, from the table
+module _ (w : View) (axis : Axis) where
   abbrev pub hits : ℕ → ℕ → Bool
-  hits k m = failing_ends v (side way) (fails v (table_edge edges way)) k m
+  hits k m = failing_ends w (forward axis) (fails w (edge_along w axis)) k m
 
-  module _ (xs ys : List Float) (few : n ≤ max_points) (h : way < 2) (e : edges ≡ edges_of (view_at n ranks xs ys)) where
-    abbrev w : View
-    w = view_at n ranks xs ys
-
-    -- only the neighbours of the view count
-    same : (k : ℕ) → fails v (table_edge edges way) k ≡ fails w (table_edge edges way) k
-    same k =
-        same-verdict v w (table_edge edges way) (table_edge edges way) k k (record { own-edge = refl; there = λ o h. refl; edges = λ o h p. refl })
-        (sheet-is v (table_edge edges way) ∙ sym (sheet-is w (table_edge edges way)))
-
-    pub marks-are : {a b : List ℕ} → Marked (λ (m : ℕ). some (λ (k : ℕ). hits k m) n) a b → Marked (λ (m : ℕ). ltb m n && edge_mark w (side way) m) a b
-    marks-are r = marked-as (λ (m : ℕ). some (λ (k : ℕ). hits k m) n) (λ (m : ℕ). ltb m n && edge_mark w (side way) m) (λ m l. go m (dec_lt m n)) r
-      where
-        go : (m : ℕ) → Dec (m < n) → some (λ (k : ℕ). hits k m) n ≡ ltb m n && edge_mark w (side way) m
-        go m (yes l) =
-            rw (lt-ltb m n l)
-            (some-ext (λ k. hits k m) (λ k. failing_ends w (side way) (fails w (table_edge edges way)) k m) n (λ k g. rw (same k))
-            ∙ ends-are w (side way) (table_edge edges way) (table_is w way edges few h e) m)
-        go m (no l) = rw (le-ltb m n (omega (arith, l))) (ends-past v (side way) (fails v (table_edge edges way)) m (omega (arith, l)))
+  pub marks-are : {a b : List ℕ} → Marked (λ (m : ℕ). some (λ (k : ℕ). hits k m) w.count) a b → Marked (λ (m : ℕ). ltb m w.count && edge_mark w (forward axis) m) a b
+  marks-are r = marked-as (λ (m : ℕ). some (λ (k : ℕ). hits k m) w.count) (λ (m : ℕ). ltb m w.count && edge_mark w (forward axis) m) (λ m l. go m (dec_lt m w.count)) r
+    where
+      go : (m : ℕ) → Dec (m < w.count) → some (λ (k : ℕ). hits k m) w.count ≡ ltb m w.count && edge_mark w (forward axis) m
+      go m (yes l) = rw (lt-ltb m w.count l) (ends-are w (forward axis) m)
+      go m (no l) = rw (le-ltb m w.count (omega (arith, l))) (ends-past w (forward axis) (fails w (edge_along w axis)) m (omega (arith, l)))

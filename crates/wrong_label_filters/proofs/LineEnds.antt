@@ -10,7 +10,7 @@ use lib.Dec.{eqb, ltb, leb}
 use borrow.Author.Tests.{lt-ltb, le-ltb, eq-eqb, ne_eqb}
 use lib.ListN.{get_or, set, replicate, length-set, length-replicate}
 use lib.Seq.{get_or-set_same, get_or-set_other}
-use lib.Ieee.{Float, nan}
+use lib.Ieee.{Float}
 use Rattle.folds.specs.Arith.{◌⊖◌}
 use Rattle.folds.specs.Below.{some, last}
 use Rattle.folds.proofs.Below.{some-ext, some-no, some_one, last_none, last_more, and-false}
@@ -19,29 +19,28 @@ use Rattle.folds.specs.Marked.{Marked}
 use Rattle.folds.proofs.Marked.{marked-as, marked-then}
 use Rattle.float.specs.Scalar.{norm_of}
 use Rattle.offsets.specs.declared.Offset.{Offset}
+use Rattle.offsets.specs.declared.axis.Axis.TheVariants.{AlongU, AlongV}
 use Rattle.offsets.specs.Offsets.{next_u, prev_u, next_v, prev_v}
-use Rattle.view.specs.View.{View, max_points, rows_at, columns_at, view_at, Ranked, rank_at, degree_at}
+use Rattle.view.specs.View.{View, view_at, max_points, rank_at, degree_at}
 use Rattle.marks.proofs.Guards.{guard, past}
 use Rattle.wrong_label_filters.specs.Frontier.{kink, kink_at, last_in_line, end_mark, frontier_mark}
-use Rattle.wrong_label_filters.specs.Lasts.{line_start, line_mark, Lasts}
+use Rattle.wrong_label_filters.specs.Lasts.{line_mark, Lasts}
 
--- ---- the kink at a rank, from arrays
+-- ---- the kink at a rank
 
-module _ (n : ℕ) (ranks : List ℕ) (xs ys : List Float) where
-  abbrev w : View
-  w = view_at n ranks xs ys
+-- a degree goes by the neighbours alone
+pub degree-same : (n : ℕ) (ranks : List ℕ) (xs ys : List Float) (k : ℕ) → degree_at (view_at n ranks xs ys) k ≡ degree_at (view_at n ranks [] []) k
+unfolding degree_at
+degree-same n ranks xs ys k = refl
 
-  degree-same : (k : ℕ) → degree_at w k ≡ degree_at (view_at n ranks [] []) k
-  unfolding degree_at
-  degree-same k = refl
-
+module _ (w : View) where
   abbrev pub between : ℕ → ℕ → Float
-  between a b = norm_of (get_or xs b nan ⊖ get_or xs a nan) (get_or ys b nan ⊖ get_or ys a nan)
+  between a b = norm_of (w.x b ⊖ w.x a) (w.y b ⊖ w.y a)
 
-  pub kink-is : (inward : Offset) (k a b c : ℕ) → a ≡ rank_at w k inward → b ≡ rank_at w a inward → c ≡ rank_at w b inward
-      → kink_at w inward k ≡ ltb a n && (ltb b n && (ltb c n && (leb (degree_at (view_at n ranks [] []) k) 2 && kink (between k a) (between a b) (between b c))))
+  pub kink-is : (inward : Offset) (k a b c : ℕ) → rank_at w k inward ≡ a → rank_at w a inward ≡ b → rank_at w b inward ≡ c
+      → kink_at w inward k ≡ ltb a w.count && (ltb b w.count && (ltb c w.count && (leb (degree_at w k) 2 && kink (between k a) (between a b) (between b c))))
   unfolding kink_at
-  kink-is inward k a b c p q r = rw (r, q, p, ← degree-same k)
+  kink-is inward k a b c p q r = rw (p, q, r)
 
 -- ---- the ends that a loop marks
 
@@ -53,14 +52,6 @@ end-marks t n r = marked-as (λ (m : ℕ). some (λ (k : ℕ). t k && (ltb k n &
     go m (no h) = let g : n ≤ m = omega (arith, h) in rw (le-ltb m n g) (some-no (λ (k : ℕ). t k && (ltb k n && eqb k m)) n (λ k l. rw (past k m n g) (and-false (t k))))
 
 -- ---- lines
-
--- the first rank of a line is a rank
-pub line-below : (n : ℕ) (ranks : List ℕ) (way k : ℕ) → Ranked n ranks → k < n → line_start (view_at n ranks [] []) way k < n
-line-below n ranks way k r h = go (eqb way 0)
-  where
-    go : (b : Bool) → cond b (get_or ranks (rows_at + k) 0) (get_or ranks (columns_at + k) 0) < n
-    go true = r.rows k h
-    go false = r.columns k h
 
 pub lasts-none : (line : ℕ → ℕ) → Lasts line 0 (replicate max_points 0)
 lasts-none line = record { size = length-replicate {A = ℕ} max_points 0; at = λ m l. replicate-at {A = ℕ} max_points 0 m ∙ sym (last_none (λ (j : ℕ). eqb (line j) m) 0) }
@@ -80,7 +71,7 @@ unfolding last_in_line
 last-is w line lasts k m r e h = r.at m h ∙ rw e
 
 -- both ends of rows and columns
-pub all-ends : (w : View) {a b c : List ℕ} → Marked (λ (m : ℕ). ltb m w.count && line_mark w 0 m) a b → Marked (λ (m : ℕ). ltb m w.count && line_mark w 1 m) b c
+pub all-ends : (w : View) {a b c : List ℕ} → Marked (λ (m : ℕ). ltb m w.count && line_mark w AlongU m) a b → Marked (λ (m : ℕ). ltb m w.count && line_mark w AlongV m) b c
     → Marked (λ (m : ℕ). ltb m w.count && frontier_mark w m) a c
 unfolding frontier_mark line_mark
 all-ends w p q =

@@ -13,7 +13,8 @@ use Rattle.float.specs.Scalar.{norm_of, over30_degrees}
 use Rattle.offsets.specs.declared.Offset.{Offset}
 use Rattle.offsets.specs.Offsets.{own, place_of, offset_of}
 use Rattle.view.specs.View.{View, rank_at, present}
-use Rattle.edges.specs.Edges.{StoredEdge, stored_at}
+use Rattle.edges.specs.Edges.{stored_at}
+use Rattle.edges.specs.declared.StoredEdge.{StoredEdge}
 use Rattle.median.specs.Median.{median_of}
 
 module _ (w : View) (E : ℕ → StoredEdge) where

@@ -1,18 +1,21 @@
--- Rows and columns as lines, and the last rank of each line, kept at the place of the line. Way 0 is along u, so that its lines are the rows;
--- way 1 is along v. Assumes nothing.
-use Rattle.std.specs.Prelude.{◌≡◌, Bool, cond, ◌||◌, List, ℕ, ◌<◌, eqb, length, get_or}
+-- Rows and columns as lines, and the last rank of each line, kept at the place of the line. The lines along u are the rows, those along v the
+-- columns. Assumes nothing.
+use Rattle.std.specs.Prelude.{◌≡◌, Bool, ◌||◌, List, ℕ, ◌<◌, eqb, length, get_or}
 use Rattle.folds.specs.Below.{last}
 use Rattle.view.specs.View.{View, max_points}
-use Rattle.edges.specs.Edges.{side, back_side}
+use Rattle.offsets.specs.declared.axis.Axis.{Axis}
+use Rattle.offsets.specs.declared.axis.Axis.TheVariants.{AlongU, AlongV}
+use Rattle.offsets.specs.Axes.{forward, back}
 use Rattle.wrong_label_filters.specs.Frontier.{last_in_line, end_mark}
 
 -- the first rank of rank k's line, which stands for the line
-abbrev pub line_start : View → ℕ → ℕ → ℕ
-line_start w way k = cond (eqb way 0) (w.row k) (w.column k)
+abbrev pub line_start : View → Axis → ℕ → ℕ
+line_start w AlongU = w.row
+line_start w AlongV = w.column
 
 -- rank k is marked as the first or as the last of its line
-unfoldable pub line_mark : View → ℕ → ℕ → Bool
-line_mark w way k = end_mark w (line_start w way) (side way) k || end_mark w (last_in_line w (line_start w way)) (back_side way) k
+unfoldable pub line_mark : View → Axis → ℕ → Bool
+line_mark w axis k = end_mark w (line_start w axis) (forward axis) k || end_mark w (last_in_line w (line_start w axis)) (back axis) k
 
 -- at the place of each line, the last of its ranks below n
 pub record Lasts (line : ℕ → ℕ) (n : ℕ) (lasts : List ℕ) : Type 0 where

@@ -3,4 +3,3 @@ pub mod Windows
 pub mod Frontier
 pub mod Lasts
 pub mod WrongLabel
-pub mod EdgesReady

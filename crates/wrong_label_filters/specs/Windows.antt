@@ -1,6 +1,5 @@
 -- Words of the inner contracts: edges read from the table, and a window so far. Assumes nothing.
-use Rattle.std.specs.Prelude.{◌≡◌, Bool, true, cond, ◌&&◌, ◌||◌, List, ℕ, ◌+◌, ◌≤◌, ◌<◌, eqb, get_or, Float}
-use Rattle.std.specs.Float.{nan}
+use Rattle.std.specs.Prelude.{◌≡◌, Bool, cond, ◌&&◌, ◌||◌, List, ℕ, ◌+◌, ◌<◌, eqb, Float, Option, None, Some}
 use Rattle.std.specs.Float.Ieee.{lt}
 use Rattle.folds.specs.Arith.{◌⊕◌, ◌⊗◌, zero_f}
 use Rattle.folds.specs.Below.{tally, sum_of}
@@ -8,21 +7,18 @@ use Rattle.folds.specs.Lists.{listed}
 use Rattle.float.specs.Constants.{overlong_ratio, global_overlong_ratio}
 use Rattle.median.specs.Median.{median_of}
 use Rattle.offsets.specs.declared.Offset.{Offset}
+use Rattle.offsets.specs.declared.axis.Axis.{Axis}
+use Rattle.offsets.specs.Axes.{forward}
 use Rattle.offsets.specs.Offsets.{offset_of}
-use Rattle.view.specs.View.{View, max_points, rank_at, present}
-use Rattle.edges.specs.Edges.{StoredEdge, edge_place}
+use Rattle.view.specs.View.{View, rank_at, present}
+use Rattle.edges.specs.Edges.{stored_at}
+use Rattle.edges.specs.declared.StoredEdge.{StoredEdge}
 use Rattle.wrong_label_filters.specs.Judged.{in_window}
 use Rattle.wrong_label_filters.specs.declared.judged_edges.Window.{Window}
-use Rattle.wrong_label_filters.specs.declared.judged_edges.Limit.{Limit}
 
--- the way's edges that a table holds
-abbrev pub table_edge : List Float → ℕ → ℕ → StoredEdge
-table_edge edges way k =
-    record {
-      len = get_or edges (edge_place way 0 k) nan;
-      ux = get_or edges (edge_place way 1 k) nan;
-      uy = get_or edges (edge_place way 2 k) nan;
-    }
+-- the edges along an axis
+abbrev pub edge_along : View → Axis → ℕ → StoredEdge
+edge_along w axis = stored_at w (forward axis)
 
 -- one edge more, if t; u says whether it is under
 abbrev pub with_edge : Bool → Bool → Float → Float → Window → Window
@@ -57,17 +53,20 @@ module _ (w : View) (E : ℕ → StoredEdge) (k : ℕ) (len : Float) where
 abbrev pub positive_lens : (ℕ → StoredEdge) → ℕ → List Float
 positive_lens E n = listed (λ i. lt zero_f (E i).len) (λ i. (E i).len) n
 
--- a limit that is known is 1.6 times the median of the positive lengths
-abbrev pub Limits : (ℕ → StoredEdge) → ℕ → Limit → Type 0
-Limits E n l = l.known ≡ true → l.value ≡ global_overlong_ratio ⊗ median_of (positive_lens E n)
+-- 1.6 times the median of the positive lengths
+abbrev pub sheet_limit_of : (ℕ → StoredEdge) → ℕ → Float
+sheet_limit_of E n = global_overlong_ratio ⊗ median_of (positive_lens E n)
+
+-- a limit that is known is this
+abbrev pub Limits : (ℕ → StoredEdge) → ℕ → Option Float → Type 0
+Limits E n None = Unit {0}
+Limits E n (Some x) = x ≡ sheet_limit_of E n
 
 -- what the verdict on rank k's edge is asked with
-pub record Asked (n : ℕ) (edges : List Float) (way k total : ℕ) (l : Limit) : Type 0 where
-  pub few : n ≤ max_points
-  pub one_way : way < 2
-  pub below : k < n
-  pub total-is : total ≡ tally (λ i. lt zero_f (table_edge edges way i).len) n
-  pub limits : Limits (table_edge edges way) n l
+pub record Asked (w : View) (axis : Axis) (k total : ℕ) (limit : Option Float) : Type 0 where
+  pub below : k < w.count
+  pub total-is : total ≡ tally (λ i. lt zero_f (edge_along w axis i).len) w.count
+  pub limits : Limits (edge_along w axis) w.count limit
 
 -- the edge from rank k over the offset o leads to a point, it fails, and m is one of its ends
 abbrev pub failing_ends : View → Offset → (ℕ → Bool) → ℕ → ℕ → Bool

@@ -1,19 +1,21 @@
 // Edges that are too long, or off the axis of their neighbours.
-ghost use Rattle.std.specs.Prelude.{◌≡◌, true, ◌&&◌, ◌||◌, List, [], ltb, ℕ, ◌+◌, ◌/◌, ◌≤◌, ◌<◌, get_or, Float};
+ghost use Rattle.std.specs.Prelude.{◌≡◌, true, ◌&&◌, ◌||◌, ltb, ℕ, ◌+◌, ◌/◌, ◌≤◌, ◌<◌};
 ghost use Rattle.std.specs.Float.{nan};
 ghost use Rattle.std.specs.Float.Ieee.{lt};
 ghost use Rattle.folds.specs.Arith.{zero_f};
 ghost use Rattle.folds.specs.Below.{tally};
 ghost use Rattle.folds.specs.Column.{column};
 ghost use Rattle.folds.specs.Marked.{Marked};
-ghost use Rattle.view.specs.View.{max_points, view_at};
-ghost use Rattle.edges.specs.Edges.{side, edges_of, edge_place};
+ghost use Rattle.offsets.specs.Axes.{forward};
+ghost use Rattle.view.specs.View.{max_points};
+ghost use Rattle.view.specs.Seen.{view_in};
 ghost use Rattle.wrong_label_filters.specs.Judged.{off_axis, fails, edge_mark};
-ghost use Rattle.wrong_label_filters.specs.Windows.{table_edge, with_edge, with_edge_at, window_to, Limits, Asked, failing_ends};
+ghost use Rattle.wrong_label_filters.specs.Windows.{edge_along, with_edge, with_edge_at, window_to, sheet_limit_of, Limits, Asked, failing_ends};
 
-use edges::Edges;
+use edges::{EdgeTable, StoredEdge};
 use float::constants::{GLOBAL_OVERLONG_RATIO, OVERLONG_RATIO};
-use view::{Floats, MAX_POINTS, Marks, Ranks};
+use offsets::{Axis, OWN};
+use view::{Floats, Marks};
 
 #[derive(Clone, Copy)]
 struct Window {
@@ -23,70 +25,49 @@ struct Window {
     sy: f32,
 }
 
-// 1.6 times the median of the sheet's positive lengths, where it is known: only an edge with few others in its window asks for it.
-#[derive(Clone, Copy)]
-struct Limit {
-    known: bool,
-    value: f32,
-}
-
-// Whether an edge fails, and the sheet's limit, if it is known by then.
+// Whether an edge fails; and 1.6 times the median of the sheet's positive lengths, if it is known by then: only an edge with few others in its
+// window asks for it.
 #[derive(Clone, Copy)]
 struct Verdict {
     fails: bool,
-    limit: Limit,
+    limit: Option<f32>,
 }
 
 // The window v with one edge more; under says whether 1.5 times its length is under the length of the edge that is judged.
-fn with_edge(v: Window, under: bool, ux: f32, uy: f32) -> Window
+fn with_edge(v: Window, under: bool, e: StoredEdge) -> Window
     requires { (v.count < max_points) × (v.under < max_points) }
-    ensures { result ≡ with_edge true under ux uy v }
+    ensures { result ≡ with_edge true under e.ux e.uy v }
 {
     Window {
         count: v.count + 1,
         under: marks::one_more(under, v.under),
-        sx: v.sx + ux,
-        sy: v.sy + uy,
+        sx: v.sx + e.ux,
+        sy: v.sy + e.uy,
     }
 }
 
 // The window v with the edge that starts at place j round rank k, if that is one of the window of rank k's edge, which has the length own.
-fn with_edge_at(
-    v: Window,
-    ranks: &Ranks,
-    edges: &Edges,
-    n: usize,
-    way: usize,
-    k: usize,
-    j: usize,
-    own: f32,
-) -> Window
-    requires { (n ≤ max_points) × (way < 2) × (k < n) × (j < 25) × (v.count ≤ j) × (v.under ≤ j) }
-    ensures { result ≡ with_edge_at (view_at n ranks.now [] []) (table_edge edges.now way) k own j v }
+fn with_edge_at(v: Window, table: &EdgeTable, axis: Axis, k: usize, j: usize, own: f32) -> Window
+    requires { (k < table.now.view.lattice.count) × (j < 25) × (v.count ≤ j) × (v.under ≤ j) }
+    ensures { result ≡ with_edge_at (view_in table.now.view) (edge_along (view_in table.now.view) axis) k own j v }
 {
-    if j == offsets::place(offsets::OWN) {
+    if j == offsets::place(OWN) {
         return v;
     }
-    let e = view::rank_at_place(ranks, k, j);
-    if n <= e {
+    let Some(e) = table.view.lattice.at_place(k, j) else {
         return v;
-    }
-    let len = edges::length(edges, way, e);
-    if 0.0 < len {
-        return with_edge(
-            v,
-            OVERLONG_RATIO * len < own,
-            edges::unit(edges, way, 1, e),
-            edges::unit(edges, way, 2, e),
-        );
+    };
+    let edge = table.at(axis, e);
+    if 0.0 < edge.len {
+        return with_edge(v, OVERLONG_RATIO * edge.len < own, edge);
     }
     v
 }
 
 // The window of rank k's edge, which has the length own.
-fn window_at(ranks: &Ranks, edges: &Edges, n: usize, way: usize, k: usize, own: f32) -> Window
-    requires { (n ≤ max_points) × (way < 2) × (k < n) }
-    ensures { result ≡ window_to (view_at n ranks.now [] []) (table_edge edges.now way) k own 25 }
+fn window_at(table: &EdgeTable, axis: Axis, k: usize, own: f32) -> Window
+    requires { k < table.now.view.lattice.count }
+    ensures { result ≡ window_to (view_in table.now.view) (edge_along (view_in table.now.view) axis) k own 25 }
 {
     let mut v = Window {
         count: 0,
@@ -94,159 +75,123 @@ fn window_at(ranks: &Ranks, edges: &Edges, n: usize, way: usize, k: usize, own: 
         sx: 0.0,
         sy: 0.0,
     };
-    let mut j = 0;
-    while j < 25 {
-        let next = with_edge_at(v, ranks, edges, n, way, k, j, own);
-        v = next;
-        j += 1;
+    for j in 0..25 {
+        v = with_edge_at(v, table, axis, k, j, own);
     }
     v
 }
 
-fn off_axis(sx: f32, sy: f32, ux: f32, uy: f32) -> bool
-    ensures { result ≡ off_axis sx sy ux uy }
+fn off_axis(sx: f32, sy: f32, e: StoredEdge) -> bool
+    ensures { result ≡ off_axis sx sy e.ux e.uy }
 {
     let s = float::norm(sx, sy);
     if 0.0 < s.value {
-        return float::over_30_degrees(ux * (sx / s.value) + uy * (sy / s.value));
+        return float::over_30_degrees(e.ux * (sx / s.value) + e.uy * (sy / s.value));
     }
     false
 }
 
-// How many of the way's edges have a positive length.
-fn sheet_count(edges: &Edges, n: usize, way: usize) -> usize
-    requires { (n ≤ max_points) × (way < 2) }
-    ensures { result ≡ tally (λ (k : ℕ). lt zero_f (get_or edges.now (edge_place way 0 k) nan)) n }
+// How many of the edges along an axis have a positive length.
+fn sheet_count(table: &EdgeTable, axis: Axis) -> usize
+    ensures { result ≡ tally (λ (k : ℕ). lt zero_f (edge_along (view_in table.now.view) axis k).len) table.now.view.lattice.count }
 {
     let mut c = 0;
-    let mut k = 0;
-    while k < n {
-        c = marks::one_more(0.0 < edges::length(edges, way, k), c);
-        k += 1;
+    for k in 0..table.view.lattice.count {
+        c = marks::one_more(0.0 < table.at(axis, k).len, c);
     }
     c
 }
 
-// The lengths of the way's edges.
-fn lengths_of(edges: &Edges, n: usize, way: usize) -> Floats
-    requires { (n ≤ max_points) × (way < 2) }
-    ensures { result ≡ column max_points nan n (λ (k : ℕ). get_or edges.now (edge_place way 0 k) nan) }
+// The lengths of the edges along an axis.
+fn lengths_of(table: &EdgeTable, axis: Axis) -> Floats
+    ensures { result ≡ column max_points nan table.now.view.lattice.count (λ (k : ℕ). (edge_along (view_in table.now.view) axis k).len) }
 {
-    let none: f32 = 0.0 / 0.0;
-    let mut out = [none; MAX_POINTS];
-    let mut k = 0;
-    while k < n {
-        out[k] = edges::length(edges, way, k);
-        k += 1;
-    }
-    out
+    view::filled(
+        f32::NAN,
+        table.view.lattice.count,
+        |k| table.at(axis, k).len,
+    )
 }
 
 // The sheet's limit, taken where it is not known yet.
-fn sheet_limit(limit: Limit, edges: &Edges, n: usize, way: usize) -> Limit
-    requires { (n ≤ max_points) × (way < 2) × Limits (table_edge edges.now way) n limit }
-    ensures { (result.known ≡ true) × Limits (table_edge edges.now way) n result }
+fn sheet_limit(limit: Option<f32>, table: &EdgeTable, axis: Axis) -> f32
+    requires { Limits (edge_along (view_in table.now.view) axis) table.now.view.lattice.count limit }
+    ensures { result ≡ sheet_limit_of (edge_along (view_in table.now.view) axis) table.now.view.lattice.count }
 {
-    if limit.known {
-        return limit;
-    }
-    Limit {
-        known: true,
-        value: GLOBAL_OVERLONG_RATIO * median::middle(&lengths_of(edges, n, way), n),
+    match limit {
+        Some(known) => known,
+        None => {
+            GLOBAL_OVERLONG_RATIO
+                * median::middle(&lengths_of(table, axis), table.view.lattice.count)
+        }
     }
 }
 
-// Whether an edge with the unit vector (ux, uy) fails by its window, which has counted the edges under it.
-fn fails_in(v: Window, ux: f32, uy: f32) -> bool
-    ensures { result ≡ ltb (v.count / 2) v.under || off_axis v.sx v.sy ux uy }
+// Whether an edge fails by its window, which has counted the edges under it.
+fn fails_in(v: Window, e: StoredEdge) -> bool
+    ensures { result ≡ ltb (v.count / 2) v.under || off_axis v.sx v.sy e.ux e.uy }
 {
-    if v.count / 2 < v.under {
-        return true;
-    }
-    off_axis(v.sx, v.sy, ux, uy)
+    v.count / 2 < v.under || off_axis(v.sx, v.sy, e)
 }
 
-// Whether the way's edge that starts at rank k fails; total of the way's edges have a positive length.
-fn fails_at(
-    ranks: &Ranks,
-    edges: &Edges,
-    n: usize,
-    way: usize,
-    k: usize,
-    total: usize,
-    limit: Limit,
-) -> Verdict
-    requires { Asked n edges.now way k total limit }
-    ensures { (result.fails ≡ fails (view_at n ranks.now [] []) (table_edge edges.now way) k) × Limits (table_edge edges.now way) n result.limit }
+// Whether the edge that starts at rank k fails; total of the edges along the axis have a positive length.
+fn fails_at(table: &EdgeTable, axis: Axis, k: usize, total: usize, limit: Option<f32>) -> Verdict
+    requires { Asked (view_in table.now.view) axis k total limit }
+    ensures { (result.fails ≡ fails (view_in table.now.view) (edge_along (view_in table.now.view) axis) k) × Limits (edge_along (view_in table.now.view) axis) table.now.view.lattice.count result.limit }
 {
-    let own = edges::length(edges, way, k);
-    if 0.0 < own {
-        let v = window_at(ranks, edges, n, way, k, own);
+    let own = table.at(axis, k);
+    if 0.0 < own.len {
+        let v = window_at(table, axis, k, own.len);
         if 5 <= v.count {
             return Verdict {
-                fails: fails_in(
-                    v,
-                    edges::unit(edges, way, 1, k),
-                    edges::unit(edges, way, 2, k),
-                ),
-                limit: limit,
+                fails: fails_in(v, own),
+                limit,
             };
         }
         if 8 <= total {
-            let sheet = sheet_limit(limit, edges, n, way);
+            let sheet = sheet_limit(limit, table, axis);
             return Verdict {
-                fails: sheet.value < own,
-                limit: sheet,
+                fails: sheet < own.len,
+                limit: Some(sheet),
             };
         }
     }
     Verdict {
         fails: false,
-        limit: limit,
+        limit,
     }
 }
 
-// Marks the ends of the way's edge that starts at rank k, if it fails.
+// Marks the ends of the edge that starts at rank k, if it fails.
 fn mark_edge(
-    ranks: &Ranks,
-    edges: &Edges,
-    n: usize,
-    way: usize,
+    table: &EdgeTable,
+    axis: Axis,
     k: usize,
     total: usize,
-    limit: Limit,
+    limit: Option<f32>,
     mark: &mut Marks,
-) -> Limit
-    requires { Asked n edges.now way k total limit }
-    ensures { Marked (failing_ends (view_at n ranks.now [] []) (side way) (fails (view_at n ranks.now [] []) (table_edge edges.now way)) k) mark.old mark.new × Limits (table_edge edges.now way) n result }
+) -> Option<f32>
+    requires { Asked (view_in table.now.view) axis k total limit }
+    ensures { Marked (failing_ends (view_in table.now.view) (forward axis) (fails (view_in table.now.view) (edge_along (view_in table.now.view) axis)) k) mark.old mark.new × Limits (edge_along (view_in table.now.view) axis) table.now.view.lattice.count result }
 {
-    let e = view::rank_at(ranks, k, edges::side_of(way));
-    if n <= e {
+    let Some(e) = table.view.lattice.neighbour(k, axis.forward()) else {
         return limit;
-    }
-    let verdict = fails_at(ranks, edges, n, way, k, total, limit);
+    };
+    let verdict = fails_at(table, axis, k, total, limit);
     if verdict.fails {
         mark[k] = 1;
         mark[e] = 1;
-        return verdict.limit;
     }
     verdict.limit
 }
 
-// Marks the ends of each of the way's edges that fails.
-pub(crate) fn mark_failing(ranks: &Ranks, edges: &Edges, n: usize, way: usize, mark: &mut Marks)
-    requires { (n ≤ max_points) × (way < 2) }
-    ensures { (xs ys : List Float) → edges.now ≡ edges_of (view_at n ranks.now xs ys) → Marked (λ (m : ℕ). ltb m n && edge_mark (view_at n ranks.now xs ys) (side way) m) mark.old mark.new }
+// Marks the ends of each of the edges along an axis that fails.
+pub(crate) fn mark_failing(table: &EdgeTable, axis: Axis, mark: &mut Marks)
+    ensures { Marked (λ (m : ℕ). ltb m table.now.view.lattice.count && edge_mark (view_in table.now.view) (forward axis) m) mark.old mark.new }
 {
-    let total = sheet_count(edges, n, way);
-    let mut limit = Limit {
-        known: false,
-        value: 0.0,
-    };
-    let mut k = 0;
-    while k < n {
-        let next = mark_edge(ranks, edges, n, way, k, total, limit, mark);
-        limit = next;
-        k += 1;
+    let total = sheet_count(table, axis);
+    let mut limit = None;
+    for k in 0..table.view.lattice.count {
+        limit = mark_edge(table, axis, k, total, limit, mark);
     }
 }

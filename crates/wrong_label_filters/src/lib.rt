@@ -5,29 +5,26 @@ mod frontier;
 mod judged_edges;
 
 ghost use Rattle.std.specs.Prelude.{◌≡◌};
-ghost use Rattle.view.specs.View.{view_at};
+ghost use Rattle.view.specs.View.{Finite};
+ghost use Rattle.view.specs.Seen.{view_in};
 ghost use Rattle.wrong_label_filters.specs.WrongLabel.{wrong_label_of};
-ghost use Rattle.wrong_label_filters.specs.EdgesReady.{EdgesReady};
 
-use edges::Edges;
-use view::{Floats, MAX_POINTS, Marks, Ranks};
+use edges::EdgeTable;
+use offsets::Axis;
+use view::{MAX_POINTS, Marks};
 
 // The wrong-label mark of each rank's index.
-pub fn topological_wrong_label_drops(
-    ranks: &Ranks,
-    x: &Floats,
-    y: &Floats,
-    edges: &Edges,
-    n: usize,
-    cell: f32,
-) -> Marks
-    requires { EdgesReady n ranks.now x.now y.now edges.now }
-    ensures { result ≡ wrong_label_of (view_at n ranks.now x.now y.now) cell }
+#[inline(never)]
+pub fn topological_wrong_label_drops(table: &EdgeTable, cell: f32) -> Marks
+    requires x { Finite table.now.view.lattice.count table.now.view.x.now }
+    requires y { Finite table.now.view.lattice.count table.now.view.y.now }
+    ensures { result ≡ wrong_label_of (view_in table.now.view) cell }
 {
+    let view = &table.view;
     let mut mark = [0u8; MAX_POINTS];
-    judged_edges::mark_failing(ranks, edges, n, 0, &mut mark);
-    judged_edges::mark_failing(ranks, edges, n, 1, &mut mark);
-    close_pairs::mark_close(x, y, cell, n, &mut mark);
-    frontier::mark_frontier(ranks, x, y, n, &mut mark);
-    marks::by_index(ranks, &mark, n)
+    judged_edges::mark_failing(table, Axis::AlongU, &mut mark);
+    judged_edges::mark_failing(table, Axis::AlongV, &mut mark);
+    close_pairs::mark_close(view.x, view.y, cell, view.lattice.count, &mut mark);
+    frontier::mark_frontier(view, &mut mark);
+    marks::by_index(view, &mark)
 }

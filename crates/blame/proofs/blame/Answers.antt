@@ -1,25 +1,29 @@
-use mathlib.Core.List.{[]}
-use Rattle.blame.proofs.Blamed.{blamed-by}
-use Rattle.blame.proofs.Blamed.{a-there, b_there, c-there, d-there}
-use Rattle.view.specs.View.{view_at}
+use Rattle.std.proofs.Common.{rules, refl, ◌≡◌, ℕ, get_or, arith}
+use Rattle.std.specs.Prelude.{None}
+use Rattle.folds.specs.Lists.{over}
+use Rattle.folds.proofs.Lists.{over-more}
+use Rattle.view.specs.Seen.{view_in}
+use Rattle.blame.specs.Marks.{place_in}
+use Rattle.blame.proofs.Blamed.{members-there, blamed-by, place-inside}
 use Rattle.blame.proofs.blame.Goals as goal
 
-pub worse-w1-requires : goal.worse-w1-requires
-worse-w1-requires c =
-    let a = c.args in (c.requires.0, c.requires.1, λ h. (rw (← c.pick_local_h_base-b.ensures [] []) at (a-there (view_at a.n a.ranks.now [] []) a.k)) h)
+pub worse-worst-requires-clause-member : goal.worse-worst-requires-clause-member
+worse-worst-requires-clause-member c =
+    let v = c.args.view.now in members-there (view_in v) c.args.k (c.pick_local_h_base-base.ensures v.x.now v.y.now) c.loop-p.p-index
 
-pub worse-w2-requires : goal.worse-w2-requires
-worse-w2-requires c =
-    let a = c.args in (c.requires.0, c.requires.1, λ h. (rw (← c.pick_local_h_base-b.ensures [] []) at (b_there (view_at a.n a.ranks.now [] []) a.k)) h)
+pub loop-p-init : goal.loop-p-init
+unfolding over
+loop-p-init c = (refl, tt)
 
-pub worse-w3-requires : goal.worse-w3-requires
-worse-w3-requires c =
-    let a = c.args in (c.requires.0, c.requires.1, λ h. (rw (← c.pick_local_h_base-b.ensures [] []) at (c-there (view_at a.n a.ranks.now [] []) a.k)) h)
-
-pub worse-w4-requires : goal.worse-w4-requires
-worse-w4-requires c =
-    let a = c.args in (c.requires.0, c.requires.1, λ h. (rw (← c.pick_local_h_base-b.ensures [] []) at (d-there (view_at a.n a.ranks.now [] []) a.k)) h)
+pub loop-p-preserved : goal.loop-p-preserved
+loop-p-preserved c =
+    (rw (over-more _ _ c.pick_local_h_base-base.result c.loop-p.p-index None (omega arith), ← c.loop-p.invariant.0) c.worse-worst.ensures.value, c.worse-worst.ensures.inside)
 
 pub returns : goal.returns
 returns c =
-    blamed-by _ _ _ _ (c.pick_local_h_base-b.ensures [] []) c.worse-w1.ensures c.worse-w2.ensures c.worse-w3.ensures c.worse-w4.ensures
+    let v = c.args.view.now in
+    let at : c.map.result ≡ place_in c.loop-p.worst = search rules in
+    record {
+      value = blamed-by (view_in v) (λ (m : ℕ). get_or c.args.flags.now m 0) c.args.k c.loop-p.p-index (c.pick_local_h_base-base.ensures v.x.now v.y.now) (omega arith) c.loop-p.invariant.0 at;
+      inside = rw at (place-inside v.lattice.count c.loop-p.worst c.loop-p.invariant.1);
+    }

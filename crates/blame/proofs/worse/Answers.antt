@@ -1,18 +1,21 @@
-use Rattle.blame.specs.Marks.{worse_of}
+use Rattle.std.proofs.Common.{rules, ◌≡◌}
 use borrow.Author.Tests.{lt-ltb, le-ltb}
+use Rattle.view.proofs.Found.{found}
+use Rattle.blame.specs.Marks.{flags_in, worse_of}
 use Rattle.blame.proofs.worse.Goals as goal
 
-pub returns-then-worst-f : goal.returns-then-worst-f
+pub returns-in_default-clause-value : goal.returns-in_default-clause-value
 unfolding worse_of
-returns-then-worst-f c =
-    rw (lt-ltb _ _ c.if-p-lt24.true, ← c.member.ensures, ← c.index_of-m.ensures, lt-ltb _ _ c.if-worst-f.true)
+returns-in_default-clause-value c = rw c.in_default.is
 
-pub returns-then-p-lt24 : goal.returns-then-p-lt24
+pub returns-then-map_or-f-clause-value : goal.returns-then-map_or-f-clause-value
 unfolding worse_of
-returns-then-p-lt24 c =
-    rw (lt-ltb _ _ c.if-p-lt24.true, ← c.member.ensures, ← c.index_of-m.ensures, le-ltb _ _ c.if-worst-f.false)
+returns-then-map_or-f-clause-value c =
+    let most : c.map_or.result ≡ flags_in c.args.worst = search rules in
+    rw (c.in-Some.is, found _ _ c.in-Some-member.ensures.value, ← c.index-at.ensures, ← most, lt-ltb _ _ c.if-map_or-f.true)
 
-pub returns : goal.returns
+pub returns-else-map_or-f-clause-value : goal.returns-else-map_or-f-clause-value
 unfolding worse_of
-returns c =
-    rw (le-ltb _ _ c.if-p-lt24.false)
+returns-else-map_or-f-clause-value c =
+    let most : c.map_or.result ≡ flags_in c.args.worst = search rules in
+    rw (c.in-Some.is, found _ _ c.in-Some-member.ensures.value, ← c.index-at.ensures, ← most, le-ltb _ _ c.if-map_or-f.false)

@@ -10,17 +10,20 @@ use Rattle.close_pairs.proofs.Pairs.{sweepable, swept, nothing-close}
 use Rattle.close_pairs.proofs.Squares.{reaches}
 use Rattle.close_pairs.proofs.mark_close.Goals as goal
 
-pub sweep-requires : goal.sweep-requires
+pub invariant_of-sweep : goal.invariant_of-sweep
 unfolding of_bits
-sweep-requires c =
+invariant_of-sweep c =
     let p = c.requires in
-    (sweepable _ _ _ _ p.0 c.order_of-order.ensures p.2 _, reaches _ (mul-plain duplicate_fraction c.args.cell tt (above_zero c.args.cell c.if-cell.true)))
+    record {
+      sweepable = sweepable _ _ _ _ p.0 c.order_of-order.ensures p.2 _;
+      over = reaches _ (mul-plain duplicate_fraction c.args.cell tt (above_zero c.args.cell c.if-cell.true));
+    }
 
 pub returns-then-limit : goal.returns-then-limit
 unfolding limit_of
 returns-then-limit c =
     let g = c.args in
-    λ ranks. marked-as _ _ (λ m l. swept _ g.x.now g.y.now g.n c.requires.0 c.order_of-order.ensures c.requires.2 ranks g.cell m c.if-cell.true) c.sweep.ensures
+    λ ranks. marked-as _ _ (λ m l. swept _ g.x.now g.y.now g.n c.requires.0 c.order_of-order.ensures c.requires.2 ranks g.cell m c.if-cell.true) c.mark_all.ensures
 
 pub returns-else-limit : goal.returns-else-limit
 unfolding limit_of

@@ -1,7 +1,7 @@
-use mathlib.Core.Path.{◌≡◌}
-use mathlib.Core.List.{List}
-use Prim.Native.Nat.{ℕ}
-use Rattle.view.specs.View.{View, view_at}
+use Rattle.std.proofs.Common.{◌≡◌, List, ℕ}
+use Rattle.offsets.specs.Offsets.{places}
+use Rattle.view.specs.View.{View}
+use Rattle.view.specs.Seen.{view_in}
 use Rattle.marks.specs.Marks.{index_marks}
 use Rattle.patches.specs.Patches.{patch_labels}
 use Rattle.components.specs.Components.{patch_count, winner_of, others_by, others_of, filter_of}
@@ -18,7 +18,7 @@ unfolding filter_of others_of
 composed w sides dropped l o m win c e f g h i = cc
 
 pub returns : goal.returns
-returns c xs ys =
+returns c =
     let a = c.args in
-    composed (view_at a.n a.ranks.now xs ys) a.sides.now a.dropped.now _ _ _ _ _
-    (c.labels-label.ensures xs ys) c.winner-win.ensures c.others-out.ensures (c.by_index.ensures xs ys) c.count.ensures
+    let w = view_in a.view.now in
+    composed w (places a.sides.now) a.dropped.now _ _ _ _ _ (c.labels.ensures a.view.now.x.now a.view.now.y.now) c.winner.ensures c.others-outside.ensures c.by_index.ensures c.patches.ensures

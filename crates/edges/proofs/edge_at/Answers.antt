@@ -2,12 +2,12 @@ use Rattle.view.specs.View.{view_at}
 use Rattle.edges.proofs.Laws.{edge_none, edge_to}
 use Rattle.edges.proofs.edge_at.Goals as goal
 
-pub returns-then-n-j : goal.returns-then-n-j
-returns-then-n-j c =
+pub returns-in_default : goal.returns-in_default
+returns-in_default c =
     let a = c.args in
-    edge_none (view_at a.n a.ranks.now a.x.now a.y.now) a.way a.k _ (rw (← c.side_of.ensures.0) c.rank_at-j.ensures) c.if-n-j.true
+    edge_none (view_at a.lattice.now.count a.lattice.now.ranks.now a.x.now a.y.now) _ a.k (rw (← c.forward.ensures.0) c.in_default.ensures.value)
 
 pub returns : goal.returns
 returns c =
     let a = c.args in
-    edge_to (view_at a.n a.ranks.now a.x.now a.y.now) a.way a.k _ (rw (← c.side_of.ensures.0) c.rank_at-j.ensures) c.if-n-j.false c.norm-len.ensures
+    edge_to (view_at a.lattice.now.count a.lattice.now.ranks.now a.x.now a.y.now) _ a.k (rw (← c.forward.ensures.0) c.in-Some.ensures.value) c.norm-len.ensures

@@ -4,11 +4,11 @@ use native.Mathlib.Omega.{arith}
 use lib.Dec.{T}
 use lib.Ieee.{Float, binary32, fits, to_bits}
 use lib.Ieee.Bits.{to_bits-lt}
+use Rattle.std.proofs.Common.{None}
 use Rattle.float.specs.Constants.{infinity_bits, sign_bit}
 use Rattle.float.specs.Remainder.{distance_of}
-use Rattle.float.specs.declared.Remainder.TheVariants as remainder
 use Rattle.float.specs.declared.Distance.{Distance}
-use Rattle.float.proofs.Nan.{no_nan, zero-over-zero}
+use Rattle.float.proofs.Nan.{nan-is}
 use Rattle.float.proofs.Special.{pattern, own_distance, distance-of-nan, distance-of-zero, distance-of-minus-zero, distance-of-one, distance-of-infinity, no-root}
 use Rattle.float.proofs.root_distance.Goals as goal
 
@@ -17,13 +17,10 @@ held : (x : Float) → fits binary32 x ≡ true → T (fits binary32 x)
 held x e = subst T (sym e) tt
 
 abbrev unrooted : Float → Distance
-unrooted x = record { value = x; remainder = remainder.Neither }
+unrooted x = record { value = x; remainder = None }
 
-pub returns-then-x : goal.returns-then-x
-returns-then-x c = c.no_root.ensures ∙ distance-of-nan c.args.x c.if-x.true
-
-pub float_to_bits-b : goal.float_to_bits-b
-float_to_bits-b c = no_nan c.args.x c.if-x.false
+pub returns-then-is_nan : goal.returns-then-is_nan
+returns-then-is_nan c = c.no_root.ensures ∙ distance-of-nan c.args.x (sym c.is_nan.ensures.value ∙ c.if-is_nan.true)
 
 pub returns-then-b-eq0 : goal.returns-then-b-eq0
 returns-then-b-eq0 c = c.own_root.ensures ∙ own_distance c.args.x 0 (held _ c.well_formed.0.1) c.if-b-eq0.true distance-of-zero
@@ -45,6 +42,6 @@ returns c =
     let x = c.args.x in
     let b = to_bits binary32 x in
     c.no_root-2.ensures
-    ∙ ap unrooted zero-over-zero
+    ∙ ap unrooted nan-is
     ∙ no-root b (omega (arith, c.if-b-eq2139095040.false, c.if-b-lt2139095040.false)) (to_bits-lt binary32 x (held _ c.well_formed.0.1)) c.if-b.false
     ∙ ap distance_of (pattern x b (held _ c.well_formed.0.1) refl)

@@ -14,9 +14,9 @@ small m p s l h q e =
     subst (λ (r : ℕ). r < 2 ^ 24) (sym (ap (λ (t : NearestRoot). t.root) e ∙ ap near_root (shifted m p l h q).0)) (significand m p l h q).1
 
 pub near_root-s-requires : goal.near_root-s-requires
-near_root-s-requires c = omega (arith, shifted c.args.m (c.args.w % 2) c.requires.0 c.requires.1 (omega arith))
+near_root-s-requires c = omega (arith, shifted c.from.result (c.args.w % 2) (omega arith) (omega arith) (omega arith))
 
 pub float_from_bits-result : goal.float_from_bits-result
 float_from_bits-result c =
-    let s = small c.args.m (c.args.w % 2) _ c.requires.0 c.requires.1 (omega arith) c.near_root-s.ensures in
+    let s = small c.from.result (c.args.w % 2) _ (omega arith) (omega arith) (omega arith) c.near_root-s.ensures in
     no-nan-pattern _ (omega (arith, s))

@@ -15,13 +15,13 @@ held : (x : Float) → fits binary32 x ≡ true → T (fits binary32 x)
 held x e = subst T (sym e) tt
 
 pub overflow_cast-words : goal.overflow_cast-words
-overflow_cast-words c = omega (arith, ints, root_small _ _ (held c.args.x c.well_formed.0.1) c.whole_root.ensures c.in-Found.r c.in-Found.is)
+overflow_cast-words c = omega (arith, ints, root_small _ _ (held c.args.x c.well_formed.0.1) c.whole_root.ensures c.in-Some.r c.in-Some.is)
 
-pub returns-in-Found-clause-words : goal.returns-in-Found-clause-words
-returns-in-Found-clause-words c =
-    let r = c.in-Found.r in
-    let h = root_small _ _ (held c.args.x c.well_formed.0.1) c.whole_root.ensures r c.in-Found.is in
+pub returns-in-Some-clause-words : goal.returns-in-Some-clause-words
+returns-in-Some-clause-words c =
+    let r = c.in-Some.r in
+    let h = root_small _ _ (held c.args.x c.well_formed.0.1) c.whole_root.ensures r c.in-Some.is in
     let e : to_z w32 r.root ≡ pos r.root = omega (arith, ints, h) in
     let f : SFits w32 r.power = search rules in
     let g : SFits w32 r.remainder = search rules in
-    rw (← c.whole_root.ensures, c.in-Found.is, e, to_z-of_z w32 _ f, to_z-of_z w32 _ g)
+    rw (← c.whole_root.ensures, c.in-Some.is, e, to_z-of_z w32 _ f, to_z-of_z w32 _ g)

@@ -6,12 +6,12 @@ use lib.Dec.{T}
 use lib.Ieee.{Float, binary32, fits, to_bits}
 use mir.Syntax.{w32}
 use mir.Val.{SFits, to_z, of_z}
+use Rattle.std.proofs.Common.{Some}
 use Rattle.std.proofs.lemmas.Int.{to_z-of_z}
 use Rattle.float.specs.Constants.{sign_bit, infinity_bits}
 use Rattle.float.specs.Found.{scaled_root_at}
 use Rattle.float.specs.Remainder.{remainder_of, distance_of}
 use Rattle.float.specs.declared.Distance.{Distance}
-use Rattle.float.specs.declared.WholeRoot.TheVariants as whole
 use Rattle.float.proofs.Whole.{root-bits, read, neither}
 use Rattle.float.proofs.whole_root.Goals as goal
 
@@ -29,16 +29,16 @@ pub scaled_root-requires : goal.scaled_root-requires
 scaled_root-requires c =
     let x = c.args.x in
     let e = c.root_distance-d.ensures in
-    subst (λ (b : ℕ). b < infinity_bits) (sym (bits x e c.to_bits-b.ensures)) (read x c.in-Found.z (held x c.well_formed.0.1) (rest x e ∙ c.in-Found.is)).low
+    subst (λ (b : ℕ). b < infinity_bits) (sym (bits x e c.to_bits.ensures)) (read x c.in_ok-z.z (held x c.well_formed.0.1) (rest x e ∙ c.in_ok-z.was)).low
 
-pub returns-in-Found : goal.returns-in-Found
-returns-in-Found c =
+pub returns : goal.returns
+returns c =
     let x = c.args.x in
-    let z = c.in-Found.z in
+    let z = c.in_ok-z.z in
     let e = c.root_distance-d.ensures in
     let f : SFits w32 z = search rules in
-    ap whole.Found (c.scaled_root.ensures ∙ ap (λ (b : ℕ). scaled_root_at b (to_z w32 (of_z w32 z))) (bits x e c.to_bits-b.ensures) ∙ ap (scaled_root_at (root-bits x)) (to_z-of_z w32 z f))
-    ∙ (read x z (held x c.well_formed.0.1) (rest x e ∙ c.in-Found.is)).same
+    ap Some (c.scaled_root.ensures ∙ ap (λ (b : ℕ). scaled_root_at b (to_z w32 (of_z w32 z))) (bits x e c.to_bits.ensures) ∙ ap (scaled_root_at (root-bits x)) (to_z-of_z w32 z f))
+    ∙ (read x z (held x c.well_formed.0.1) (rest x e ∙ c.in_ok-z.was)).same
 
-pub returns-in-Neither : goal.returns-in-Neither
-returns-in-Neither c = neither c.args.x (rest c.args.x c.root_distance-d.ensures ∙ c.in-Neither.is)
+pub returns-in_err-z : goal.returns-in_err-z
+returns-in_err-z c = c.from_residual.ensures ∙ neither c.args.x (rest c.args.x c.root_distance-d.ensures ∙ c.in_err-z.was)

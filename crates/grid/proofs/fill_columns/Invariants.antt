@@ -1,5 +1,5 @@
 use mathlib.Core.Path.{◌≡◌}
-use Prim.Native.Nat.{◌-◌, ◌≤◌}
+use Prim.Native.Nat.{◌≤◌}
 use Rattle.view.specs.View.{columns_at}
 use Rattle.cells.specs.Cell.{cells_at}
 use Rattle.grid.specs.Tables.{first_in_column, spliced}
@@ -8,6 +8,3 @@ use Rattle.grid.proofs.fill_columns.Given as goal
 
 abbrev pub invariant-loop-k : goal.invariant-loop-k
 invariant-loop-k l = (l.k ≤ l.n) × Started (u_parts l.keys) l.start l.k × (l.ranks ≡ spliced columns_at l.k (first_in_column l.n (cells_at l.keys)) l.initial.ranks)
-
-abbrev pub decreases-loop-k : goal.decreases-loop-k
-decreases-loop-k l = l.n - l.k

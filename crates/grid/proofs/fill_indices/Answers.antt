@@ -1,19 +1,23 @@
 use mathlib.Core.Path.{◌≡◌}
 use Prim.Native.Nat.{◌+◌, ◌-◌}
 use native.Mathlib.Omega.{arith}
+use Rattle.std.proofs.Common.{rules}
+use Rattle.sort.specs.Packed.{entries_of}
+use Rattle.sort.proofs.Entries.{entry_at}
 use Rattle.grid.specs.Tables.{entry_in}
-use Rattle.grid.proofs.Indices.{order_is, walked_start, walked_more, walked-done, rank_below}
+use Rattle.grid.proofs.Indices.{walked_start, walked_more, walked-done, rank_below}
 use Rattle.grid.proofs.fill_indices.Goals as goal
 
 pub loop-i-init : goal.loop-i-init
 loop-i-init c =
-    let few = c.requires.0 in
-    walked_start _ _ few _ (order_is _ _ _ few (rw c.packed_ranks-order.ensures at c.sort.ensures)) _ c.requires.1
+    let key = entry_in c.args.idx.now in
+    let e : c.in_order-order.result ≡ entries_of c.args.n key = c.in_order-order.ensures key (λ i r h p. search rules) in
+    walked_start _ _ c.requires.0 _ (λ r h. rw e (entry_at c.args.n key r h)) _ c.requires.1
 
 pub bounds-ranks-k : goal.bounds-ranks-k
 bounds-ranks-k c =
     let l = c.loop-i in
-    omega (arith, rank_below (entry_in c.args.idx.now) c.args.n c.requires.0 c.sort.new.a l.invariant.ordered (l.i - 1) (omega (arith, l.invariant.low)))
+    omega (arith, rank_below (entry_in c.args.idx.now) c.args.n c.requires.0 c.in_order-order.result l.invariant.ordered (l.i - 1) (omega (arith, l.invariant.low)))
 
 pub loop-i-preserved : goal.loop-i-preserved
 loop-i-preserved c =

@@ -4,6 +4,3 @@ use Rattle.grid.proofs.fill_indices.Given as goal
 
 abbrev pub invariant-loop-i : goal.invariant-loop-i
 invariant-loop-i l = Walked (entry_in l.idx) l.n l.order l.initial.ranks l.i l.ranks l.last
-
-abbrev pub decreases-loop-i : goal.decreases-loop-i
-decreases-loop-i l = l.i

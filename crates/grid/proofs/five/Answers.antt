@@ -5,33 +5,33 @@ use Rattle.grid.specs.Sweep.{standing, standing_from}
 use Rattle.grid.proofs.Splicing.{spliced-none, spliced-more}
 use Rattle.grid.proofs.Passing.{reached-hit, reached-miss, stands-there, stands-not}
 use Rattle.grid.proofs.five.Goals as goal
+use Rattle.grid.proofs.five.Goals.{then-stands, else-stands}
 
 pub loop-e-init : goal.loop-e-init
 loop-e-init c = record { most = omega arith; next = omega arith; size = c.requires.2.size; reached = c.requires.1; five = spliced-none _ _ _ }
-
-pub loop-e-preserved-then-stands : goal.loop-e-preserved-then-stands
-loop-e-preserved-then-stands c =
-    let a = c.args in
-    let l = c.loop-e in
-    let h = stands-there l.p a.n _ l.goal c.stands.ensures c.if-stands.true in
-    let r = reached-hit _ _ c.requires.0.rising l.invariant.reached h.0 h.1 in
-    record {
-      most = omega arith;
-      next = omega (arith, l.invariant.next);
-      size = length-set l.ranks _ _ ∙ l.invariant.size;
-      reached = r.1;
-      five = spliced-more a.to l.e (standing_from a.n (entry_in a.keys.now) a.target) l.p a.ranks.now (omega (arith, c.requires.2)) (sym r.0 ∙ ap (standing a.n (entry_in a.keys.now)) l.invariant.next) l.invariant.five;
-    }
 
 pub loop-e-preserved : goal.loop-e-preserved
 loop-e-preserved c =
     let a = c.args in
     let l = c.loop-e in
-    let r = reached-miss _ _ c.requires.0.rising l.invariant.reached (stands-not l.p a.n _ l.goal c.stands.ensures c.if-stands.false) in
-    record {
-      most = omega arith;
-      next = omega (arith, l.invariant.next);
-      size = length-set l.ranks _ _ ∙ l.invariant.size;
-      reached = r.1;
-      five = spliced-more a.to l.e (standing_from a.n (entry_in a.keys.now) a.target) a.n a.ranks.now (omega (arith, c.requires.2)) (sym r.0 ∙ ap (standing a.n (entry_in a.keys.now)) l.invariant.next) l.invariant.five;
-    }
+    elim c.if-stands.branch [
+      | then-stands w ↦
+          let h = stands-there l.p a.n _ l.goal c.stands.ensures w.if-stands.true in
+          let r = reached-hit _ _ c.requires.0.rising l.invariant.reached h.0 h.1 in
+          rw (w.ranks-is, w.p-is) (record {
+            most = omega arith;
+            next = omega (arith, l.invariant.next);
+            size = length-set l.ranks _ _ ∙ l.invariant.size;
+            reached = r.1;
+            five = spliced-more a.to l.e (standing_from a.n (entry_in a.keys.now) a.target) l.p a.ranks.now (omega (arith, c.requires.2)) (sym r.0 ∙ ap (standing a.n (entry_in a.keys.now)) l.invariant.next) l.invariant.five;
+          })
+      | else-stands w ↦
+          let r = reached-miss _ _ c.requires.0.rising l.invariant.reached (stands-not l.p a.n _ l.goal c.stands.ensures w.if-stands.false) in
+          rw (w.ranks-is, w.p-is) (record {
+            most = omega arith;
+            next = omega (arith, l.invariant.next);
+            size = length-set l.ranks _ _ ∙ l.invariant.size;
+            reached = r.1;
+            five = spliced-more a.to l.e (standing_from a.n (entry_in a.keys.now) a.target) a.n a.ranks.now (omega (arith, c.requires.2)) (sym r.0 ∙ ap (standing a.n (entry_in a.keys.now)) l.invariant.next) l.invariant.five;
+          })
+    ]

@@ -1,4 +1,4 @@
-use Rattle.std.proofs.Common.{◌≡◌, ℕ, ◌+◌, ◌-◌, ◌≤◌, List, length}
+use Rattle.std.proofs.Common.{◌≡◌, ℕ, ◌+◌, ◌≤◌, List, length}
 use Rattle.view.specs.View.{ranks_size}
 use Rattle.grid.specs.Tables.{entry_in, spliced}
 use Rattle.grid.specs.Sweep.{standing_from, Reached}
@@ -14,6 +14,3 @@ pub record Written (key : ℕ → ℕ) (n target to : ℕ) (ranks₀ ranks : Lis
 
 abbrev pub invariant-loop-e : goal.invariant-loop-e
 invariant-loop-e l = Written (entry_in l.keys) l.n l.target l.to l.initial.ranks l.ranks l.p l.goal l.e
-
-abbrev pub decreases-loop-e : goal.decreases-loop-e
-decreases-loop-e l = 5 - l.e

@@ -1,17 +1,12 @@
 use mathlib.Core.Path.{refl}
-use lib.ListN.{length-replicate}
-use Rattle.folds.specs.Arith.{zero_f}
-use Rattle.judged.specs.Columns.{measures_size}
 use Rattle.judged.specs.Judged.{judged_from}
 use Rattle.kept.proofs.Cases.{arrays, fit, done, turned}
 use Rattle.kept.proofs.keep_sheet.Goals as goal
 
 pub judge-j-requires : goal.judge-j-requires
 judge-j-requires c =
-    let a = c.args in (
-      arrays a.file.now a.rows.now (λ k. (c.type_inv.file k).fits) a.sheet c.requires c.if-number-eq0.true,
-      record { zeros = refl; long = length-replicate measures_size zero_f },
-    )
+    let a = c.args in
+    (arrays a.file.now a.rows.now (λ k. (c.type_inv.file k).fits) a.sheet c.requires c.if-number-eq0.true, refl)
 
 pub write_rows-requires : goal.write_rows-requires
 write_rows-requires c =

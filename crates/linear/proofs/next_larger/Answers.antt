@@ -1,4 +1,5 @@
 use mathlib.Core.Path.{◌∙◌, sym}
+use borrow.Author.Tests.{lt-ltb, le-ltb}
 use Rattle.folds.proofs.Below.{first-end}
 use Rattle.linear.specs.Linear.{next_larger}
 use Rattle.linear.proofs.Pivot.{next-found, next-passed}
@@ -9,7 +10,8 @@ unfolding next_larger
 returns-then-largest-magnitude c =
     let a = c.args in
     let t = c.loop-k-test.true in
-    next-found a.m.now a.i a.best c.loop-k.k t c.magnitude-largest.ensures c.magnitude.ensures c.if-largest-magnitude.true ∙ c.loop-k.invariant
+    let e = next-found a.m.now a.i a.best c.loop-k.k t c.magnitude-largest.ensures c.magnitude.ensures c.if-largest-magnitude.true ∙ c.loop-k.invariant in
+    record { value = rw (← e, lt-ltb c.loop-k.k 8 t); inside = t }
 
 pub loop-k-preserved : goal.loop-k-preserved
 loop-k-preserved c =
@@ -20,4 +22,6 @@ loop-k-preserved c =
 pub returns : goal.returns
 unfolding next_larger
 returns c =
-    sym (first-end _ _ _ c.loop-k-test.false) ∙ c.loop-k.invariant
+    let f = c.loop-k-test.false in
+    let e = sym (first-end _ _ _ f) ∙ c.loop-k.invariant in
+    record { value = rw (← e, le-ltb c.loop-k.k 8 f); inside = tt }

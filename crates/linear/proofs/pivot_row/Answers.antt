@@ -1,21 +1,22 @@
-use mathlib.Core.Path.{◌∙◌}
-use Prim.Native.Nat.{◌+◌}
+use mathlib.Core.Path.{sym, ◌∙◌, refl}
 use native.Mathlib.Omega.{arith}
-use Rattle.linear.proofs.Pivot.{search-starts, search-goes-on, next-after}
-use borrow.Author.Rules.{rules}
+use Rattle.linear.specs.Linear.{pivot_row}
+use Rattle.linear.proofs.Pivot.{search-goes-on, search-ends, next-after}
 use Rattle.linear.proofs.pivot_row.Goals as goal
 
 pub loop-k-init : goal.loop-k-init
-loop-k-init c =
-    (search rules, rw c.next_larger-k.ensures (search-starts _ _ c.requires))
+unfolding pivot_row
+loop-k-init c = (c.requires, refl)
 
 pub loop-k-smaller : goal.loop-k-smaller
-loop-k-smaller c =
-    let a = c.args in
-    let k = c.loop-k.k in
-    omega (arith, c.next_larger-k-in-loop-k.ensures, next-after a.m.now a.i k (k + 1))
+loop-k-smaller c = let l = next-after _ _ _ _ (sym c.in-Some.ensures.value) in omega (arith, c.in-Some.ensures.inside)
 
 pub loop-k-preserved : goal.loop-k-preserved
 loop-k-preserved c =
     let l = c.loop-k in
-    (search rules, rw c.next_larger-k-in-loop-k.ensures (search-goes-on _ _ l.best _ c.loop-k-test.true ∙ l.invariant.1))
+    (c.in-Some.ensures.inside, sym (search-goes-on _ _ _ _ l.invariant.0 (sym c.in-Some.ensures.value)) ∙ l.invariant.1)
+
+pub returns : goal.returns
+returns c =
+    let l = c.loop-k in
+    (l.invariant.0, sym (search-ends _ _ _ l.invariant.0 (sym c.in_default.ensures.value)) ∙ l.invariant.1)

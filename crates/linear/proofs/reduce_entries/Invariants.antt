@@ -1,11 +1,7 @@
 use mathlib.Core.Path.{◌≡◌}
-use Prim.Native.Nat.{◌-◌}
 use Rattle.folds.specs.Run.{run}
 use Rattle.linear.specs.Linear.{reduce_entry}
 use Rattle.linear.proofs.reduce_entries.Given as goal
 
 abbrev pub invariant-loop-j : goal.invariant-loop-j
-invariant-loop-j l = run (reduce_entry l.p l.k l.t) l.j l.end l.m ≡ run (reduce_entry l.p l.k l.t) l.initial.j l.end l.initial.m
-
-abbrev pub decreases-loop-j : goal.decreases-loop-j
-decreases-loop-j l = l.end - l.j
+invariant-loop-j l = run (reduce_entry l.p l.k l.t) l.j l.end l.m ≡ run (reduce_entry l.p l.k l.t) l.from l.end l.initial.m

@@ -10,7 +10,7 @@ returns-then-i-lt4 c =
     let h = c.if-i-lt4.true in
     c.reduce_entries-then-i-lt4.ensures ∙ rw c.reduce_entries.ensures (run-parts _ _ _ _ _ (omega (arith, h)) (omega arith))
 
-pub returns : goal.returns
+pub returns-else-i-lt4 : goal.returns-else-i-lt4
 unfolding reduce_row
-returns c =
-    c.reduce_entries-2.ensures
+returns-else-i-lt4 c =
+    c.reduce_entries-else-i-lt4.ensures

@@ -1,11 +1,8 @@
 use mathlib.Core.Path.{◌≡◌}
-use Prim.Native.Nat.{◌-◌}
+use Prim.Native.Nat.{◌+◌}
 use Rattle.folds.specs.Run.{run}
 use Rattle.linear.specs.Linear.{reduce_row}
 use Rattle.linear.proofs.reduce_rows.Given as goal
 
 abbrev pub invariant-loop-k : goal.invariant-loop-k
-invariant-loop-k l = run (reduce_row l.p l.i l.inverse) l.k 8 l.m ≡ run (reduce_row l.p l.i l.inverse) l.initial.k 8 l.initial.m
-
-abbrev pub decreases-loop-k : goal.decreases-loop-k
-decreases-loop-k l = 8 - l.k
+invariant-loop-k l = run (reduce_row l.p l.i l.inverse) l.k 8 l.m ≡ run (reduce_row l.p l.i l.inverse) (l.i + 1) 8 l.initial.m

@@ -1,11 +1,7 @@
 use mathlib.Core.Path.{◌≡◌}
-use Prim.Native.Nat.{◌-◌}
 use Rattle.folds.specs.Run.{run}
 use Rattle.linear.specs.Linear.{eliminate_column}
 use Rattle.linear.proofs.solve.Given as goal
 
 abbrev pub invariant-loop-i : goal.invariant-loop-i
-invariant-loop-i l = run eliminate_column l.i 8 (record { rows = l.m; right = l.y }) ≡ run eliminate_column l.initial.i 8 (record { rows = l.initial.m; right = l.initial.y })
-
-abbrev pub decreases-loop-i : goal.decreases-loop-i
-decreases-loop-i l = 8 - l.i
+invariant-loop-i l = run eliminate_column l.i 8 (record { rows = l.m; right = l.y }) ≡ run eliminate_column 0 8 (record { rows = l.initial.m; right = l.initial.y })

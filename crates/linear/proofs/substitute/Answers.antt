@@ -7,4 +7,4 @@ returns-then-zero_diagonal c = rw (← c.zero_diagonal.ensures, c.if-zero_diagon
 
 pub returns : goal.returns
 unfolding substituted
-returns c = rw (← c.zero_diagonal.ensures, c.if-zero_diagonal.false, c.backward-x.ensures, c.forward-y.ensures)
+returns c = rw (← c.zero_diagonal.ensures, c.if-zero_diagonal.false, c.backward.ensures, c.forward-y.ensures)

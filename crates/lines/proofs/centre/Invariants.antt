@@ -4,11 +4,8 @@ use Rattle.folds.specs.Arith.{◌⊕◌, zero_f}
 use lib.Ieee.{Float}
 use lib.ListN.{take}
 use mathlib.Core.Path.{◌≡◌}
-use Prim.Native.Nat.{ℕ, ◌≤◌, ◌-◌}
+use Prim.Native.Nat.{ℕ}
 use Rattle.lines.proofs.centre.Given as goal
 
-abbrev pub invariant-loop-i : goal.invariant-loop-i
-invariant-loop-i l = (l.i ≤ l.c) × (l.cx ≡ over (λ (s : Float) (j : ℕ). s ⊕ value_at l.x j) zero_f (take l.i l.l)) × (l.cy ≡ over (λ (s : Float) (j : ℕ). s ⊕ value_at l.y j) zero_f (take l.i l.l))
-
-abbrev pub decreases-loop-i : goal.decreases-loop-i
-decreases-loop-i l = l.c - l.i
+abbrev pub invariant-loop-j : goal.invariant-loop-j
+invariant-loop-j l = (l.cx ≡ over (λ (s : Float) (j : ℕ). s ⊕ value_at l.x j) zero_f (take l.j-index l.members)) × (l.cy ≡ over (λ (s : Float) (j : ℕ). s ⊕ value_at l.y j) zero_f (take l.j-index l.members))

@@ -1,8 +1,5 @@
-use Rattle.lines.specs.Fit.{fit_of, centre_of, line_around}
-use lib.Ieee.{Float}
-use mathlib.Core.List.{List}
-use mathlib.Core.Path.{◌≡◌, refl}
-use Prim.Native.Nat.{ℕ}
+use Rattle.std.proofs.Common.{◌≡◌, List, ℕ, Float, refl}
+use Rattle.lines.specs.Fit.{centre_of, line_around, fit_of}
 use Rattle.lines.proofs.fit.Goals as goal
 
 fit_is : (x y : ℕ → Float) (l : List ℕ) → line_around x y (centre_of x y l) l ≡ fit_of x y l
@@ -10,5 +7,4 @@ unfolding fit_of
 fit_is x y l = refl
 
 pub returns : goal.returns
-returns c =
-    rw (c.line_around.ensures, c.centre-v.ensures) (fit_is _ _ _)
+returns c = rw (c.line_around.ensures, c.centre.ensures) (fit_is _ _ _)

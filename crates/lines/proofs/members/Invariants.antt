@@ -1,15 +1,13 @@
 use Rattle.folds.specs.Lists.{Gathered}
 use Rattle.folds.specs.Below.{first}
 use Rattle.lines.specs.Lines.{Linked}
-use Rattle.view.specs.View.{max_points}
-use lib.ListN.{length}
 use mathlib.Core.Bool.{Bool, true}
 use mathlib.Core.Path.{◌≡◌}
 use Prim.Native.Nat.{ℕ, ◌≤◌, ◌<◌, ◌-◌}
 use Rattle.lines.proofs.members.Given as goal
 
 abbrev pub invariant-loop-k : goal.invariant-loop-k
-invariant-loop-k l = (l.k ≤ l.n) × (l.c ≤ l.k) × (length l.out ≡ max_points) × ((p : ℕ → Bool) → Linked p l.n l.next → first p 0 l.n ≡ l.from → Gathered p l.k l.out l.c × (l.k < l.n → p l.k ≡ true))
+invariant-loop-k l = (l.k ≤ l.n) × (l.c ≤ l.k) × ((p : ℕ → Bool) → Linked p l.n l.nexts → first p 0 l.n ≡ l.from → Gathered p l.k l.out l.c × (l.k < l.n → p l.k ≡ true))
 
 abbrev pub decreases-loop-k : goal.decreases-loop-k
 decreases-loop-k l = l.n - l.k

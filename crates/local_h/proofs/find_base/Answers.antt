@@ -1,8 +1,8 @@
-use mathlib.Core.Path.{sym, ◌∙◌}
-use Rattle.local_h.proofs.Bases.{nearest-found}
+use Rattle.local_h.proofs.Finding.{nearest-found}
 use Rattle.local_h.proofs.find_base.Goals as goal
 
-pub returns-then-are_others : goal.returns-then-are_others
-returns-then-are_others c xs ys =
-    let a = c.args in
-    nearest-found a.n a.ranks.now a.k xs ys c.member-i.ensures c.member-j.ensures c.member-l.ensures c.member-m.ensures (sym c.are_others.ensures ∙ c.if-are_others.true)
+pub returns-then-is_some-4 : goal.returns-then-is_some-4
+returns-then-is_some-4 c xs ys =
+    let l = c.args.lattice.now in
+    nearest-found l.count l.ranks.now c.args.k xs ys c.other-a.ensures.value c.other-b.ensures.value c.other-c.ensures.value c.other-d.ensures.value
+    c.if-is_some.ensures c.if-is_some-2.ensures c.if-is_some-3.ensures c.if-is_some-4.ensures

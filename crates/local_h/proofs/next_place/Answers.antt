@@ -1,43 +1,29 @@
-use mathlib.Core.List.{List, []}
-use mathlib.Core.Path.{◌≡◌, refl, sym, ap, ◌∙◌}
-use Prim.Native.Nat.{ℕ, ◌+◌, ◌*◌}
-use native.Mathlib.Omega.{arith}
-use lib.ListN.{get_or, get_or-eq_default}
-use Rattle.offsets.specs.Offsets.{own, place_of}
-use Rattle.offsets.specs.declared.Offset.{Offset}
-use Rattle.view.specs.View.{view_at}
-use Rattle.local_h.specs.Order.{nearest_first, offset_at}
-use Rattle.local_h.specs.Base.{member_at}
-use Rattle.local_h.proofs.Bases.{serving-is}
-use Rattle.local_h.proofs.Searching.{search-start, search-more, search-found, search-end}
+use Rattle.std.proofs.Common.{refl, sym, ◌∙◌, arith}
+use Rattle.view.specs.Seen.{lattice_in}
+use Rattle.local_h.proofs.Finding.{asked, passed-none, passed-some, stopped, ended}
 use Rattle.local_h.proofs.next_place.Goals as goal
-
--- the rank that was read is the one at place p
-member : (ranks : List ℕ) (n k p j : ℕ) (o : Offset) → o ≡ offset_at p → j ≡ get_or ranks (25 * k + place_of o) 0 → j ≡ member_at (view_at n ranks [] []) k p
-member ranks n k p j o e h = h ∙ ap (λ (x : Offset). get_or ranks (25 * k + place_of x) 0) e
+use Rattle.local_h.proofs.next_place.Goals.{in-Some+else-serves, in_default}
 
 pub loop-p-init : goal.loop-p-init
-loop-p-init c = search-start _ _
-
-pub returns-then-serves : goal.returns-then-serves
-returns-then-serves c =
-    let a = c.args in
-    let o = c.offset_at-o.ensures in
-    let m = member a.ranks.now a.n a.k c.loop-p.p _ _ o.0 c.rank_at-j.ensures in
-    record {
-      place = search-found _ _ _ c.loop-p-test.true (sym (c.serves.ensures ∙ serving-is _ _ _ _ _ _ o.0 m) ∙ c.if-serves.true) c.loop-p.invariant;
-      within = o.1;
-      offset = o.0;
-      rank = λ h. m;
-    }
+loop-p-init g c h t = refl
 
 pub loop-p-preserved : goal.loop-p-preserved
-loop-p-preserved c =
-    let a = c.args in
-    let o = c.offset_at-o.ensures in
-    let m = member a.ranks.now a.n a.k c.loop-p.p _ _ o.0 c.rank_at-j.ensures in
-    search-more _ _ _ c.loop-p-test.true (sym (c.serves.ensures ∙ serving-is _ _ _ _ _ _ o.0 m) ∙ c.if-serves.false) c.loop-p.invariant
+loop-p-preserved g c h t =
+    let w = lattice_in c.args.lattice.now in
+    let left = c.loop-p.invariant h t in
+    elim c.match-other.branch [
+      | in-Some+else-serves b ↦ passed-some w c.args.k h c.args.start c.loop-p.p left c.loop-p-test.true b.in-Some.ensures.value (sym (t b.in-Some.f.offset b.serves.result b.in-Some.ensures.within b.serves.ensures) ∙ b.if-serves.false)
+      | in_default b ↦ passed-none w c.args.k h c.args.start c.loop-p.p left c.loop-p-test.true b.in_default.ensures.value
+    ]
 
-pub returns : goal.returns
-returns c =
-    record { place = search-end _ _ _ c.loop-p-test.false c.loop-p.invariant; within = refl; offset = sym (get_or-eq_default nearest_first own c.loop-p-test.false); rank = λ h. absurd (omega arith) }
+pub returns-then-serves-clause-value : goal.returns-then-serves-clause-value
+returns-then-serves-clause-value g c h t =
+    stopped (lattice_in c.args.lattice.now) c.args.k h c.args.start c.loop-p.p (c.loop-p.invariant h t) c.loop-p-test.true c.in-Some.ensures.value (sym (t c.in-Some.f.offset c.serves.result c.in-Some.ensures.within c.serves.ensures) ∙ c.if-serves.true)
+
+pub returns-then-serves-clause-within : goal.returns-then-serves-clause-within
+returns-then-serves-clause-within g c =
+    (omega (arith, asked (lattice_in c.args.lattice.now) c.args.k c.loop-p.p c.in-Some.ensures.value), c.in-Some.ensures.within)
+
+pub returns-clause-value : goal.returns-clause-value
+returns-clause-value g c h t =
+    ended (lattice_in c.args.lattice.now) c.args.k h c.args.start c.loop-p.p (c.loop-p.invariant h t) c.loop-p-test.false

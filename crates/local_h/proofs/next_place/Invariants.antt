@@ -1,12 +1,13 @@
-use mathlib.Core.List.{[]}
-use Prim.Native.Nat.{◌-◌}
-use Rattle.view.specs.View.{view_at}
-use Rattle.local_h.specs.Base.{is_serving}
-use Rattle.local_h.proofs.Searching.{Searching}
+use Rattle.std.proofs.Common.{◌≡◌, Bool, true, ◌&&◌, ℕ}
+use Rattle.folds.specs.Below.{first}
+use Rattle.offsets.specs.declared.Offset.{Offset}
+use Rattle.offsets.specs.Offsets.{is_near}
+use Rattle.view.specs.Seen.{lattice_in}
+use Rattle.local_h.specs.Order.{offset_at}
+use Rattle.local_h.specs.Base.{is_other}
 use Rattle.local_h.proofs.next_place.Given as goal
 
 abbrev pub invariant-loop-p : goal.invariant-loop-p
-invariant-loop-p l = Searching (is_serving (view_at l.n l.ranks [] []) l.k l.leave l.e l.f) l.start l.p
-
-abbrev pub decreases-loop-p : goal.decreases-loop-p
-decreases-loop-p l = 24 - l.p
+invariant-loop-p g l =
+    (h : Offset → Bool) → ((o : Offset) (r : Bool) → is_near o ≡ true → goal.F-post g l.serves o r → r ≡ h o)
+    → first (λ (p : ℕ). h (offset_at p) && is_other (lattice_in l.lattice) l.k p) l.p 24 ≡ first (λ (p : ℕ). h (offset_at p) && is_other (lattice_in l.lattice) l.k p) l.start 24

@@ -2,19 +2,16 @@ use native.Mathlib.Omega.{arith}
 use lib.IntN.{pos, ◌-ℤ◌}
 use Rattle.cells.specs.Points.{bias}
 use Rattle.cells.specs.Cell.{cells_at}
-use borrow.Author.Rules.{rules}
 use Rattle.map_lines.proofs.Drawing.{drawn-none, drawn-more}
 use Rattle.map_lines.proofs.draw.Goals as goal
 
 pub loop-k-init : goal.loop-k-init
 loop-k-init c =
-    let a = c.args in (search rules, drawn-none (cells_at a.keys.now) a.marks.now (pos a.u -ℤ pos bias) (pos a.v -ℤ pos bias))
+    let a = c.args in drawn-none (cells_at a.keys.now) a.marks.now (pos a.u -ℤ pos bias) (pos a.v -ℤ pos bias)
 
 pub loop-k-preserved : goal.loop-k-preserved
 loop-k-preserved c =
     let a = c.args in
-    let k = c.loop-k.k in (
-      search rules,
-      rw (c.v_part.ensures, c.u_part.ensures)
-          (drawn-more a.keys.now a.marks.now a.n k a.u a.v c.character.result c.loop-k.page c.requires.1 (omega arith) c.character.ensures c.loop-k.invariant.1),
-    )
+    let k = c.loop-k.k in
+    rw (c.v_part.ensures, c.u_part.ensures)
+    (drawn-more a.keys.now a.marks.now a.n k a.u a.v c.character.result c.loop-k.page c.requires.1 (omega arith) c.character.ensures c.loop-k.invariant)

@@ -5,19 +5,17 @@ use borrow.Author.Rules.{rules}
 use Rattle.map_lines.specs.Map.{columns}
 use Rattle.map_lines.specs.Page.{page_line}
 use Rattle.map_lines.proofs.put_characters.Goals as goal
-use Rattle.map_lines.proofs.put_characters.Invariants.{character}
 
 pub loop-j-init : goal.loop-j-init
 loop-j-init c =
-    (search rules, stored-start (character c.args.page.now c.args.i))
+    search (rules, stored-start)
 
 pub loop-j-preserved : goal.loop-j-preserved
 loop-j-preserved c =
-    let a = c.args in
-    (search rules, stored_more (character a.page.now a.i) c.loop-j.invariant.1 c.put_byte-next.ensures)
+    search (rules, stored_more)
 
 pub returns : goal.returns
 unfolding page_line
 returns c =
     let e : c.loop-j.j ≡ columns = omega arith in
-    rw e at c.loop-j.invariant.1
+    rw e at c.loop-j.invariant

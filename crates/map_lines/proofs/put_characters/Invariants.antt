@@ -1,5 +1,5 @@
 use mathlib.Core.List.{List, [], ◌∷◌}
-use Prim.Native.Nat.{ℕ, ◌+◌, ◌-◌, ◌*◌, ◌≤◌}
+use Prim.Native.Nat.{ℕ, ◌+◌, ◌*◌}
 use lib.ListN.{get_or}
 use Rattle.text.specs.Text.{each}
 use Rattle.text.specs.Stored.{Stored}
@@ -10,7 +10,4 @@ abbrev pub character : List ℕ → ℕ → ℕ → List ℕ
 character page i j = get_or page (columns * i + j) 0 ∷ []
 
 abbrev pub invariant-loop-j : goal.invariant-loop-j
-invariant-loop-j l = (l.j ≤ columns) × Stored l.initial.out l.at (each (character l.page l.i) l.j) l.out l.to
-
-abbrev pub decreases-loop-j : goal.decreases-loop-j
-decreases-loop-j l = columns - l.j
+invariant-loop-j l = Stored l.initial.w (each (character l.page l.i) l.j) l.w

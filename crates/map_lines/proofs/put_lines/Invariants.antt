@@ -1,5 +1,5 @@
 use mathlib.Core.List.{List}
-use Prim.Native.Nat.{ℕ, ◌+◌, ◌-◌, ◌≤◌}
+use Prim.Native.Nat.{ℕ, ◌+◌}
 use lib.IntN.{pos, ◌-ℤ◌}
 use Rattle.cells.specs.Points.{bias}
 use Rattle.text.specs.Text.{each}
@@ -12,7 +12,4 @@ abbrev pub line : List ℕ → ℕ → ℕ → List ℕ
 line page v i = line_text (pos (v + i) -ℤ pos bias) (page_line page i)
 
 abbrev pub invariant-loop-i : goal.invariant-loop-i
-invariant-loop-i l = (l.i ≤ l.count) × Stored l.initial.out l.at (each (line l.page l.v) l.i) l.out l.to
-
-abbrev pub decreases-loop-i : goal.decreases-loop-i
-decreases-loop-i l = l.count - l.i
+invariant-loop-i l = Stored l.initial.w (each (line l.page l.v) l.i) l.w

@@ -1,3 +1,4 @@
+use Rattle.std.proofs.Common.{rules}
 use Rattle.text.proofs.Stores.{shows}
 use Rattle.map_lines.proofs.Drawing.{page-is}
 use Rattle.map_lines.proofs.write_map.Goals as goal
@@ -5,4 +6,6 @@ use Rattle.map_lines.proofs.write_map.Goals as goal
 pub returns : goal.returns
 returns c =
     let a = c.args in
-    shows (rw (page-is a.keys.now a.n a.u a.v c.requires.1 c.requires.2 c.requires.3 a.marks.now c.draw-page.result c.draw-page.ensures) at c.put_lines-a.ensures) c.answer.ensures
+    shows c.new-w.ensures
+    (rw (page-is a.keys.now a.n a.u a.v c.requires.1 c.requires.2 c.requires.3 a.marks.now c.draw-page.result c.draw-page.ensures) at c.put_lines.ensures)
+    c.answer.ensures (search rules)

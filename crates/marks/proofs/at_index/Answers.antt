@@ -25,14 +25,14 @@ loop-k-init c =
 pub loop-k-preserved : goal.loop-k-preserved
 loop-k-preserved c =
     let a = c.args in
-    (omega arith, marked_more (hits a.ranks.now a.mark.now a.n) c.loop-k.k c.loop-k.invariant.1 (rw c.index_of.ensures at c.set_if.ensures))
+    (omega arith, marked_more (hits a.lattice.now.ranks.now a.mark.now a.lattice.now.count) c.loop-k.k c.loop-k.invariant.1 (rw c.index.ensures at c.set_if.ensures))
 
 pub returns : goal.returns
 returns c =
     let a = c.args in
-    let h : c.loop-k.k ≡ a.n = omega arith in
-    let place : ℕ → ℕ = λ k. get_or a.ranks.now (indices_at + k) 0 in
-    each-as-column (hits a.ranks.now a.mark.now a.n) (λ (j m : ℕ). is_set a.mark.now j && eqb (place j) m) max_points a.n (omega arith)
-    (λ k m g l. rw (past (place k) m a.n l) (and-false (is_set a.mark.now k)))
-    (λ k m g l. rw (guard (place k) m a.n l))
+    let h : c.loop-k.k ≡ a.lattice.now.count = omega arith in
+    let place : ℕ → ℕ = λ k. get_or a.lattice.now.ranks.now (indices_at + k) 0 in
+    each-as-column (hits a.lattice.now.ranks.now a.mark.now a.lattice.now.count) (λ (j m : ℕ). is_set a.mark.now j && eqb (place j) m) max_points a.lattice.now.count (omega arith)
+    (λ k m g l. rw (past (place k) m a.lattice.now.count l) (and-false (is_set a.mark.now k)))
+    (λ k m g l. rw (guard (place k) m a.lattice.now.count l))
     (rw h at c.loop-k.invariant.1)

@@ -1,4 +1,4 @@
-use Prim.Native.Nat.{ℕ, ◌-◌, ◌≤◌, ◌<◌}
+use Prim.Native.Nat.{ℕ, ◌≤◌, ◌<◌}
 use lib.Ieee.{nan}
 use lib.ListN.{get_or, replicate}
 use Rattle.folds.specs.Column.{Filling}
@@ -9,6 +9,3 @@ use Rattle.median.proofs.keys.Given as goal
 
 abbrev pub invariant-loop-k : goal.invariant-loop-k
 invariant-loop-k l = (l.k ≤ l.n) × Filling (replicate max_points 0) 0 (packed (key_at l.v)) l.k l.out × ((j : ℕ) → j < l.k → Number (get_or l.v j nan))
-
-abbrev pub decreases-loop-k : goal.decreases-loop-k
-decreases-loop-k l = l.n - l.k

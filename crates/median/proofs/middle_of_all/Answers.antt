@@ -1,6 +1,6 @@
 use Rattle.median.specs.Keys.{key_at}
 use Rattle.median.proofs.Sorting.{key-in-order, no-median, median-at}
-use Rattle.float.proofs.Nan.{zero-over-zero}
+use Rattle.float.proofs.Nan.{nan-is}
 use Rattle.folds.proofs.Lists.{length-list}
 use Rattle.sort.proofs.Packed.{placed_below}
 use native.Mathlib.Omega.{arith}
@@ -10,7 +10,7 @@ use Rattle.median.proofs.middle_of_all.Goals as goal
 
 pub returns-then-n-eq0 : goal.returns-then-n-eq0
 returns-then-n-eq0 c =
-    zero-over-zero ∙ sym (no-median _ (length-list _ _ ∙ c.if-n-eq0.true))
+    nan-is ∙ sym (no-median _ (length-list _ _ ∙ c.if-n-eq0.true))
 
 pub bounds-v-a : goal.bounds-v-a
 bounds-v-a c =

@@ -5,13 +5,13 @@ use native.Mathlib.Omega.{arith}
 use Rattle.median.proofs.pack.Goals as goal
 
 pub loop-k-init : goal.loop-k-init
-loop-k-init c =
-    (omega arith, packed_none _ _ c.requires.1)
+loop-k-init c = packed_none _ _ c.told-a
 
 pub put-c-requires : goal.put-c-requires
-put-c-requires c =
-    let i = c.loop-k.invariant.1 in (omega (arith, i.count, tally-le (positive_at c.args.v.now) c.loop-k.k), i.size)
+put-c-requires c = omega (arith, c.loop-k.invariant.count, tally-le (positive_at c.args.v.now) c.loop-k.k)
 
 pub loop-k-preserved : goal.loop-k-preserved
-loop-k-preserved c =
-    (omega arith, packed_more c.args.v.now c.loop-k.k c.loop-k.invariant.1 c.put-c.ensures)
+loop-k-preserved c = packed_more c.args.v.now c.loop-k.k c.loop-k.invariant c.put-c.ensures
+
+pub returns-clause-few : goal.returns-clause-few
+returns-clause-few c = omega (arith, c.loop-k.invariant.count, tally-le (positive_at c.args.v.now) c.loop-k.k)

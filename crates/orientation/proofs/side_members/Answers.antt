@@ -1,9 +1,8 @@
 use mathlib.Core.Path.{◌≡◌, refl}
-use mathlib.Core.List.{[]}
 use native.Mathlib.Omega.{arith}
 use Rattle.folds.specs.Below.{some}
 use Rattle.folds.proofs.Marked.{marked-none, marked_more}
-use Rattle.view.specs.View.{view_at}
+use Rattle.view.specs.Seen.{view_in}
 use Rattle.orientation.specs.Voters.{voters}
 use Rattle.orientation.proofs.Laws.{members-column}
 use Rattle.orientation.proofs.side_members.Goals as goal
@@ -19,4 +18,4 @@ loop-k-preserved c =
 
 pub returns : goal.returns
 returns c =
-    let a = c.args in let h : c.loop-k.k ≡ a.n = omega arith in members-column (view_at a.n a.ranks.now [] []) a.vote.now a.side (omega arith) (rw h at c.loop-k.invariant.1)
+    let a = c.args in let h : c.loop-k.k ≡ a.view.now.lattice.count = omega arith in members-column (view_in a.view.now) a.vote.now a.side (omega arith) (rw h at c.loop-k.invariant.1)

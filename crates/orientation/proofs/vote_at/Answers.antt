@@ -1,18 +1,17 @@
-use borrow.Author.Tests.{lt-ltb, le-ltb}
+use Rattle.view.proofs.Found.{not-found, found, found-below}
 use Rattle.orientation.specs.Orientation.{vote_at}
 use Rattle.orientation.proofs.vote_at.Goals as goal
 
-pub returns-then-n-a : goal.returns-then-n-a
+pub returns-in_default : goal.returns-in_default
 unfolding vote_at
-returns-then-n-a c =
-    rw (← c.rank_at-a.ensures, le-ltb _ _ c.if-n-a.true)
+returns-in_default c = rw (not-found _ _ c.in_default.ensures.value)
 
-pub returns-then-n-b : goal.returns-then-n-b
+pub returns-in_default-neighbour : goal.returns-in_default-neighbour
 unfolding vote_at
-returns-then-n-b c =
-    rw (← c.rank_at-a.ensures, lt-ltb _ _ c.if-n-a.false, ← c.rank_at-b.ensures, le-ltb _ _ c.if-n-b.true)
+returns-in_default-neighbour c = rw (found-below _ _ c.in-Some.ensures.value, not-found _ _ c.in_default-neighbour.ensures.value)
 
 pub returns : goal.returns
 unfolding vote_at
 returns c =
-    rw (← c.rank_at-a.ensures, lt-ltb _ _ c.if-n-a.false, ← c.rank_at-b.ensures, lt-ltb _ _ c.if-n-b.false, ← c.cross_of.ensures) c.vote_by.ensures
+    rw (found-below _ _ c.in-Some.ensures.value, found-below _ _ c.in-Some-neighbour.ensures.value, found _ _ c.in-Some.ensures.value, found _ _ c.in-Some-neighbour.ensures.value, ← c.cross_of.ensures)
+    c.vote_by.ensures

@@ -1,12 +1,15 @@
-use Prim.Native.Nat.{◌-◌}
+use Rattle.std.proofs.Common.{◌-◌}
+use Rattle.offsets.specs.Offsets.{places}
 use Rattle.view.specs.View.{max_points}
-use Rattle.peel.specs.Work.{Chained}
 use Rattle.peel.proofs.Turning.{Sheet, Ready}
 use Rattle.peel.proofs.weak_leaf_peel.Given as goal
 
 abbrev pub invariant-loop-from : goal.invariant-loop-from
 invariant-loop-from l =
-    Sheet l.n l.ranks l.sides × Chained l.ranks l.n l.chains × Ready l.n l.ranks l.sides l.dropped l.weak l.rounds l.from l.state l.marks l.queue l.tail
+    let n = l.links.view.lattice.count in
+    let ranks = l.links.view.lattice.ranks.now in
+    let sides = places l.links.sides.now in
+    Sheet n ranks sides × Ready n ranks sides l.dropped l.weak l.rounds l.from l.state l.gone.marks l.gone.queue l.gone.tail
 
 abbrev pub decreases-loop-from : goal.decreases-loop-from
 decreases-loop-from l = max_points - l.from

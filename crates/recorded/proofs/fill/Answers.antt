@@ -9,6 +9,6 @@ pub returns : goal.returns
 unfolding filler
 returns c =
     let l = c.loop-i in
-    let e : l.i ≡ length c.args.buffer.now = omega (arith, l.invariant.0) in
-    let g = rw e at l.invariant.1 in
+    let e : l.i ≡ length c.args.buffer.now = omega arith in
+    let g = rw e at l.invariant in
     is-list 0 _ _ _ g.long g.done

@@ -14,19 +14,19 @@ unfolding full
 returns-then-run-ge-MOST_SHEETS c =
     rw (le-leb most_sheets c.args.run.sheets (omega arith))
 
-pub returns-then-sums-i-ge-SUM_LIMIT : goal.returns-then-sums-i-ge-SUM_LIMIT
+pub returns-then-sum-ge-SUM_LIMIT : goal.returns-then-sum-ge-SUM_LIMIT
 unfolding full
-returns-then-sums-i-ge-SUM_LIMIT c =
-    let l = c.loop-i in
+returns-then-sum-ge-SUM_LIMIT c =
+    let l = c.loop-sum in
     let run = c.args.run in
     let e : leb most_sheets run.sheets ≡ false = lt-leb most_sheets run.sheets (omega arith) in
-    rw (e, ← l.invariant, any_next (leb sum_limit) run.new_sums l.i 0 (search rules), le-leb _ _ c.if-sums-i-ge-SUM_LIMIT.true)
+    rw (e, ← l.invariant, any_next (leb sum_limit) run.new_sums l.sum-index 0 (search rules), le-leb _ _ c.if-sum-ge-SUM_LIMIT.true)
 
 pub returns : goal.returns
 unfolding full
 returns c =
-    let l = c.loop-i in
+    let l = c.loop-sum in
     let run = c.args.run in
     let e : leb most_sheets run.sheets ≡ false = lt-leb most_sheets run.sheets (omega arith) in
     let size : length run.new_sums ≡ length summed = search rules in
-    rw (e, ← l.invariant, any-end (leb sum_limit) run.new_sums l.i (omega arith))
+    rw (e, ← l.invariant, any-end (leb sum_limit) run.new_sums l.sum-index (omega arith))

@@ -1,5 +1,4 @@
 use Rattle.sheet_file.proofs.Floats.{settings-inside, full-inside}
-use Rattle.sheet_file.specs.Refusals.{settings_of}
 use native.Mathlib.Omega.{arith}
 use Rattle.sheet_file.proofs.settings_of.Goals as goal
 
@@ -7,14 +6,6 @@ pub settings_in-requires : goal.settings_in-requires
 settings_in-requires c =
     let h = c.requires in record { fits = h.held.long c.if-f.true; inside = full-inside _ _ h.inside c.if-f.true }
 
-pub returns-then-f : goal.returns-then-f
-unfolding settings_of
-returns-then-f c = rw (← c.edge_shape_of-gate.ensures, ← c.fraction_of-fraction.ensures, c.if-f.true) c.settings_in.ensures
-
 pub float_at-requires : goal.float_at-requires
 float_at-requires c =
     let h = c.requires in record { fits = omega (arith, h.held.short); inside = (settings-inside _ _ h.inside).0 }
-
-pub returns : goal.returns
-unfolding settings_of
-returns c = rw (← c.edge_shape_of-gate.ensures, ← c.fraction_of-fraction.ensures, c.if-f.false, ← c.float_at.ensures) c.new.ensures

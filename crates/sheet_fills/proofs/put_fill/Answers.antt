@@ -10,4 +10,4 @@ pub returns : goal.returns
 unfolding fill_bytes
 returns c =
     rw (ne_eqb _ _ c.if-marks-eq0.false)
-    (stored-then (stored-then (rw c.u_part.ensures at c.put_cell_number-a.ensures) (rw c.v_part.ensures at c.put_cell_number-b.ensures)) c.put_prediction.ensures)
+    (stored-then (stored-then (rw c.u_part.ensures at c.put_cell_number.ensures) (rw c.v_part.ensures at c.put_cell_number-2.ensures)) c.put_prediction.ensures)

@@ -1,7 +1,4 @@
 use mathlib.Core.Path.{refl}
-use lib.ListN.{length-replicate}
-use Rattle.folds.specs.Arith.{zero_f}
-use Rattle.judged.specs.Columns.{measures_size}
 use Rattle.judged.specs.Judged.{judged_from}
 use Rattle.sheet_listing.proofs.Cases.{arrays, few, listed, turned}
 use Rattle.sheet_listing.proofs.list_sheet.Goals as goal
@@ -10,7 +7,7 @@ pub judge_sheet-j-requires : goal.judge_sheet-j-requires
 judge_sheet-j-requires c = (
   arrays c.args.file.now (λ k. (c.type_inv.file k).fits) c.read-sheet.result c.read-sheet.ensures c.if-number-eq0.true,
   refl,
-  record { zeros = refl; long = length-replicate measures_size zero_f },
+  refl,
 )
 
 pub fills-fills-requires : goal.fills-fills-requires
@@ -23,7 +20,7 @@ pub returns-then-number-eq0 : goal.returns-then-number-eq0
 unfolding judged_from
 returns-then-number-eq0 c =
     rw (listed c.args.file.now (λ k. (c.type_inv.file k).fits) c.read-sheet.result c.read-sheet.ensures c.if-number-eq0.true c.judge_sheet-j.ensures.ranks c.judge_sheet-j.ensures.judged c.fills-fills.ensures)
-    at (c.write_listing.ensures c.judge_sheet-j.new.measures)
+    at c.write_listing.ensures
 
 pub returns : goal.returns
 returns c = rw (turned c.args.file.now (λ k. (c.type_inv.file k).fits) c.read-sheet.result c.read-sheet.ensures c.if-number-eq0.false) at c.write_refusal.ensures

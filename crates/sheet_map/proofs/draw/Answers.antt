@@ -7,7 +7,7 @@ use Rattle.cells.specs.Cell.{cells_at}
 use Rattle.judged.specs.Judged.{Judged, judged_from}
 use Rattle.map_lines.specs.Map.{columns, most_lines, too_wide}
 use Rattle.map_lines.specs.Page.{Spans}
-use Rattle.map_lines.specs.declared.spans.Axis.TheVariants.{AlongU, AlongV}
+use Rattle.offsets.specs.declared.axis.Axis.TheVariants.{AlongU, AlongV}
 use Rattle.map_lines.specs.declared.spans.Span.{Span}
 use Rattle.sheet_map.proofs.draw.Goals as goal
 

@@ -8,5 +8,5 @@ pub loop-at-preserved : goal.loop-at-preserved
 loop-at-preserved g c =
     let l = c.loop-at in
     let inside : l.at ≤ length l.file = omega arith in
-    let joined = one-after-other l.at (length l.file - l.at) c.in-Ok.n l.file c.read_some.new.part inside c.in-Ok.ensures.bound.0 in
-    (search rules, search rules, subst (Consumes _ _) (sym joined) (Consumes-trans _ _ _ _ _ l.invariant.2 c.in-Ok.ensures.bytes.0))
+    let joined = one-after-other l.at (length l.file - l.at) c.in_ok-n.n l.file c.read_some.new.part inside c.in_ok-n.ensures.bound.0 in
+    (search rules, search rules, subst (Consumes _ _) (sym joined) (Consumes-trans _ _ _ _ _ l.invariant.2 c.in_ok-n.ensures.bytes.0))

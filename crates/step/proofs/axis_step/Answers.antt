@@ -1,23 +1,32 @@
+use Rattle.std.proofs.Common.{sym, ◌∙◌}
+use Rattle.view.proofs.Found.{not-found, found, found-below}
 use Rattle.step.specs.Step.{axis_step}
-use borrow.Author.Tests.{lt-ltb, le-ltb}
 use Rattle.step.proofs.axis_step.Goals as goal
 
-pub returns-then-r-n : goal.returns-then-r-n
+pub returns-in-Some-Some : goal.returns-in-Some-Some
 unfolding axis_step
-returns-then-r-n c =
-    rw (c.step_of.ensures, ← c.rank_at-l.ensures, ← c.rank_at-r.ensures, lt-ltb _ _ c.if-l-n.true, lt-ltb _ _ c.if-r-n.true, c.spacing.ensures)
+returns-in-Some-Some c =
+    let l = sym c.in-Some-Some.is-0 ∙ c.neighbour.ensures.value in
+    let r = sym c.in-Some-Some.is-1 ∙ c.neighbour-2.ensures.value in
+    rw (found-below _ _ l, found-below _ _ r, found _ _ l, found _ _ r, c.spacing.ensures)
 
-pub returns-then-l-n : goal.returns-then-l-n
+pub returns-in-Some-None : goal.returns-in-Some-None
 unfolding axis_step
-returns-then-l-n c =
-    rw (c.step_of-then-l-n.ensures, ← c.rank_at-l.ensures, ← c.rank_at-r.ensures, lt-ltb _ _ c.if-l-n.true, le-ltb _ _ c.if-r-n.false, c.spacing-then-l-n.ensures)
+returns-in-Some-None c =
+    let l = sym c.in-Some-None.is-0 ∙ c.neighbour.ensures.value in
+    let r = sym c.in-Some-None.is-1 ∙ c.neighbour-2.ensures.value in
+    rw (found-below _ _ l, not-found _ _ r, found _ _ l, c.spacing-in-Some-None.ensures)
 
-pub returns-then-r-n-2 : goal.returns-then-r-n-2
+pub returns-in-None-Some : goal.returns-in-None-Some
 unfolding axis_step
-returns-then-r-n-2 c =
-    rw (c.step_of-then-r-n-2.ensures, ← c.rank_at-l.ensures, ← c.rank_at-r.ensures, le-ltb _ _ c.if-l-n.false, lt-ltb _ _ c.if-r-n-2.true, c.spacing-then-r-n-2.ensures)
+returns-in-None-Some c =
+    let l = sym c.in-None-Some.is-0 ∙ c.neighbour.ensures.value in
+    let r = sym c.in-None-Some.is-1 ∙ c.neighbour-2.ensures.value in
+    rw (not-found _ _ l, found-below _ _ r, found _ _ r, c.spacing-in-None-Some.ensures)
 
-pub returns : goal.returns
+pub returns-in-None-None : goal.returns-in-None-None
 unfolding axis_step
-returns c =
-    rw (← c.rank_at-l.ensures, ← c.rank_at-r.ensures, le-ltb _ _ c.if-l-n.false, le-ltb _ _ c.if-r-n-2.false)
+returns-in-None-None c =
+    let l = sym c.in-None-None.is-0 ∙ c.neighbour.ensures.value in
+    let r = sym c.in-None-None.is-1 ∙ c.neighbour-2.ensures.value in
+    rw (not-found _ _ l, (not-found _ _ r))

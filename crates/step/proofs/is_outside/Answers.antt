@@ -1,12 +1,10 @@
 use Rattle.step.specs.Deviation.{is_step_outside}
 use Rattle.step.proofs.is_outside.Goals as goal
 
-pub returns-then-s-lo : goal.returns-then-s-lo
+pub returns-then-s-median : goal.returns-then-s-median
 unfolding is_step_outside
-returns-then-s-lo c =
-    rw c.if-s-lo.true
+returns-then-s-median c = rw c.if-s-median.true
 
-pub returns : goal.returns
+pub returns-else-s-median : goal.returns-else-s-median
 unfolding is_step_outside
-returns c =
-    rw c.if-s-lo.false
+returns-else-s-median c = rw c.if-s-median.false

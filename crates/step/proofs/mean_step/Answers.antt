@@ -1,14 +1,14 @@
 use Rattle.step.specs.Step.{mean_step}
 use Rattle.step.proofs.mean_step.Goals as goal
 
-pub returns-then-b : goal.returns-then-b
+pub returns-in-Some-Some : goal.returns-in-Some-Some
 unfolding mean_step
-returns-then-b c = rw (c.step_of.ensures, c.if-a.true, c.if-b.true)
+returns-in-Some-Some c = rw (c.in-Some-Some.is-0, c.in-Some-Some.is-1)
 
-pub returns-then-a : goal.returns-then-a
+pub returns-in-Some-None : goal.returns-in-Some-None
 unfolding mean_step
-returns-then-a c = rw (c.if-a.true, c.if-b.false)
+returns-in-Some-None c = rw (c.in-Some-None.is-0, c.in-Some-None.is-1)
 
-pub returns : goal.returns
+pub returns-in-None-default : goal.returns-in-None-default
 unfolding mean_step
-returns c = rw c.if-a.false
+returns-in-None-default c = rw c.in-None-default.is-0

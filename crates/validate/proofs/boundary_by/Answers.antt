@@ -1,18 +1,14 @@
-use Rattle.view.specs.View.{view_at}
+use Rattle.view.specs.Seen.{view_in}
 use Rattle.cells.specs.Cell.{cells_at}
-use Rattle.patches.proofs.Lattices.{square-places}
 use Rattle.validate.proofs.Stages.{off-boundary, on-boundary}
 use Rattle.validate.proofs.boundary_by.Goals as goal
 
-pub boundary-requires : goal.boundary-requires
-boundary-requires c = (c.requires.0, square-places _ c.square_sides-sides.ensures, c.requires.1)
-
-pub returns-in-Off : goal.returns-in-Off
-returns-in-Off c xs ys =
+pub returns-in-None : goal.returns-in-None
+returns-in-None c =
     let a = c.args in
-    off-boundary (view_at a.n a.ranks.now xs ys) (cells_at a.keys.now) c.in-Off.is c.requires.0.few
+    off-boundary (view_in a.view.now) (cells_at a.keys.now) c.in-None.is a.view.now.lattice.few
 
-pub returns-in-On : goal.returns-in-On
-returns-in-On c xs ys =
+pub returns-in-Some : goal.returns-in-Some
+returns-in-Some c =
     let a = c.args in
-    on-boundary (view_at a.n a.ranks.now xs ys) (cells_at a.keys.now) _ c.in-On.is c.square_sides-sides.ensures (c.boundary.ensures xs ys)
+    on-boundary (view_in a.view.now) (cells_at a.keys.now) _ c.in-Some.is c.square_sides.ensures c.boundary.ensures

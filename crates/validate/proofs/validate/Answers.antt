@@ -1,5 +1,5 @@
 use Rattle.cells.specs.Cell.{cells_at}
-use Rattle.view.specs.View.{view_at}
+use Rattle.view.specs.Seen.{view_in}
 use Rattle.validate.proofs.Stages.{all_are}
 use Rattle.validate.proofs.validate.Goals as goal
 
@@ -8,7 +8,6 @@ returns c =
     let a = c.args in
     let r = c.by_rules-ruled.ensures in
     record {
-      measured = all_are a.s (view_at a.n a.ranks.now a.x.now a.y.now) (cells_at a.keys.now) a.counts.now r.marks c.requires.reasons
-          (c.boundary_by.ensures a.x.now a.y.now) c.with_reasons.ensures;
+      measured = all_are a.s (view_in a.view.now) (cells_at a.keys.now) a.figures.now r.marks c.requires.reasons c.boundary_by.ensures c.with_reasons.ensures;
       residuals = r.residuals;
     }

@@ -1,21 +1,24 @@
-use Rattle.std.proofs.Common.{◌≡◌, ℕ, ◌^◌, ◌<◌, ◌≤◌, List, length, take, sym, arith, length-take-le}
+use Rattle.std.proofs.Common.{◌≡◌, ℕ, ◌≤◌, Bool, true, List, length, take, Result, Ok, refl, sym, ◌∙◌, arith, rules}
+use Rattle.folds.specs.Same.{same_list}
 use Rattle.folds.proofs.Same.{told}
-use Rattle.text.specs.Text.{decimal}
-use Rattle.text.specs.Stored.{Stored}
+use Rattle.text.specs.Answer.{Shows}
+use Rattle.text.specs.declared.NoRoom.{NoRoom}
 use Rattle.text.proofs.Numbers.{decimal-length}
-use Rattle.worst_sheet.proofs.Pieces.{stored-whole}
+use Rattle.text.proofs.Stores.{shows, shown-whole, shown-first}
 use Rattle.worst_sheet.proofs.is_decimal.Goals as goal
 
--- what is printed stands whole in the array
-printed : {n e : ℕ} {l m : List ℕ} → Stored l 0 (decimal n) m e → n < 10 ^ 20 → 20 ≤ length l → (e ≤ length m) × (take e m ≡ decimal n)
-printed {n} p h g = stored-whole p (omega (arith, decimal-length 19 n h))
+-- what is printed whole is compared
+compared : {t before after argument : List ℕ} {r : Result ℕ NoRoom} {size : ℕ} {same : Bool}
+    → (same ≡ true → take size after ≡ argument) × (take size after ≡ argument → same ≡ true) → r ≡ Ok size
+    → length t ≤ length before → Shows t before after r → same ≡ same_list t argument
+compared {t} {before} {after} {argument} {r} {size} q e room h =
+    let long : ◌≡◌ {A = Result ℕ NoRoom} (Ok size) (Ok (length t)) = sym e ∙ shown-whole h room in
+    let z : size ≡ length t = cc in
+    let first : take size after ≡ t = rw z (shown-first h room) in
+    rw (← first) (told _ _ q.0 q.1)
 
-pub slice_bounds-printed-end : goal.slice_bounds-printed-end
-slice_bounds-printed-end c = (printed c.put_decimal-size.ensures (omega arith) (omega arith)).0
-
-pub slice_bounds-same-end : goal.slice_bounds-same-end
-slice_bounds-same-end c = sym (length-take-le _ _ (printed c.put_decimal-size.ensures (omega arith) (omega arith)).0)
+pub unreachable-requires : goal.unreachable-requires
+unreachable-requires c = c.in_default.not-Ok _ (shown-whole (shows c.new-w.ensures c.decimal.ensures c.answer.ensures (λ e. refl)) (decimal-length 19 c.args.n (omega arith)))
 
 pub returns : goal.returns
-returns c =
-    rw (← (printed c.put_decimal-size.ensures (omega arith) (omega arith)).1) (told _ _ c.same.ensures.0 c.same.ensures.1)
+returns c = compared c.same.ensures c.in-Ok.is (decimal-length 19 c.args.n (omega arith)) (shows c.new-w.ensures c.decimal.ensures c.answer.ensures (search rules))

@@ -5,10 +5,7 @@ use Rattle.worst_sheet.specs.Worst.{point_at}
 use Rattle.worst_sheet.proofs.put_points.Goals as goal
 
 pub loop-u-init : goal.loop-u-init
-loop-u-init c =
-    (search rules, stored-start (λ k. point_bytes (point_at c.args.n k)))
+loop-u-init c = search (rules, stored-start)
 
 pub loop-u-preserved : goal.loop-u-preserved
-loop-u-preserved c =
-    let n = c.args.n in
-    (search rules, stored_more (λ k. point_bytes (point_at n k)) c.loop-u.invariant.1 (c.put_point-next.ensures n))
+loop-u-preserved c = stored_more (λ k. point_bytes (point_at c.args.n k)) c.loop-u.invariant (c.put_point.ensures c.args.n)

@@ -1,4 +1,3 @@
-use Rattle.std.proofs.Common.{◌-◌, ◌≤◌}
 use Rattle.text.specs.Text.{each}
 use Rattle.text.specs.Stored.{Stored}
 use Rattle.written_file.specs.File.{point_bytes}
@@ -6,7 +5,4 @@ use Rattle.worst_sheet.specs.Worst.{point_at}
 use Rattle.worst_sheet.proofs.put_points.Given as goal
 
 abbrev pub invariant-loop-u : goal.invariant-loop-u
-invariant-loop-u l = (l.u ≤ l.n) × Stored l.initial.out l.at (each (λ k. point_bytes (point_at l.n k)) l.u) l.out l.to
-
-abbrev pub decreases-loop-u : goal.decreases-loop-u
-decreases-loop-u l = l.n - l.u
+invariant-loop-u l = Stored l.initial.w (each (λ k. point_bytes (point_at l.n k)) l.u) l.w

@@ -10,7 +10,7 @@ pub returns : goal.returns
 returns c =
     let n = c.args.n in
     rw (file-is n)
-    (stored-then (stored-field settings_data refl c.put_head-a.ensures (rw settings-are c.put_text-b.ensures))
-    (stored-then (stored-field (points_bytes (worst_points n)) (records-long n) c.put_head-c.ensures (rw (records-are n) c.put_points-d.ensures))
-    (stored-field (little_endian (float_bits 2) ++ strength_bytes (worst_points n)) (omega (arith, strengths-long n)) c.put_head-e.ensures
-    (stored-then (rw c.float_bits.ensures at c.put_u32-f.ensures) (rw (strengths-are n) c.put_strengths.ensures)))))
+    (stored-then (stored-field settings_data refl c.put_head.ensures (rw settings-are c.text.ensures))
+    (stored-then (stored-field (points_bytes (worst_points n)) (records-long n) c.put_head-2.ensures (rw (records-are n) c.put_points.ensures))
+    (stored-field (little_endian (float_bits 2) ++ strength_bytes (worst_points n)) (omega (arith, strengths-long n)) c.put_head-3.ensures
+    (stored-then (rw c.float_bits.ensures at c.put_u32.ensures) (rw (strengths-are n) c.put_strengths.ensures)))))

@@ -5,10 +5,7 @@ use Rattle.worst_sheet.specs.Worst.{strength_at}
 use Rattle.worst_sheet.proofs.put_strengths.Goals as goal
 
 pub loop-u-init : goal.loop-u-init
-loop-u-init c =
-    (search rules, stored-start (λ k. little_endian (strength_at c.args.n k)))
+loop-u-init c = search (rules, stored-start)
 
 pub loop-u-preserved : goal.loop-u-preserved
-loop-u-preserved c =
-    let n = c.args.n in
-    (search rules, stored_more (λ k. little_endian (strength_at n k)) c.loop-u.invariant.1 (rw c.strength.ensures at c.put_u32-next.ensures))
+loop-u-preserved c = stored_more (λ k. little_endian (strength_at c.args.n k)) c.loop-u.invariant (rw c.strength.ensures at c.put_u32.ensures)

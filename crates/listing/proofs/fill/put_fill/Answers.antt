@@ -6,4 +6,4 @@ use Rattle.listing.proofs.fill.put_fill.Goals as goal
 pub returns : goal.returns
 unfolding fill_text
 returns c =
-    rw (ne_eqb _ _ c.if-marks-eq0.false) (stored-then (stored-then (stored-then c.put_cell-a.ensures c.put_byte-b.ensures) c.put_prediction-c.ensures) c.put_byte.ensures)
+    rw (ne_eqb _ _ c.if-marks-eq0.false) (stored-then (stored-then (stored-then c.put_cell.ensures c.byte.ensures) c.put_prediction.ensures) c.byte-2.ensures)

@@ -9,12 +9,11 @@ use lib.IntN.{ℤ, pos, neg_ℤ, ◌+ℤ◌}
 use lib.ListN.{get_or}
 use Rattle.cells.specs.Points.{bias}
 use Rattle.cells.specs.Cell.{cells_at}
-use borrow.Author.Rules.{rules}
 use Rattle.map_lines.specs.Map.{smallest, span}
 use Rattle.map_lines.specs.Page.{along, part, Spans}
-use Rattle.map_lines.specs.declared.spans.Axis.{Axis}
-use Rattle.map_lines.specs.declared.spans.Axis.TheVariants.{AlongU, AlongV}
-use Rattle.map_lines.proofs.Ends.{Ends, ends-start, ends_more, higher-below, smallest-end, span-ends}
+use Rattle.offsets.specs.declared.axis.Axis.{Axis}
+use Rattle.offsets.specs.declared.axis.Axis.TheVariants.{AlongU, AlongV}
+use Rattle.map_lines.proofs.Ends.{Ends, ends-start, ends_more, smallest-end, span-ends}
 use Rattle.map_lines.proofs.spans.span_along.Goals as goal
 
 coordinates : (axis : Axis) (keys : List ℕ) → ◌≡◌ {A = ℕ → ℤ} (λ (k : ℕ). along axis (cells_at keys k)) (λ (k : ℕ). pos (part axis (get_or keys k 0)) +ℤ neg_ℤ (pos bias))
@@ -36,26 +35,23 @@ ended axis keys n a b count small h e =
 
 pub loop-k-init : goal.loop-k-init
 loop-k-init c =
-    (search rules, c.coordinate-least.ensures.1, rw c.coordinate-least.ensures.0 (ends-start (λ (j : ℕ). part c.args.axis (get_or c.args.keys.now j 0))))
+    (c.coordinate-least.ensures.1, rw c.coordinate-least.ensures.0 (ends-start (λ (j : ℕ). part c.args.axis (get_or c.args.keys.now j 0))))
 
 pub loop-k-preserved : goal.loop-k-preserved
 loop-k-preserved c =
     let a = c.args in
     let p : ℕ → ℕ = λ j. part a.axis (get_or a.keys.now j 0) in
-    let e = c.coordinate-c.ensures in (
-      search rules,
-      rw c.higher-most.ensures (higher-below c.coordinate-c.result c.loop-k.most (2 ^ 32) e.1 c.loop-k.invariant.1),
-      rw (c.higher-most.ensures, c.lower-least.ensures, e.0) (ends_more p c.loop-k.k c.loop-k.least c.loop-k.most c.loop-k.invariant.2),
-    )
+    let e = c.coordinate-c.ensures in
+    (omega (arith, c.max-most.ensures), rw (c.max-most.ensures, c.min-least.ensures, e.0) (ends_more p c.loop-k.k c.loop-k.least c.loop-k.most c.loop-k.invariant.1))
 
 pub returns-then-n-eq0 : goal.returns-then-n-eq0
 returns-then-n-eq0 c =
     let a = c.args in
     let n : c.loop-k.k ≡ a.n = omega arith in
-    ended a.axis a.keys.now a.n c.loop-k.least c.loop-k.most 0 c.loop-k.invariant.1 (rw n at c.loop-k.invariant.2) (rw c.if-n-eq0.true)
+    ended a.axis a.keys.now a.n c.loop-k.least c.loop-k.most 0 c.loop-k.invariant.0 (rw n at c.loop-k.invariant.1) (rw c.if-n-eq0.true)
 
 pub returns-else-n-eq0 : goal.returns-else-n-eq0
 returns-else-n-eq0 c =
     let a = c.args in
     let n : c.loop-k.k ≡ a.n = omega arith in
-    ended a.axis a.keys.now a.n c.loop-k.least c.loop-k.most (c.loop-k.most - c.loop-k.least + 1) c.loop-k.invariant.1 (rw n at c.loop-k.invariant.2) (rw (ne_eqb a.n 0 c.if-n-eq0.false))
+    ended a.axis a.keys.now a.n c.loop-k.least c.loop-k.most (c.loop-k.most - c.loop-k.least + 1) c.loop-k.invariant.0 (rw n at c.loop-k.invariant.1) (rw (ne_eqb a.n 0 c.if-n-eq0.false))

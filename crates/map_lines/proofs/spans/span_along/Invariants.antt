@@ -1,11 +1,8 @@
-use Prim.Native.Nat.{ℕ, ◌-◌, ◌^◌, ◌≤◌, ◌<◌}
+use Prim.Native.Nat.{ℕ, ◌^◌, ◌<◌}
 use lib.ListN.{get_or}
 use Rattle.map_lines.specs.Page.{part}
 use Rattle.map_lines.proofs.Ends.{Ends}
 use Rattle.map_lines.proofs.spans.span_along.Given as goal
 
 abbrev pub invariant-loop-k : goal.invariant-loop-k
-invariant-loop-k l = (l.k ≤ l.n) × (l.most < 2 ^ 32) × Ends (λ (j : ℕ). part l.axis (get_or l.keys j 0)) l.k l.least l.most
-
-abbrev pub decreases-loop-k : goal.decreases-loop-k
-decreases-loop-k l = l.n - l.k
+invariant-loop-k l = (l.most < 2 ^ 32) × Ends (λ (j : ℕ). part l.axis (get_or l.keys j 0)) l.k l.least l.most

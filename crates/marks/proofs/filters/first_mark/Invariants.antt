@@ -1,6 +1,4 @@
-use mathlib.Core.Path.{◌≡◌}
-use mathlib.Core.Bool.{Bool}
-use Prim.Native.Nat.{ℕ, ◌≤◌, ◌-◌}
+use Rattle.std.proofs.Common.{ℕ, Bool, ◌≡◌}
 use Rattle.folds.specs.Below.{first}
 use Rattle.marks.specs.Filters.{filter_count}
 use Rattle.marks.specs.Byte.{has_mark, first_mark}
@@ -10,7 +8,4 @@ abbrev pub by : ℕ → ℕ → Bool
 by marks f = has_mark f marks
 
 abbrev pub invariant-loop-f : goal.invariant-loop-f
-invariant-loop-f l = (l.f ≤ filter_count) × (first (by l.marks) l.f filter_count ≡ first_mark l.marks)
-
-abbrev pub decreases-loop-f : goal.decreases-loop-f
-decreases-loop-f l = filter_count - l.f
+invariant-loop-f l = first (by l.marks) l.f-index filter_count ≡ first_mark l.marks

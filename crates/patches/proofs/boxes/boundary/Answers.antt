@@ -1,12 +1,9 @@
-use mathlib.Core.Path.{◌≡◌, refl, sym, ap, ◌∙◌}
-use mathlib.Core.Bool.{◌&&◌}
-use mathlib.Core.List.{List, []}
-use Prim.Native.Nat.{ℕ}
-use lib.Dec.{eqb, ltb}
-use lib.ListN.{replicate}
+use Rattle.std.proofs.Common.{◌≡◌, refl, sym, ap, ◌∙◌, ◌&&◌, List, [], ℕ, eqb, ltb, replicate}
 use Rattle.folds.proofs.Lists.{past_end}
 use Rattle.folds.proofs.Column.{replicate-at}
-use Rattle.view.specs.View.{max_points, view_at}
+use Rattle.offsets.specs.Offsets.{places}
+use Rattle.view.specs.View.{max_points}
+use Rattle.view.specs.Seen.{view_in}
 use Rattle.cells.specs.Cell.{cells_at}
 use Rattle.patches.specs.Patches.{labels_of}
 use Rattle.patches.proofs.Agreeing.{labels-depend}
@@ -20,8 +17,8 @@ all_alike n near sides =
 
 pub returns : goal.returns
 unfolding boundary_of
-returns c xs ys =
+returns c =
     let a = c.args in
-    let w = view_at a.n a.ranks.now [] [] in
+    let w = view_in a.view.now in
     c.boundary_among.ensures
-    ∙ ap (λ (s : List ℕ). boundary_among w s (cells_at a.keys.now)) (c.labels-label.ensures [] [] ∙ all_alike a.n w.near a.sides.now)
+    ∙ ap (λ (s : List ℕ). boundary_among w s (cells_at a.keys.now)) (c.labels-label.ensures [] [] ∙ all_alike w.count w.near (places a.sides.now))

@@ -1,27 +1,19 @@
-use Prim.Native.Nat.{ℕ, ◌<◌}
-use mathlib.Core.List.{[]}
-use mathlib.Core.Path.{◌≡◌}
-use native.Mathlib.Omega.{arith}
-use lib.ListN.{get_or}
-use Rattle.folds.proofs.Column.{fill_start, fill_more, filled-over}
-use Rattle.view.specs.View.{max_points, view_at}
+use Rattle.std.proofs.Common.{ap, ◌++◌, ◌∙◌, ℕ, List, get_or, arith}
+use lib.ListN.{drop}
+use Rattle.folds.specs.Column.{overlaid}
+use Rattle.folds.proofs.Lists.{list_ext}
+use Rattle.view.specs.Seen.{view_in}
+use Rattle.local_h.specs.declared.Residual.{Residual}
 use Rattle.local_h.specs.declared.Residual.TheVariants.{NoFit}
 use Rattle.residuals.proofs.Indexing.{value-placed}
 use Rattle.residuals.proofs.by_index.gather.Goals as goal
 
-pub loop-k-init : goal.loop-k-init
-loop-k-init c = (omega arith, fill_start _ NoFit _)
-
-pub bounds-held-index_of : goal.bounds-held-index_of
-bounds-held-index_of c = omega (arith, c.index_of.ensures, c.requires.few, c.requires.indices c.loop-k.k c.loop-k-test.true)
-
-pub loop-k-preserved : goal.loop-k-preserved
-loop-k-preserved c =
-    let a = c.args in
-    let w = view_at a.n a.ranks.now [] [] in
-    let place : c.index_of.result < max_points = omega (arith, c.index_of.ensures, c.requires.few, c.requires.indices c.loop-k.k c.loop-k-test.true) in
-    let held = value-placed w (λ (k : ℕ). get_or a.values.now k NoFit) c.put_last.ensures c.loop-k.k (rw (← c.index_of.ensures) place) in
-    (omega arith, fill_more _ NoFit _ _ (omega (arith, c.requires.few)) (rw c.index_of.ensures held) c.loop-k.invariant.1)
-
 pub returns : goal.returns
-returns c = let h : c.loop-k.k ≡ c.args.n = omega arith in filled-over _ NoFit _ _ (omega (arith, c.requires.few)) (rw h at c.loop-k.invariant.1)
+unfolding overlaid
+returns c =
+    let v = c.args.view.now in
+    let w = view_in v in
+    let values = c.args.values.now in
+    c.spread.ensures NoFit
+    ∙ ap (λ (l : List Residual). l ++ drop w.count values)
+    (list_ext NoFit w.count _ _ (λ k h. value-placed w (λ (j : ℕ). get_or values j NoFit) c.put_last.ensures k (omega (arith, v.ranked.indices k h, v.lattice.few))))

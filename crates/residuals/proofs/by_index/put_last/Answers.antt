@@ -1,18 +1,18 @@
-use mathlib.Core.Path.{◌≡◌, sym, ◌∙◌}
-use native.Mathlib.Omega.{arith}
+use Rattle.std.proofs.Common.{◌≡◌, sym, ◌∙◌, arith}
 use Rattle.folds.proofs.Scattered.{scattered-none, scattered-skip, scattered-put}
 use Rattle.residuals.proofs.by_index.put_last.Goals as goal
+use Rattle.residuals.proofs.by_index.put_last.Goals.{then-has_value, else-has_value}
 
-pub loop-i-init : goal.loop-i-init
-loop-i-init c = (omega arith, scattered-none _ _ _ _ _)
+pub loop-k-init : goal.loop-k-init
+loop-k-init c = scattered-none _ _ _ _ _
 
-pub loop-i-preserved-then-has_value : goal.loop-i-preserved-then-has_value
-loop-i-preserved-then-has_value c =
-    (omega arith, scattered-put _ _ _ _ _ _ _ _ (omega (arith, c.index_of-m.ensures, c.requires.few, c.requires.indices c.loop-i.i (omega arith))) c.index_of-m.ensures (sym c.has_value.ensures ∙ c.if-has_value.true) c.loop-i.invariant.1)
-
-pub loop-i-preserved : goal.loop-i-preserved
-loop-i-preserved c =
-    (omega arith, scattered-skip _ _ _ _ _ _ _ (sym c.has_value.ensures ∙ c.if-has_value.false) c.loop-i.invariant.1)
+pub loop-k-preserved : goal.loop-k-preserved
+loop-k-preserved c =
+    let r = c.args.view.now.ranked in
+    elim c.if-has_value.branch [
+      | then-has_value w ↦ rw w.held-is (scattered-put _ _ _ _ _ _ _ _ (omega (arith, w.index.ensures, r.few, r.indices c.loop-k.k c.loop-k-test.true)) w.index.ensures (sym c.has_value.ensures ∙ w.if-has_value.true) c.loop-k.invariant)
+      | else-has_value w ↦ rw w.held-is (scattered-skip _ _ _ _ _ _ _ (sym c.has_value.ensures ∙ w.if-has_value.false) c.loop-k.invariant)
+    ]
 
 pub returns : goal.returns
-returns c = let e : c.loop-i.i ≡ c.args.n = omega arith in rw e at c.loop-i.invariant.1
+returns c = let e : c.loop-k.k ≡ c.args.view.now.lattice.count = omega arith in rw e at c.loop-k.invariant

@@ -1,16 +1,9 @@
-use mathlib.Core.Path.{◌≡◌}
-use native.Mathlib.Omega.{arith}
-use lib.ListN.{replicate}
-use lib.Ieee.{nan, div, of_bits}
-use Rattle.folds.proofs.Column.{fill_start, filled}
-use Rattle.view.specs.View.{max_points}
+use Rattle.std.proofs.Common.{rules}
+use Rattle.std.specs.Float.Ieee.{of_bits}
+use Rattle.view.specs.Seen.{view_in}
+use Rattle.wrong_label_filters.specs.Windows.{edge_along}
 use Rattle.wrong_label_filters.proofs.judged_edges.lengths_of.Goals as goal
 
-pub loop-k-init : goal.loop-k-init
-unfolding div of_bits
-loop-k-init c =
-    (omega arith, fill_start (replicate max_points nan) nan _)
-
 pub returns : goal.returns
-returns c =
-    let h : c.loop-k.k ≡ c.args.n = omega arith in filled _ (omega arith) (rw h at c.loop-k.invariant.1)
+unfolding of_bits
+returns c = c.filled.ensures (λ k. (edge_along (view_in c.args.table.now.view) c.args.axis k).len) (λ k r h p. search rules)

@@ -1,14 +1,10 @@
-use Prim.Native.Nat.{ℕ, ◌-◌, ◌≤◌}
-use mathlib.Core.Path.{◌≡◌}
-use lib.ListN.{get_or}
-use lib.Ieee.{nan, lt}
+use Rattle.std.proofs.Common.{ℕ, ◌≡◌}
+use Rattle.std.specs.Float.Ieee.{lt}
 use Rattle.folds.specs.Arith.{zero_f}
 use Rattle.folds.specs.Below.{tally}
-use Rattle.edges.specs.Edges.{edge_place}
+use Rattle.view.specs.Seen.{view_in}
+use Rattle.wrong_label_filters.specs.Windows.{edge_along}
 use Rattle.wrong_label_filters.proofs.judged_edges.sheet_count.Given as goal
 
 abbrev pub invariant-loop-k : goal.invariant-loop-k
-invariant-loop-k l = (l.k ≤ l.n) × (l.c ≡ tally (λ (j : ℕ). lt zero_f (get_or l.edges (edge_place l.way 0 j) nan)) l.k)
-
-abbrev pub decreases-loop-k : goal.decreases-loop-k
-decreases-loop-k l = l.n - l.k
+invariant-loop-k l = l.c ≡ tally (λ (j : ℕ). lt zero_f (edge_along (view_in l.table.view) l.axis j).len) l.k

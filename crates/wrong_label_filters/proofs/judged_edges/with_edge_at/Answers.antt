@@ -1,50 +1,48 @@
-use mathlib.Core.Path.{◌≡◌, sym, ap, ◌∙◌}
-use mathlib.Core.List.{List, []}
-use Prim.Native.Nat.{ℕ, ◌+◌, ◌*◌}
-use lib.ListN.{get_or}
-use borrow.Author.Tests.{lt-ltb, le-ltb, eq-eqb, ne_eqb}
+use Rattle.std.proofs.Common.{◌≡◌, ◌+◌, ◌*◌, ℕ, sym, ap, ◌∙◌}
+use borrow.Author.Tests.{eq-eqb, ne_eqb}
 use Rattle.offsets.specs.Offsets.{offset_of}
 use Rattle.offsets.proofs.Places.{offset-place}
-use Rattle.view.specs.View.{view_at, rank_at}
+use Rattle.view.specs.View.{View, rank_at}
+use Rattle.view.specs.Seen.{view_in}
+use Rattle.view.proofs.Found.{not-found, found, found-below}
 use Rattle.wrong_label_filters.specs.Judged.{in_window}
 use Rattle.wrong_label_filters.proofs.judged_edges.with_edge_at.Goals as goal
 
 -- the rank at place j is that at the offset with this place
-at_place : (n : ℕ) (ranks : List ℕ) (k j : ℕ) {e : ℕ} → e ≡ get_or ranks (25 * k + j) 0 → e ≡ rank_at (view_at n ranks [] []) k (offset_of j)
-at_place n ranks k j e = e ∙ ap (λ d. get_or ranks (25 * k + d) 0) (sym (offset-place j))
+at_place : (w : View) (k j : ℕ) → rank_at w k (offset_of j) ≡ w.near (25 * k + j)
+at_place w k j = ap (λ d. w.near (25 * k + d)) (offset-place j)
 
 pub returns-then-j-place : goal.returns-then-j-place
 unfolding in_window
 returns-then-j-place c = rw (eq-eqb _ _ (c.if-j-place.true ∙ c.place.ensures.0))
 
-pub returns-then-n-e : goal.returns-then-n-e
+pub returns-in_default : goal.returns-in_default
 unfolding in_window
-returns-then-n-e c =
-    let a = c.args in
-    rw (ne_eqb _ _ (λ e. c.if-j-place.false (e ∙ sym c.place.ensures.0)), ← at_place a.n a.ranks.now a.k a.j c.rank_at_place-e.ensures, le-ltb _ _ c.if-n-e.true)
+returns-in_default c =
+    rw (ne_eqb _ _ (λ e. c.if-j-place.false (e ∙ sym c.place.ensures.0)), at_place (view_in c.args.table.now.view) c.args.k c.args.j, not-found _ _ c.in_default.ensures.value)
 
-pub returns-then-len : goal.returns-then-len
+pub returns-then-edge : goal.returns-then-edge
 unfolding in_window
-returns-then-len c =
-    let a = c.args in
+returns-then-edge c =
     rw (
       ne_eqb _ _ (λ e. c.if-j-place.false (e ∙ sym c.place.ensures.0)),
-      ← at_place a.n a.ranks.now a.k a.j c.rank_at_place-e.ensures,
-      lt-ltb _ _ c.if-n-e.false,
-      ← c.length-len.ensures,
-      c.if-len.true,
-      ← c.unit.ensures,
-      ← c.unit-then-len.ensures,
+      at_place (view_in c.args.table.now.view) c.args.k c.args.j,
+      found-below _ _ c.in-Some.ensures.value,
+      found _ _ c.in-Some.ensures.value,
+      ← ap (λ e. e.len) c.at-edge.ensures,
+      ← ap (λ e. e.ux) c.at-edge.ensures,
+      ← ap (λ e. e.uy) c.at-edge.ensures,
+      c.if-edge.true,
     ) c.with_edge.ensures
 
 pub returns : goal.returns
 unfolding in_window
 returns c =
-    let a = c.args in
     rw (
       ne_eqb _ _ (λ e. c.if-j-place.false (e ∙ sym c.place.ensures.0)),
-      ← at_place a.n a.ranks.now a.k a.j c.rank_at_place-e.ensures,
-      lt-ltb _ _ c.if-n-e.false,
-      ← c.length-len.ensures,
-      c.if-len.false,
+      at_place (view_in c.args.table.now.view) c.args.k c.args.j,
+      found-below _ _ c.in-Some.ensures.value,
+      found _ _ c.in-Some.ensures.value,
+      ← c.at-edge.ensures,
+      c.if-edge.false,
     )

@@ -1,0 +1,26 @@
+// The edges of a sheet, with the view that they are those of.
+ghost use Rattle.std.specs.Prelude.{◌≡◌, ◌<◌};
+ghost use Rattle.view.specs.Seen.{view_in};
+ghost use Rattle.offsets.specs.Axes.{forward};
+ghost use Rattle.edges.specs.Edges.{edges_of, stored_at};
+
+use crate::{Edges, StoredEdge};
+use offsets::Axis;
+use view::View;
+
+#[derive(Clone, Copy)]
+pub struct EdgeTable<'a> {
+    pub view: View<'a>,
+    pub edges: &'a Edges,
+    ghost held: { edges.now ≡ edges_of (view_in view) },
+}
+
+impl EdgeTable<'_> {
+    // The edge that starts at rank k along an axis.
+    pub fn at(&self, axis: Axis, k: usize) -> StoredEdge
+        requires { k < self.now.view.lattice.count }
+        ensures { result ≡ stored_at (view_in self.now.view) (forward axis) k }
+    {
+        self.edges.at(axis, k)
+    }
+}

@@ -1,0 +1,8 @@
+use Rattle.std.proofs.Common.{ℕ}
+use Rattle.offsets.specs.Offsets.{places}
+use Rattle.peel.specs.Work.{Beside}
+use Rattle.peel.specs.Steps.{SearchedBy}
+use Rattle.peel.proofs.removals.Removals.around.Given as goal
+
+abbrev pub invariant-loop-o : goal.invariant-loop-o
+invariant-loop-o l = SearchedBy l.links l.state (λ (k : ℕ). Beside l.links.view.lattice.ranks.now (places l.links.sides.now) l.o-index l.x k) l.initial.self l.self

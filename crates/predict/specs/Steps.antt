@@ -1,0 +1,25 @@
+-- What the methods of the kept points give. Assumes nothing.
+use Rattle.std.specs.Prelude.{cond, List, ℕ, Option, None, Some}
+use Rattle.offsets.specs.declared.Offset.{Offset}
+use Rattle.view.specs.View.{View, view_at, rank_at}
+use Rattle.predict.specs.Predict.{Prediction}
+use Rattle.predict.specs.Fills.{kept_at, prediction_at, fill_at}
+use Rattle.predict.specs.Sums.{sums_with}
+use Rattle.predict.specs.declared.kept.Kept.{Kept}
+use Rattle.predict.specs.declared.sums.Sums.{Sums}
+
+abbrev pub view_of : Kept → View
+view_of p = view_at p.lattice.now.count p.lattice.now.ranks.now p.x.now p.y.now
+
+-- the rank at offset o from rank k, if it is kept
+abbrev pub kept_rank : Kept → ℕ → Offset → Option ℕ
+kept_rank p k o = cond (kept_at (view_of p) p.marks.now k o) (Some (rank_at (view_of p) k o)) None
+
+abbrev pub sums_in : Kept → ℕ → Offset → Sums → Sums
+sums_in p k o a = sums_with (view_of p) p.marks.now k o a
+
+abbrev pub prediction_in : Kept → List Offset → ℕ → Prediction
+prediction_in p sides k = prediction_at (view_of p) sides p.marks.now k
+
+abbrev pub fill_in : Kept → List Offset → ℕ → Prediction
+fill_in p sides k = fill_at (view_of p) sides p.marks.now k

@@ -1,0 +1,111 @@
+// The points that are kept, and what they predict.
+ghost use Rattle.std.specs.Prelude.{◌≡◌, true, ◌<◌, get_or, IfSome};
+ghost use Rattle.std.specs.Float.{nan};
+ghost use Rattle.folds.specs.Arith.{◌⊕◌, ◌⊗◌};
+ghost use Rattle.float.specs.Constants.{half};
+ghost use Rattle.offsets.specs.Offsets.{is_near};
+ghost use Rattle.view.specs.View.{max_points};
+ghost use Rattle.predict.specs.Predict.{opposite, is_forward};
+ghost use Rattle.predict.specs.Sums.{FewSides};
+
+use crate::PredictedPosition;
+use crate::sums::Sums;
+use offsets::Offset;
+use view::{Floats, Lattice, Marks};
+
+// The offset the other way.
+fn opposite(o: Offset) -> Offset
+    requires { is_near o ≡ true }
+    ensures { (result ≡ opposite o) × (is_near result ≡ true) }
+{
+    Offset {
+        du: -o.du,
+        dv: -o.dv,
+    }
+}
+
+// Whether an offset is lexicographically positive, or (0, 0).
+fn is_forward(o: Offset) -> bool
+    ensures { result ≡ is_forward o }
+{
+    !(o.du < 0 || !(0 < o.du) && o.dv < 0)
+}
+
+// Half way between the values of two ranks.
+fn midpoint(values: &Floats, f: usize, b: usize) -> f32
+    requires { (f < max_points) × (b < max_points) }
+    ensures { result ≡ half ⊗ (get_or values.now f nan ⊕ get_or values.now b nan) }
+{
+    0.5 * (values[f] + values[b])
+}
+
+// Points, of which those without a mark are kept.
+#[derive(Clone, Copy)]
+pub struct Kept<'a> {
+    pub lattice: &'a Lattice<'a>,
+    pub x: &'a Floats,
+    pub y: &'a Floats,
+    pub marks: &'a Marks,
+}
+
+impl Kept<'_> {
+    ghost use Rattle.predict.specs.Steps.{kept_rank, prediction_in, fill_in, sums_in};
+
+    // The rank of the kept point at offset o from rank k, if there is one.
+    fn at(&self, k: usize, o: Offset) -> Option<usize>
+        requires { (k < max_points) × (is_near o ≡ true) }
+        ensures value { result ≡ kept_rank self.now k o }
+        ensures inside { IfSome result (λ j. j < max_points) }
+    {
+        let j = self.lattice.neighbour(k, o)?;
+        if self.marks[j] == 0 { Some(j) } else { None }
+    }
+
+    // The sums with the midpoint of the pair at offset o and its opposite from rank k, if it is one.
+    fn with_pair(&self, k: usize, o: Offset, a: Sums) -> Sums
+        requires { (k < max_points) × (is_near o ≡ true) × (a.pairs < 255) }
+        ensures { result ≡ sums_in self.now k o a }
+    {
+        if !is_forward(o) {
+            return a;
+        }
+        let Some(f) = self.at(k, o) else {
+            return a;
+        };
+        let Some(b) = self.at(k, opposite(o)) else {
+            return a;
+        };
+        Sums {
+            x: a.x + midpoint(self.x, f, b),
+            y: a.y + midpoint(self.y, f, b),
+            pairs: a.pairs + 1,
+        }
+    }
+
+    // What is predicted for the cell of rank k, if there is a pair.
+    pub fn prediction(&self, sides: &[Offset], k: usize) -> Option<PredictedPosition>
+        requires { (k < max_points) × FewSides sides.now }
+        ensures { result ≡ prediction_in self.now sides.now k }
+    {
+        let mut sums = Sums {
+            x: 0.0,
+            y: 0.0,
+            pairs: 0,
+        };
+        for o in sides {
+            sums = self.with_pair(k, *o, sums);
+        }
+        sums.mean()
+    }
+
+    // The fill of rank k, if it has a mark and there is a pair.
+    pub fn fill(&self, sides: &[Offset], k: usize) -> Option<PredictedPosition>
+        requires { (k < max_points) × FewSides sides.now }
+        ensures { result ≡ fill_in self.now sides.now k }
+    {
+        if self.marks[k] == 0 {
+            return None;
+        }
+        self.prediction(sides, k)
+    }
+}

@@ -1,0 +1,2 @@
+pub mod Found
+pub mod Spread
