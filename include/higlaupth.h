@@ -51,7 +51,7 @@ extern "C" {
    caller raises the first number, an addition the second, anything else the third. */
 #define HIGLAUPTH_VERSION_MAJOR 5
 #define HIGLAUPTH_VERSION_MINOR 0
-#define HIGLAUPTH_VERSION_PATCH 1
+#define HIGLAUPTH_VERSION_PATCH 2
 #define HIGLAUPTH_VERSION "5.0.2"
 
 /* Sizes, in bytes but for the first three. */
