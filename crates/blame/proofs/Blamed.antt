@@ -1,5 +1,5 @@
 -- The members of a base are ranks; whom a corner blames; and the marks of all rules together. Assumes nothing.
-use Rattle.std.proofs.Common.{◌≡◌, refl, sym, ap, ◌∙◌, Bool, true, false, cond, ◌&&◌, ◌||◌, List, ℕ, ◌+◌, ◌≤◌, ◌<◌, length, get_or, take, arith}
+use Rattle.std.proofs.Common.{◌≡◌, refl, sym, ap, ◌∙◌, Bool, true, false, cond, ◌&&◌, ◌||◌, List, [], Float, ℕ, ◌+◌, ◌≤◌, ◌<◌, length, get_or, take, arith}
 use Prim.Native.Nat.{zero, suc}
 use Rattle.std.specs.Prelude.{Option, Some, None, IfSome}
 use Rattle.std.proofs.lemmas.List.{take_all}
@@ -14,7 +14,7 @@ use Rattle.folds.proofs.Column.{column-at, length-column}
 use Rattle.folds.specs.Marked.{bit, Marked}
 use Rattle.folds.proofs.Marked.{marked-none, marked-as}
 use Rattle.marks.specs.Marks.{is_at}
-use Rattle.view.specs.View.{View, max_points}
+use Rattle.view.specs.View.{View, max_points, view_at}
 use Rattle.view.specs.Seen.{below}
 use Rattle.view.proofs.Spread.{spread-column}
 use Rattle.local_h.specs.Order.{offset_at}
@@ -129,3 +129,8 @@ module _ (w : View) (e : Evidence) (few : w.count ≤ max_points) (ranks : (k : 
       → r ≡ overlaid w.count (λ (k : ℕ). get_or b (w.by_idx k) 0) (replicate max_points 0) → r ≡ blame_marks w e
   unfolding blame_marks
   by_rank s t h = spread-column 0 w.count _ _ h (λ k l. all-rules s t (w.by_idx k) (ranks k l))
+
+-- the positions do not count for the marks
+pub marked-of : (n : ℕ) (ranks : List ℕ) (xs ys : List Float) (e : Evidence) → blame_marks (view_at n ranks [] []) e ≡ blame_marks (view_at n ranks xs ys) e
+unfolding blame_marks
+marked-of n ranks xs ys e = refl

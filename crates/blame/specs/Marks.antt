@@ -18,10 +18,12 @@ pub record Evidence : Type 0 where
   pub high : ℕ → Bool
   pub deviates : ℕ → Bool
 
+-- the same, from arrays with an entry at the place of each index
 abbrev pub evidence_by : List ℕ → List ℕ → List ℕ → List ℕ → Evidence
 evidence_by flags over high deviates =
     record { flags = λ (m : ℕ). get_or flags m 0; over = is_set over; high = is_set high; deviates = is_set deviates }
 
+-- the evidence that the code's struct holds
 abbrev pub evidence_in : Held → Evidence
 evidence_in e = evidence_by e.flags.now e.over.now e.high.now e.deviates.now
 
@@ -49,6 +51,7 @@ abbrev pub flags_in : Option Worst → ℕ
 flags_in None = 0
 flags_in (Some worst) = worst.flags
 
+-- the place of the worst, if there is one
 abbrev pub place_in : Option Worst → Option ℕ
 place_in None = None
 place_in (Some worst) = Some worst.at
@@ -61,6 +64,7 @@ module _ (w : View) (flags : ℕ → ℕ) where
       let m = w.by_idx (member_at w k p) in
       cond (ltb (flags_in worst) (flags m)) (Some (record { at = m; flags = flags m })) worst
 
+  -- the worst of the members of the base b of corner k
   unfoldable pub worst_of : ℕ → List (Option ℕ) → Option Worst
   unfolding over worse_of
   worst_of k b = over (worse_of k) None b
@@ -79,6 +83,7 @@ unfoldable pub blames : View → Evidence → ℕ → ℕ → Bool
 unfolding blamed
 blames w e k m = is_visited w e k && is_at (blamed w e.flags k) m
 
+-- (3): some corner blames the index at place m
 abbrev pub rule3 : View → Evidence → ℕ → Bool
 rule3 w e m = some (λ (k : ℕ). blames w e k m) w.count
 

@@ -14,15 +14,19 @@ ghost use Rattle.close_pairs.specs.Hits.{hits_from, hits_in};
 mod sweep;
 
 use float::constants::DUPLICATE_FRACTION;
+use median::Numbers;
 use sweep::Sweep;
-use view::{Floats, Marks, Places};
+use view::{Floats, Marks, Places, Positions};
 
 // The ranks in the order of x.
 fn order_of(x: &Floats, n: usize) -> Places
     requires { (n ≤ max_points) × Finite n x.now }
     ensures { OrderedByX x.now n result }
 {
-    let a = median::keys_in_order(x, n);
+    let a = median::keys_in_order(&Numbers {
+        values: x,
+        count: n,
+    });
     view::filled(0, n, |i| (a[i] % sort::PACKED_PLACES) as u16)
 }
 
@@ -38,9 +42,9 @@ impl Sweep<'_> {
     // Marks a and b, which differ by dx in x, if they are close. Where both are marked already, or too far apart in y, it multiplies nothing.
     fn mark_pair(&self, dx: f32, a: usize, b: usize, mark: &mut Marks)
         requires { (a < max_points) × (b < max_points) }
-        ensures { Marked (λ (m : ℕ). lt (square_of dx (get_or self.now.y.now b nan ⊖ get_or self.now.y.now a nan)) self.now.limit && (eqb a m || eqb b m)) mark.old mark.new }
+        ensures { Marked (λ (m : ℕ). lt (square_of dx (get_or self.now.seen.now.y.now b nan ⊖ get_or self.now.seen.now.y.now a nan)) self.now.limit && (eqb a m || eqb b m)) mark.old mark.new }
     {
-        let dy = self.y[b] - self.y[a];
+        let dy = self.seen.y[b] - self.seen.y[a];
         if both_marked(mark, a, b) {
             return;
         }
@@ -61,7 +65,7 @@ impl Sweep<'_> {
         let a = usize::from(self.order[i]);
         for j in i + 1..self.count {
             let b = usize::from(self.order[j]);
-            let dx = self.x[b] - self.x[a];
+            let dx = self.seen.x[b] - self.seen.x[a];
             if self.side < dx {
                 return;
             }
@@ -80,19 +84,18 @@ impl Sweep<'_> {
 }
 
 // Marks the points that lie closer than 0.2 cell sizes to another. Where the square of that underflows to 0, none does.
-pub fn mark_close(x: &Floats, y: &Floats, cell: f32, n: usize, mark: &mut Marks)
-    requires { (n ≤ max_points) × Finite n x.now × Finite n y.now }
-    ensures { (ranks : List ℕ) → Marked (λ (m : ℕ). ltb m n && close_mark (view_at n ranks x.now y.now) cell m) mark.old mark.new }
+pub fn mark_close(seen: &Positions, cell: f32, n: usize, mark: &mut Marks)
+    requires { (n ≤ max_points) × Finite n seen.now.x.now × Finite n seen.now.y.now }
+    ensures { (ranks : List ℕ) → Marked (λ (m : ℕ). ltb m n && close_mark (view_at n ranks seen.now.x.now seen.now.y.now) cell m) mark.old mark.new }
 {
     if 0.0 < cell {
         let side = DUPLICATE_FRACTION * cell;
         let limit = side * side;
         if 0.0 < limit {
-            let order = order_of(x, n);
+            let order = order_of(seen.x, n);
             let sweep = Sweep {
                 order: &order,
-                x,
-                y,
+                seen,
                 count: n,
                 side,
                 limit,

@@ -3,15 +3,15 @@
 
 mod labelled;
 
-ghost use Rattle.std.specs.Prelude.{◌≡◌};
+ghost use Rattle.std.specs.Prelude.{◌≡◌, List, Float};
 ghost use Rattle.offsets.specs.Offsets.{places};
-ghost use Rattle.view.specs.Seen.{view_in};
+ghost use Rattle.view.specs.View.{view_at};
 ghost use Rattle.patches.specs.Search.{AreNear};
 ghost use Rattle.components.specs.Components.{filter_of};
 
 use labelled::Labelled;
 use offsets::Offset;
-use view::{Marks, View};
+use view::{Marks, SheetLattice};
 
 // The component mark of each rank, and how many patches there are.
 #[derive(Drop)]
@@ -22,17 +22,21 @@ pub struct ComponentFilter {
 
 // The component mark: an index with a cell outside the winner is marked at each of its cells.
 #[inline(never)]
-pub fn largest_component_filter(view: &View, dropped: &Marks, sides: &[Offset]) -> ComponentFilter
+pub fn largest_component_filter(
+    sheet: &SheetLattice,
+    dropped: &Marks,
+    sides: &[Offset],
+) -> ComponentFilter
     requires { AreNear sides.now }
-    ensures { result ≡ filter_of (view_in view.now) (places sides.now) dropped.now }
+    ensures { (xs ys : List Float) → result ≡ filter_of (view_at sheet.now.lattice.count sheet.now.lattice.ranks.now xs ys) (places sides.now) dropped.now }
 {
     let points = Labelled {
-        label: patches::labels(&view.lattice, dropped, sides),
-        count: view.lattice.count,
+        label: patches::labels(&sheet.lattice, dropped, sides),
+        count: sheet.lattice.count,
     };
     let outside = points.others(points.winner());
     ComponentFilter {
-        marks: marks::by_index(view, &outside),
+        marks: marks::by_index(sheet, &outside),
         components_seen: points.patches(),
     }
 }

@@ -1,4 +1,5 @@
 -- What the arrays of the two steps are together. Assumes nothing.
+use Rattle.std.specs.Prelude.{Option}
 use mathlib.Core.Path.{◌≡◌, refl, sym, ap, ◌∙◌}
 use mathlib.Core.Bool.{Bool, true, false, cond, ◌&&◌}
 use mathlib.Core.List.{List, [], ◌∷◌}
@@ -23,7 +24,7 @@ use Rattle.marks.specs.Byte.{Marking, marked_by, marked_by_all}
 use Rattle.marks.specs.Tally.{counts_of}
 use Rattle.marks.proofs.Guards.{set_is}
 use Rattle.marks.proofs.Byte.{by-same, Agree, all_same}
-use Rattle.local_h.specs.declared.Residual.{Residual}
+use Rattle.local_h.specs.Residual.{Distance}
 use Rattle.residuals.specs.ByIndex.{residuals_of}
 use Rattle.edge_shape.specs.Figures.{no_figures}
 use Rattle.edge_shape.specs.declared.Figures.{Figures}
@@ -155,21 +156,21 @@ module _ (s : Settings) (w : View) where
 
   -- ---- both
 
-  judged_by : Measured → List Residual → List Figures → DropSet → Judged
+  judged_by : Measured → List (Option Distance) → List Figures → DropSet → Judged
   judged_by m r f d = record { marks = d.marks; components = d.components; rounds = d.rounds; tally = d.tally; residuals = r; figures = f; boundary = m.boundary }
 
   both-parts : (cell : ℕ → Cell) (strength : List Float) → judged_by (measured_of s w cell) (residuals_of w cell) (figures_of s w) (patched_of s w strength (measured_of s w cell).marks) ≡ judged_of s w cell strength
   unfolding judged_of judged_by
   both-parts cell strength = refl
 
-  pub judged-is : (cell : ℕ → Cell) (strength : List Float) (figures : List Figures) (m : Measured) {r : List Residual} {d : DropSet} → m ≡ measured_of s w cell → r ≡ residuals_of w cell → figures ≡ figures_of s w
+  pub judged-is : (cell : ℕ → Cell) (strength : List Float) (figures : List Figures) (m : Measured) {r : List (Option Distance)} {d : DropSet} → m ≡ measured_of s w cell → r ≡ residuals_of w cell → figures ≡ figures_of s w
       → d ≡ patched_of s w strength m.marks
       → judged_from (record { marks = d.marks; components = d.components; rounds = d.rounds; tally = d.tally; residuals = r; boundary = m.boundary }) figures ≡ judged_of s w cell strength
   unfolding judged_by judged_from
   judged-is cell strength figures m {r} e h f g =
       ap (judged_by m r figures) g
       ∙ ap (λ (x : List Figures). judged_by m r x (patched_of s w strength m.marks)) f
-      ∙ ap (λ (x : List Residual). judged_by m x (figures_of s w) (patched_of s w strength m.marks)) h
+      ∙ ap (λ (x : List (Option Distance)). judged_by m x (figures_of s w) (patched_of s w strength m.marks)) h
       ∙ ap (λ (x : Measured). judged_by x (residuals_of w cell) (figures_of s w) (patched_of s w strength x.marks)) e
       ∙ both-parts cell strength
 

@@ -1,11 +1,11 @@
 // The filters of a sheet, in two steps: those that go by the points themselves, and those that go by what these leave. See specs/Filters.antt.
 #![tactic(auto)]
 
-ghost use Rattle.std.specs.Prelude.{◌≡◌, [], ◌∷◌, ℕ, ◌≤◌};
+ghost use Rattle.std.specs.Prelude.{◌≡◌, List, [], ◌∷◌, ℕ, Float, ◌≤◌};
 ghost use Rattle.folds.specs.Column.{column};
 ghost use Rattle.folds.specs.Marked.{bit};
-ghost use Rattle.view.specs.View.{max_points, Finite};
-ghost use Rattle.view.specs.Seen.{view_in};
+ghost use Rattle.view.specs.View.{max_points, Finite, view_at};
+ghost use Rattle.view.specs.Seen.{lattice_in, view_in};
 ghost use Rattle.cells.specs.Cell.{cells_at};
 ghost use Rattle.marks.specs.Filters.{validate as Validate, orientation as Orientation, wrong as Wrong};
 ghost use Rattle.marks.specs.Marks.{is_set};
@@ -23,9 +23,10 @@ use judged::figures::FigureColumn;
 use local_h::ResidualColumn;
 use marks::Tally;
 use marks::filters::Filter;
+use median::Numbers;
 use peel::Peeled;
 use sheet_file::{Fraction, Settings};
-use view::{Floats, MAX_POINTS, Marks, View, Words};
+use view::{Floats, MAX_POINTS, Marks, SheetLattice, View, Words};
 
 // The bytes of marks, how many patches the survivors have, how many rounds removed a weak end, and the tally.
 #[derive(Drop)]
@@ -74,10 +75,15 @@ pub fn measure(
     ensures residuals { residuals.new ≡ residuals_of (view_in view.now) (cells_at keys.now) }
     ensures figures { figures.new ≡ figures_of s (view_in view.now) }
 {
-    let edges = Edges::of(&view.lattice, view.x, view.y);
+    let mut along_u = [edges::no_edge(); MAX_POINTS];
+    let mut along_v = [edges::no_edge(); MAX_POINTS];
+    edges::fill(&view.lattice, &view.positions(), &mut along_u, &mut along_v);
     let table = EdgeTable {
         view: *view,
-        edges: &edges,
+        edges: Edges {
+            along_u: &along_u,
+            along_v: &along_v,
+        },
     };
     validate::edge_figures(s.edge_shape, &table, figures);
     let mut j = validate::validate(s, view, keys, figures, residuals);
@@ -90,11 +96,11 @@ pub fn measure(
 }
 
 // The component marks and count among the points whose byte is 0; none with the switch off.
-fn component_marks(s: Settings, view: &View, marks: &Marks) -> ComponentFilter
-    ensures { Joined s (view_in view.now) marks.now result }
+fn component_marks(s: Settings, sheet: &SheetLattice, marks: &Marks) -> ComponentFilter
+    ensures { (xs ys : List Float) → Joined s (view_at sheet.now.lattice.count sheet.now.lattice.ranks.now xs ys) marks.now result }
 {
     if s.apply_largest_component {
-        return components::largest_component_filter(view, marks, &patches::square_sides());
+        return components::largest_component_filter(sheet, marks, &patches::square_sides());
     }
     ComponentFilter {
         marks: [0; MAX_POINTS],
@@ -113,38 +119,42 @@ fn no_leaves() -> Peeled
 }
 
 // The weak ends of what the marks leave, and the rounds; none without tag 4.
-fn leaf_marks(s: Settings, view: &View, strength: &Floats, marks: &Marks) -> Peeled
-    requires { Weighed (view_in view.now) strength.now }
-    ensures { result ≡ peel_of s (view_in view.now) strength.now marks.now }
+fn leaf_marks(s: Settings, sheet: &SheetLattice, strength: &Floats, marks: &Marks) -> Peeled
+    requires { Weighed (lattice_in sheet.now.lattice) strength.now }
+    ensures { (xs ys : List Float) → result ≡ peel_of s (view_at sheet.now.lattice.count sheet.now.lattice.ranks.now xs ys) strength.now marks.now }
 {
     let fraction = s.score_frac;
     match fraction {
         Fraction::Missing => no_leaves(),
         Fraction::Outside => no_leaves(),
         Fraction::Given(x) => {
-            let weak = strengths::weak_marks(strength, view.lattice.count, x);
-            peel::weak_leaf_peel(view, marks, &weak, &patches::square_sides())
+            let strengths = Numbers {
+                values: strength,
+                count: sheet.lattice.count,
+            };
+            let weak = strengths::weak_marks(&strengths, x);
+            peel::weak_leaf_peel(sheet, marks, &weak, &patches::square_sides())
         }
     }
 }
 
 // The filters that go by the marks before them: the bytes with their marks too, the count of patches, the rounds, and the tally.
 #[inline(never)]
-pub fn drop_patches(s: Settings, view: &View, strength: &Floats, marks: &Marks) -> DropSet
-    requires { Weighed (view_in view.now) strength.now }
-    ensures { result ≡ patched_of s (view_in view.now) strength.now marks.now }
+pub fn drop_patches(s: Settings, sheet: &SheetLattice, strength: &Floats, marks: &Marks) -> DropSet
+    requires { Weighed (lattice_in sheet.now.lattice) strength.now }
+    ensures { (xs ys : List Float) → result ≡ patched_of s (view_at sheet.now.lattice.count sheet.now.lattice.ranks.now xs ys) strength.now marks.now }
 {
-    let n = view.lattice.count;
-    let peeled = leaf_marks(s, view, strength, marks);
+    let n = sheet.lattice.count;
+    let peeled = leaf_marks(s, sheet, strength, marks);
     let leaf = peeled.marks;
     let left = marks::marked_by(marks, &leaf, Filter::Leaf, n);
-    let filter = component_marks(s, view, &left);
+    let filter = component_marks(s, sheet, &left);
     let mark = filter.marks;
     let all = marks::marked_by(&left, &mark, Filter::Component, n);
     DropSet {
         marks: all,
         components: filter.components_seen,
         rounds: peeled.rounds,
-        tally: marks::tally(&view.lattice, &all),
+        tally: marks::tally(&sheet.lattice, &all),
     }
 }

@@ -110,6 +110,7 @@ fn side_at(edges: &EdgeTable, axis: Axis, a: usize, b: usize) -> Side
 }
 
 // The edge along an axis that leads to rank k, against the one that goes on from it.
+#[tactic(auto, using(crate::proofs::Laws::continuation_steps))]
 fn continuation_at(edges: &EdgeTable, axis: Axis, k: usize) -> Option<Measure>
     requires { k < edges.now.view.lattice.count }
     ensures { result ≡ continuation_at (view_in edges.now.view) (back axis) (forward axis) k }
@@ -126,6 +127,7 @@ fn continuation_at(edges: &EdgeTable, axis: Axis, k: usize) -> Option<Measure>
 }
 
 // The cell whose least corner is at offset o from rank k, if its corners are on the sheet.
+#[tactic(auto, using(crate::proofs::Laws::cell_steps))]
 fn cell_at(edges: &EdgeTable, k: usize, o: Offset) -> Option<CellShape>
     requires { (k < edges.now.view.lattice.count) × (is_near o ≡ true) }
     ensures { result ≡ shape_at (view_in edges.now.view) (rank_at (view_in edges.now.view) k o) }

@@ -1,5 +1,5 @@
 -- One edge from what the code reads, and what a table of edges holds at each rank. Assumes nothing.
-use Rattle.std.proofs.Common.{◌≡◌, ℕ, ◌<◌, ◌∙◌, refl, get_or}
+use Rattle.std.proofs.Common.{◌≡◌, ℕ, ◌<◌, ◌∙◌, get_or}
 use Rattle.std.specs.Prelude.{Some, None}
 use Rattle.folds.specs.Arith.{◌⊖◌, ◌⊘◌}
 use Rattle.folds.proofs.Column.{column-at}
@@ -7,7 +7,6 @@ use Rattle.float.specs.declared.Distance.{Distance}
 use Rattle.float.specs.Remainder.{length_of}
 use Rattle.offsets.specs.declared.Offset.{Offset}
 use Rattle.offsets.specs.declared.axis.Axis.{Axis}
-use Rattle.offsets.specs.declared.axis.Axis.TheVariants.{AlongU, AlongV}
 use Rattle.offsets.specs.Axes.{forward}
 use Rattle.view.specs.View.{max_points, View, rank_at}
 use Rattle.view.specs.Seen.{below}
@@ -15,7 +14,7 @@ use Rattle.view.proofs.Found.{not-found, found, found-below}
 use Rattle.edges.specs.declared.Edge.{Edge}
 use Rattle.edges.specs.declared.StoredEdge.{StoredEdge}
 use Rattle.edges.specs.declared.Edges.{Edges}
-use Rattle.edges.specs.Edges.{edge_by, no_edge, edge_at, stored_at, no_stored, edges_along, edges_of, along}
+use Rattle.edges.specs.Edges.{edge_by, no_edge, edge_at, stored_at, no_stored, edges_along, along}
 
 module _ (w : View) where
   -- ---- one edge, from the neighbour at its other end
@@ -36,9 +35,5 @@ module _ (w : View) where
   unfolding edges_along
   edge-at axis k h = column-at max_points no_stored w.count (stored_at w (forward axis)) k h
 
-  column-of : (axis : Axis) → along axis (edges_of w) ≡ edges_along w axis
-  column-of AlongU = refl
-  column-of AlongV = refl
-
-  pub table-at : (axis : Axis) (k : ℕ) {e : Edges} {r : StoredEdge} → e ≡ edges_of w → k < w.count → r ≡ get_or (along axis e) k no_stored → r ≡ stored_at w (forward axis) k
-  table-at axis k p h q = q ∙ rw (p, column-of axis) (edge-at axis k h)
+  pub table-at : (axis : Axis) (k : ℕ) (e : Edges) {r : StoredEdge} → along axis e ≡ edges_along w axis → k < w.count → r ≡ get_or (along axis e) k no_stored → r ≡ stored_at w (forward axis) k
+  table-at axis k e p h q = q ∙ rw p (edge-at axis k h)

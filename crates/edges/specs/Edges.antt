@@ -1,7 +1,7 @@
 -- The edges of the lattice along u and along v, by the rank where they start: length and unit vector. Two cells share an edge "if they differ
 -- by one in u and agree in v, or the other way round"; an edge in the direction next_u or next_v leads to the neighbour there.
 -- Assumes nothing.
-use Rattle.std.specs.Prelude.{cond, List, ℕ, pos, Float, Some}
+use Rattle.std.specs.Prelude.{cond, List, ℕ, pos, replicate, Float, Some}
 use Rattle.std.specs.Float.{nan}
 use Rattle.std.specs.Float.Ieee.{sub, div, of_bits}
 use Rattle.folds.specs.Arith.{◌⊖◌, ◌⊘◌, zero_f}
@@ -52,11 +52,11 @@ unfoldable pub edges_along : View → Axis → List StoredEdge
 unfolding edge_at column
 edges_along w axis = column max_points no_stored w.count (stored_at w (forward axis))
 
--- those along u and those along v
-abbrev pub edges_of : View → Edges
-edges_of w = record { along_u = edges_along w AlongU; along_v = edges_along w AlongV }
+-- no edges yet
+abbrev pub blank_column : List StoredEdge
+blank_column = replicate max_points no_stored
 
 -- the column of an axis
 abbrev pub along : Axis → Edges → List StoredEdge
-along AlongU e = e.along_u
-along AlongV e = e.along_v
+along AlongU e = e.along_u.now
+along AlongV e = e.along_v.now

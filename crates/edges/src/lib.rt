@@ -2,16 +2,18 @@
 #![tactic(auto)]
 
 ghost use Rattle.std.specs.Prelude.{◌≡◌, ◌<◌, get_or};
-ghost use Rattle.view.specs.View.{max_points, view_at};
+ghost use Rattle.view.specs.View.{max_points};
+ghost use Rattle.view.specs.Seen.{seen_in};
 ghost use Rattle.offsets.specs.Axes.{forward};
-ghost use Rattle.edges.specs.Edges.{edge_at, no_stored, stored, along, edges_along, edges_of};
+ghost use Rattle.offsets.specs.declared.axis.Axis.TheVariants.{AlongU, AlongV};
+ghost use Rattle.edges.specs.Edges.{edge_at, no_stored, stored, blank_column, along, edges_along};
 
 mod table;
 
 use float::Distance;
 use offsets::Axis;
 pub use table::EdgeTable;
-use view::{Floats, Lattice, MAX_POINTS};
+use view::{Lattice, MAX_POINTS, Positions};
 
 // An edge: its length and its unit vector, which means something only where the length is above 0.
 #[derive(Clone, Copy)]
@@ -32,23 +34,28 @@ pub struct StoredEdge {
 // The edges along one axis, each at the rank where it starts.
 pub type EdgeColumn = [StoredEdge; MAX_POINTS];
 
-#[derive(Drop)]
-pub struct Edges {
-    pub along_u: EdgeColumn,
-    pub along_v: EdgeColumn,
+// Those along both axes.
+#[derive(Clone, Copy)]
+pub struct Edges<'a> {
+    pub along_u: &'a EdgeColumn,
+    pub along_v: &'a EdgeColumn,
 }
 
-// What stands past the last rank.
-const NO_EDGE: StoredEdge = StoredEdge {
-    len: f32::NAN,
-    ux: f32::NAN,
-    uy: f32::NAN,
-};
+// No edge: what stands past the last rank.
+pub fn no_edge() -> StoredEdge
+    ensures { result ≡ no_stored }
+{
+    StoredEdge {
+        len: f32::NAN,
+        ux: f32::NAN,
+        uy: f32::NAN,
+    }
+}
 
 // The edge that starts at rank k along an axis: zeros where it leads to no point.
-fn edge_at(lattice: &Lattice, x: &Floats, y: &Floats, axis: Axis, k: usize) -> Edge
+fn edge_at(lattice: &Lattice, seen: &Positions, axis: Axis, k: usize) -> Edge
     requires { k < lattice.now.count }
-    ensures { result ≡ edge_at (view_at lattice.now.count lattice.now.ranks.now x.now y.now) (forward axis) k }
+    ensures { result ≡ edge_at (seen_in lattice.now seen.now) (forward axis) k }
 {
     let Some(j) = lattice.neighbour(k, axis.forward()) else {
         return Edge {
@@ -60,8 +67,8 @@ fn edge_at(lattice: &Lattice, x: &Floats, y: &Floats, axis: Axis, k: usize) -> E
             uy: 0.0,
         };
     };
-    let dx = x[j] - x[k];
-    let dy = y[j] - y[k];
+    let dx = seen.x[j] - seen.x[k];
+    let dy = seen.y[j] - seen.y[k];
     let len = float::norm(dx, dy);
     Edge {
         len,
@@ -82,30 +89,28 @@ impl Edge {
     }
 }
 
-// The edges along an axis.
+// Fills an empty column with the edges along an axis.
 #[inline(never)]
-fn edges_along(lattice: &Lattice, x: &Floats, y: &Floats, axis: Axis) -> EdgeColumn
-    ensures { result ≡ edges_along (view_at lattice.now.count lattice.now.ranks.now x.now y.now) axis }
+fn fill_along(lattice: &Lattice, seen: &Positions, axis: Axis, column: &mut EdgeColumn)
+    requires { column.old ≡ blank_column }
+    ensures { column.new ≡ edges_along (seen_in lattice.now seen.now) axis }
 {
-    view::filled(
-        NO_EDGE,
-        lattice.count,
-        |k| edge_at(lattice, x, y, axis, k).stored(),
-    )
+    for k in 0..lattice.count {
+        column[k] = edge_at(lattice, seen, axis, k).stored();
+    }
 }
 
-impl Edges {
-    // The edges along both.
-    #[inline(never)]
-    pub fn of(lattice: &Lattice, x: &Floats, y: &Floats) -> Edges
-        ensures { result ≡ edges_of (view_at lattice.now.count lattice.now.ranks.now x.now y.now) }
-    {
-        Edges {
-            along_u: edges_along(lattice, x, y, Axis::AlongU),
-            along_v: edges_along(lattice, x, y, Axis::AlongV),
-        }
-    }
+// Fills empty columns with the edges along both axes.
+pub fn fill(lattice: &Lattice, seen: &Positions, along_u: &mut EdgeColumn, along_v: &mut EdgeColumn)
+    requires { (along_u.old ≡ blank_column) × (along_v.old ≡ blank_column) }
+    ensures u { along_u.new ≡ edges_along (seen_in lattice.now seen.now) AlongU }
+    ensures v { along_v.new ≡ edges_along (seen_in lattice.now seen.now) AlongV }
+{
+    fill_along(lattice, seen, Axis::AlongU, along_u);
+    fill_along(lattice, seen, Axis::AlongV, along_v);
+}
 
+impl Edges<'_> {
     // The edge that starts at rank k along an axis.
     pub fn at(&self, axis: Axis, k: usize) -> StoredEdge
         requires { k < max_points }

@@ -1,8 +1,9 @@
 // The edges of a sheet, with the view that they are those of.
 ghost use Rattle.std.specs.Prelude.{◌≡◌, ◌<◌};
 ghost use Rattle.view.specs.Seen.{view_in};
+ghost use Rattle.offsets.specs.declared.axis.Axis.{Axis};
 ghost use Rattle.offsets.specs.Axes.{forward};
-ghost use Rattle.edges.specs.Edges.{edges_of, stored_at};
+ghost use Rattle.edges.specs.Edges.{along, edges_along, stored_at};
 
 use crate::{Edges, StoredEdge};
 use offsets::Axis;
@@ -11,8 +12,8 @@ use view::View;
 #[derive(Clone, Copy)]
 pub struct EdgeTable<'a> {
     pub view: View<'a>,
-    pub edges: &'a Edges,
-    ghost held: { edges.now ≡ edges_of (view_in view) },
+    pub edges: Edges<'a>,
+    ghost held: { (axis : Axis) → along axis edges ≡ edges_along (view_in view) axis },
 }
 
 impl EdgeTable<'_> {

@@ -1,5 +1,4 @@
 -- Positions for dropped points, of small files: by the rule, with one pair, two and none; and what they depend on. Assumes nothing.
-use Rattle.std.specs.Prelude.{Some}
 use mathlib.Core.Path.{◌≡◌, refl, sym, ap, ◌∙◌}
 use mathlib.Core.Bool.{true}
 use mathlib.Core.List.Permᴰ
@@ -22,9 +21,8 @@ use Rattle.ruling.specs.Ruling.{accepted, ruling_of}
 use Rattle.ruling.specs.Order.{records_in, Relisted}
 use Rattle.ruling.proofs.Weights.{bytes-by, headed-by}
 use Rattle.predict.specs.Predict.{Prediction}
-use Rattle.std.specs.Prelude.{None}
+use Rattle.std.specs.Prelude.{Some, None, Ok, Err}
 use Rattle.sheet_fills.specs.Answer.{fill_answer_of, fills_after}
-use Rattle.sheet_fills.specs.declared.FillAnswer.TheVariants.{Refused, Filled}
 use Rattle.promises.specs.Fills.{fill_in, dropped_rank, predicted_in, PairAt, Fills, KeptAlike}
 use Rattle.promises.proofs.Fills.{fills, two-pairs, finite-fills, kept-alone, fills-another-order}
 use Rattle.stars.specs.Stars.{rules-compute, settings}
@@ -75,7 +73,7 @@ unfolding fills_after file-computes fills-compute settings_in gate_in
 row-fills-left = refl
 
 -- and what it answers: with a byte less it refuses
-pub row-fills-answered : (fill_answer_of row_file 60 ≡ Filled (record { points = 3; fills = 1 })) × (fill_answer_of row_file 59 ≡ Refused 3)
+pub row-fills-answered : (fill_answer_of row_file 60 ≡ Ok (record { points = 3; fills = 1 })) × (fill_answer_of row_file 59 ≡ Err 3)
 unfolding fill_answer_of file-computes fills-compute settings_in gate_in
 row-fills-answered = (refl, refl)
 

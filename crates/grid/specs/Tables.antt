@@ -50,6 +50,7 @@ table_of n cell index = blocks n (neighbour_entry n cell) (first_in_row n cell) 
 
 -- ---- as arrays
 
+-- what an array of numbers holds at a place, and 0 past its end
 abbrev pub entry_in : List ℕ → ℕ → ℕ
 entry_in l k = get_or l k 0
 

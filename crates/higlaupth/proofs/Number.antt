@@ -1,4 +1,5 @@
 -- The returned numbers, for every file and buffer. Assumes nothing.
+use Rattle.std.specs.Prelude.{Ok, Err}
 use mathlib.Core.Path.{◌≡◌, refl, ap}
 use mathlib.Core.Bool.{Bool, true, false, cond}
 use mathlib.Core.List.{List}
@@ -16,40 +17,36 @@ use Rattle.ruling.specs.Ruling.{sheet_numbers}
 use Rattle.ruling.proofs.Given.{sheet-number}
 use Rattle.runs.specs.Run.{full}
 use Rattle.runs.specs.declared.Run.{Run}
-use Rattle.kept.specs.Answer.{answer_of}
-use Rattle.kept.specs.declared.Answer.{Answer}
-use Rattle.kept.specs.declared.Answer.TheVariants.{Refused, Accepted}
+use Rattle.kept.specs.Answer.{Answer, answer_of}
 use Rattle.kept.specs.declared.Counts.{Counts}
 use Rattle.kept.proofs.Bounds.{counts-bounded, refusal-listed}
 use Rattle.kept_in_run.specs.InRun.{answer_in_run}
 use Rattle.map_lines.specs.Map.{map_size}
 use Rattle.sheet_map.specs.Text.{map_text_of}
 use Rattle.sheet_map.proofs.Whole.{text-fits}
-use Rattle.sheet_fills.specs.Answer.{fill_answer_of}
-use Rattle.sheet_fills.specs.declared.FillAnswer.{FillAnswer}
-use Rattle.sheet_fills.specs.declared.FillAnswer.TheVariants as fills
+use Rattle.sheet_fills.specs.Answer.{FillAnswer, fill_answer_of}
 use Rattle.sheet_fills.specs.declared.FillCounts.{FillCounts}
 use Rattle.sheet_fills.proofs.Bounds.{fills-bounded, fills-listed}
 use Rattle.higlaupth.specs.Number.{number_of, SheetCounts, Countable, Returned, refusal, counts, InRunReturned, run-full, as-sheet, text_number, MapReturned, fill_number_of, FillsOfSheet, FewFills, FillsReturned, no-fills, fill-counts}
 
 -- ---- of higlaupth_keep
 
-few : (file : List ℕ) (room : ℕ) → Bytes file → {c : Counts} → answer_of file room ≡ Accepted c → SheetCounts c.points c.components c.rounds
+few : (file : List ℕ) (room : ℕ) → Bytes file → {c : Counts} → answer_of file room ≡ Ok c → SheetCounts c.points c.components c.rounds
 few file room b e = let r = counts-bounded file room b e in record { few-components = r.components; few-rounds = r.rounds; few-points = r.points }
 
 pub returned : (file : List ℕ) (room : ℕ) → Bytes file → Returned (number_of (answer_of file room))
 returned file room b = go (answer_of file room) refl
   where
     go : (a : Answer) → answer_of file room ≡ a → Returned (number_of a)
-    go (Refused k) e = refusal k (refusal-listed file room e)
-    go (Accepted c) e = counts c.points c.components c.rounds (few file room b e)
+    go (Err k) e = refusal k (refusal-listed file room e)
+    go (Ok c) e = counts c.points c.components c.rounds (few file room b e)
 
 pub countable : (file : List ℕ) (room : ℕ) → Bytes file → Countable (answer_of file room)
 countable file room b = go (answer_of file room) refl
   where
     go : (a : Answer) → answer_of file room ≡ a → Countable a
-    go (Refused k) e = tt
-    go (Accepted c) e = few file room b e
+    go (Err k) e = tt
+    go (Ok c) e = few file room b e
 
 -- taken apart: above the low 32 bits a refusal has 0; the counts have an odd number there, above it 16 bits of rounds, and below it 16 bits of
 -- points and 16 bits of components
@@ -71,18 +68,18 @@ counts-apart p c r h = record {
 }
 
 -- 2,304 points in one patch, of which a chain has lost one a round but for the last
-pub full-chain : number_of (Accepted (record { points = 2304; components = 1; rounds = 2303 })) ≡ 648236875810603009
+pub full-chain : number_of (Ok (record { points = 2304; components = 1; rounds = 2303 })) ≡ 648236875810603009
 full-chain = refl
 
 -- ---- of higlaupth_keep_in_run
 
 module _ (r : Run) (file : List ℕ) (room : ℕ) where
   -- a full record refuses with 11; one that is not leaves the call its answer
-  in-run : (P : Answer → Type 0) → P (Refused 11) → P (answer_of file room) → P (answer_in_run r file room)
+  in-run : (P : Answer → Type 0) → P (Err 11) → P (answer_of file room) → P (answer_in_run r file room)
   unfolding answer_in_run
   in-run P a b = go (full r)
     where
-      go : (f : Bool) → P (cond f (Refused 11) (answer_of file room))
+      go : (f : Bool) → P (cond f (Err 11) (answer_of file room))
       go true = a
       go false = b
 
@@ -134,27 +131,27 @@ map-returned file room b = by_size (length (map_text_of file)) room (text-fits f
 -- ---- of higlaupth_fills
 
 module _ (file : List ℕ) (room : ℕ) (b : Bytes file) where
-  few-fills : {c : FillCounts} → fill_answer_of file room ≡ fills.Filled c → FillsOfSheet c.points c.fills
+  few-fills : {c : FillCounts} → fill_answer_of file room ≡ Ok c → FillsOfSheet c.points c.fills
   few-fills e = let r = fills-bounded file room b e in record { few-fills = r.fills; few-points = r.points }
 
   pub few-filled : FewFills (fill_answer_of file room)
   few-filled = go (fill_answer_of file room) refl
     where
       go : (a : FillAnswer) → fill_answer_of file room ≡ a → FewFills a
-      go (fills.Refused k) e = tt
-      go (fills.Filled c) e = few-fills e
+      go (Err k) e = tt
+      go (Ok c) e = few-fills e
 
   pub fills-returned : FillsReturned (fill_number_of (fill_answer_of file room))
   fills-returned = go (fill_answer_of file room) refl
     where
       go : (a : FillAnswer) → fill_answer_of file room ≡ a → FillsReturned (fill_number_of a)
-      go (fills.Refused k) e = no-fills k (fills-listed file room e)
-      go (fills.Filled c) e = fill-counts c.points c.fills (few-fills e)
+      go (Err k) e = no-fills k (fills-listed file room e)
+      go (Ok c) e = fill-counts c.points c.fills (few-fills e)
 
 -- taken apart: above the low 32 bits the counts have 1, and below it 16 bits of points and 16 bits of fills
 pub fill-counts-apart : (points fills : ℕ) → FillsOfSheet points fills → let n = 2 ^ 32 + 2 ^ 16 * points + fills in (n / 2 ^ 32 ≡ 1) × (n / 2 ^ 16 % 2 ^ 16 ≡ points) × (n % 2 ^ 16 ≡ fills)
 fill-counts-apart p f h = (omega (arith, h.few-fills, h.few-points), omega (arith, h.few-fills, h.few-points), omega (arith, h.few-fills, h.few-points))
 
 -- 2,304 points, all dropped
-all-dropped : fill_number_of (fills.Filled (record { points = 2304; fills = 2304 })) ≡ 4445964544
+all-dropped : fill_number_of (Ok (record { points = 2304; fills = 2304 })) ≡ 4445964544
 all-dropped = refl

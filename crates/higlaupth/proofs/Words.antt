@@ -1,4 +1,5 @@
 -- The words of a record, one by one; and that nothing is lost between a record and its words. Assumes nothing.
+use Rattle.std.specs.Prelude.{Ok, Err}
 use mathlib.Core.Path.{◌≡◌, refl, sym, ap, ◌∙◌}
 use mathlib.Core.List.{List, [], ◌∷◌, ◌++◌}
 use mathlib.Core.Option.{none, some}
@@ -9,9 +10,7 @@ use Rattle.folds.proofs.Lists.{length-list, is-list}
 use Rattle.runs.specs.Run.{summed, old_sums, with_sheet, Yield, taken, added}
 use Rattle.runs.specs.declared.Run.{Run}
 use Rattle.runs.proofs.Adding.{with-is}
-use Rattle.kept.specs.Answer.{tally_of}
-use Rattle.kept.specs.declared.Answer.{Answer}
-use Rattle.kept.specs.declared.Answer.TheVariants.{Refused, Accepted}
+use Rattle.kept.specs.Answer.{Answer, tally_of}
 use Rattle.kept_in_run.specs.InRun.{answer_in_run, run_after}
 use Rattle.kept_in_run.proofs.Laws.{after_is, refused-record}
 use Rattle.kept_in_run.specs.Through.{Call, run_through}
@@ -65,8 +64,8 @@ unfolding words_after
 after-words words file buffer = go (answer_in_run (run_in words) file (length buffer)) refl
   where
     go : (a : Answer) → answer_in_run (run_in words) file (length buffer) ≡ a → run_in (words_by words (run_after (run_in words) file (length buffer)) a) ≡ run_after (run_in words) file (length buffer)
-    go (Refused k) e = sym (refused-record (run_in words) file buffer k e)
-    go (Accepted c) e = let z = after-sized words file (length buffer) in run-again (run_after (run_in words) file (length buffer)) z.old z.new
+    go (Err k) e = sym (refused-record (run_in words) file buffer k e)
+    go (Ok c) e = let z = after-sized words file (length buffer) in run-again (run_after (run_in words) file (length buffer)) z.old z.new
 
 -- the record that the words hold goes through the calls as the promises on runs say (promises/specs/Runs.antt)
 pub words-through : (words : List ℕ) (calls : List Call) → run_in (words_through words calls) ≡ run_through (run_in words) calls

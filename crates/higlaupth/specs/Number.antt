@@ -1,18 +1,16 @@
 -- The numbers that the calls hand to C. Assumes nothing.
-use Rattle.std.specs.Prelude.{◌≡◌, true, cond, ◌⊎◌, ℕ, ◌+◌, ◌-◌, ◌*◌, ◌^◌, ◌≤◌, ◌<◌, eqb, leb}
+use Rattle.std.specs.Prelude.{◌≡◌, true, cond, ◌⊎◌, ℕ, ◌+◌, ◌-◌, ◌*◌, ◌^◌, ◌≤◌, ◌<◌, eqb, leb, Ok, Err}
 use Rattle.folds.specs.Among.{any_in}
 use Rattle.view.specs.View.{max_points}
 use Rattle.ruling.specs.Ruling.{sheet_numbers}
-use Rattle.kept.specs.declared.Answer.{Answer}
-use Rattle.kept.specs.declared.Answer.TheVariants.{Refused, Accepted}
+use Rattle.kept.specs.Answer.{Answer}
 use Rattle.map_lines.specs.Map.{map_size}
-use Rattle.sheet_fills.specs.declared.FillAnswer.{FillAnswer}
-use Rattle.sheet_fills.specs.declared.FillAnswer.TheVariants as fills
+use Rattle.sheet_fills.specs.Answer.{FillAnswer}
 
 -- the refusal number, or the counts of points, of components and of rounds above 2^32
 abbrev pub number_of : Answer → ℕ
-number_of (Refused number) = number
-number_of (Accepted counts) = 2 ^ 48 * counts.rounds + 2 ^ 32 + 2 ^ 16 * counts.points + counts.components
+number_of (Err number) = number
+number_of (Ok counts) = 2 ^ 48 * counts.rounds + 2 ^ 32 + 2 ^ 16 * counts.points + counts.components
 
 -- counts as a sheet has them: no more components than points, no more rounds, no more points than the most of a sheet
 pub record SheetCounts (points components rounds : ℕ) : Type 0 where
@@ -22,8 +20,8 @@ pub record SheetCounts (points components rounds : ℕ) : Type 0 where
 
 -- an answer whose counts are so
 abbrev pub Countable : Answer → Type 0
-Countable (Refused number) = Unit {0}
-Countable (Accepted counts) = SheetCounts counts.points counts.components counts.rounds
+Countable (Err number) = Unit {0}
+Countable (Ok counts) = SheetCounts counts.points counts.components counts.rounds
 
 -- what the number that higlaupth_keep returns is: that of a refusal of a sheet, or 2^48 · rounds + 2^32 + 2^16 · points + components
 pub data Returned : ℕ → Type 0 where
@@ -51,8 +49,8 @@ pub record MapReturned (size room : ℕ) : Type 0 where
 
 -- the refusal number, or the counts of points and of fills above 2^32
 abbrev pub fill_number_of : FillAnswer → ℕ
-fill_number_of (fills.Refused number) = number
-fill_number_of (fills.Filled c) = 2 ^ 32 + 2 ^ 16 * c.points + c.fills
+fill_number_of (Err number) = number
+fill_number_of (Ok c) = 2 ^ 32 + 2 ^ 16 * c.points + c.fills
 
 -- an answer whose counts are as a sheet has them: no more fills than points, no more points than the most of a sheet
 pub record FillsOfSheet (points fills : ℕ) : Type 0 where
@@ -60,8 +58,8 @@ pub record FillsOfSheet (points fills : ℕ) : Type 0 where
   pub few-points : points ≤ max_points
 
 abbrev pub FewFills : FillAnswer → Type 0
-FewFills (fills.Refused number) = Unit {0}
-FewFills (fills.Filled c) = FillsOfSheet c.points c.fills
+FewFills (Err number) = Unit {0}
+FewFills (Ok c) = FillsOfSheet c.points c.fills
 
 -- what the number that higlaupth_fills returns is: that of a refusal of a sheet, or 2^32 + 2^16 · points + fills
 pub data FillsReturned : ℕ → Type 0 where

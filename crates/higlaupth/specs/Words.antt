@@ -1,10 +1,9 @@
 -- The record of a run as C holds it, in u32s: "its five old sums", the count of accepted sheets, the new sums. Assumes nothing.
-use Rattle.std.specs.Prelude.{List, [], ◌∷◌, ◌++◌, ℕ, ◌+◌, length, get_or}
+use Rattle.std.specs.Prelude.{List, [], ◌∷◌, ◌++◌, ℕ, ◌+◌, length, get_or, Ok, Err}
 use Rattle.folds.specs.Lists.{list_of}
 use Rattle.runs.specs.Run.{summed, old_sums}
 use Rattle.runs.specs.declared.Run.{Run}
-use Rattle.kept.specs.declared.Answer.{Answer}
-use Rattle.kept.specs.declared.Answer.TheVariants.{Refused, Accepted}
+use Rattle.kept.specs.Answer.{Answer}
 use Rattle.kept_in_run.specs.InRun.{answer_in_run, run_after}
 use Rattle.kept_in_run.specs.Through.{Call}
 
@@ -22,8 +21,8 @@ run_in words =
 
 -- the words after a call: those of the record with the sheet added, if it is accepted; else as they were
 abbrev pub words_by : List ℕ → Run → Answer → List ℕ
-words_by words run (Refused k) = words
-words_by words run (Accepted c) = words_of run
+words_by words run (Err k) = words
+words_by words run (Ok c) = words_of run
 
 unfoldable pub words_after : List ℕ → List ℕ → ℕ → List ℕ
 unfolding run_in answer_in_run run_after

@@ -7,6 +7,7 @@ ghost use Rattle.std.specs.Float.{binary32};
 ghost use Rattle.std.specs.Float.Ieee.{of_bits};
 ghost use Rattle.float.specs.Remainder.{whole_root_of};
 ghost use Rattle.float.specs.Words.{found_number, root_words};
+ghost use Rattle.refusals.specs.Number.{numbered};
 ghost use Rattle.runs.specs.Run.{new_run, run_from};
 ghost use Rattle.kept.specs.Answer.{answer_of, rows_after};
 ghost use Rattle.kept_in_run.specs.InRun.{answer_in_run, rows_in_run};
@@ -15,19 +16,20 @@ ghost use Rattle.sheet_fills.specs.Answer.{fill_answer_of, fills_after};
 ghost use Rattle.higlaupth.specs.Number.{number_of, Countable, text_number, fill_number_of, FewFills};
 ghost use Rattle.higlaupth.specs.Words.{words_of, run_in, words_after};
 
-use kept::Answer;
+use kept::Counts;
+use refusals::Refusal;
 use runs::{NEW_SUMS, OLD_SUMS, Run};
-use sheet_fills::FillAnswer;
+use sheet_fills::FillCounts;
 use text::NoRoom;
 
 // The number of an answer: that of a refusal; else 2^48 * rounds + 2^32 + 2^16 * points + components.
-fn number_of(a: Answer) -> u64
-    requires { Countable a }
-    ensures { result ≡ number_of a }
+fn number_of(answer: Result<Counts, Refusal>) -> u64
+    requires { Countable (numbered answer) }
+    ensures { result ≡ number_of (numbered answer) }
 {
-    match a {
-        Answer::Refused(number) => number as u64,
-        Answer::Accepted(counts) => {
+    match answer {
+        Err(refusal) => u64::from(refusal.number()),
+        Ok(counts) => {
             let points = counts.points;
             let components = counts.components;
             let rounds = counts.rounds;
@@ -45,8 +47,7 @@ pub extern "C" fn higlaupth_keep(file: &[u8], rows: &mut [u8]) -> u64
     ensures number { result ≡ number_of (answer_of file.now (length rows.old)) }
     ensures rows { rows.new ≡ rows_after file.now rows.old }
 {
-    let a = kept::keep(file, rows);
-    number_of(a)
+    number_of(kept::keep(file, rows))
 }
 
 // ---- a run
@@ -107,11 +108,9 @@ pub extern "C" fn higlaupth_keep_in_run(file: &[u8], rows: &mut [u8], run: &mut 
     ensures run { run.new ≡ words_after run.old file.now (length rows.old) }
 {
     let k = kept_in_run::keep_in_run(file, rows, run_in(run));
-    let a = k.answer;
-    let number = number_of(a);
-    if let Answer::Accepted(_) = a {
-        let after = k.run;
-        let words = words_of(after);
+    let number = number_of(k.answer);
+    if k.answer.is_ok() {
+        let words = words_of(k.run);
         *run = words;
     }
     number
@@ -135,13 +134,13 @@ pub extern "C" fn higlaupth_map(file: &[u8], text: &mut [u8]) -> u64
 // ---- the fills
 
 // The number of an answer: that of a refusal; else 2^32 + 2^16 * points + fills.
-fn fill_number_of(a: FillAnswer) -> u64
-    requires { FewFills a }
-    ensures { result ≡ fill_number_of a }
+fn fill_number_of(answer: Result<FillCounts, Refusal>) -> u64
+    requires { FewFills (numbered answer) }
+    ensures { result ≡ fill_number_of (numbered answer) }
 {
-    match a {
-        FillAnswer::Refused(number) => number as u64,
-        FillAnswer::Filled(counts) => {
+    match answer {
+        Err(refusal) => u64::from(refusal.number()),
+        Ok(counts) => {
             let points = counts.points;
             let fills = counts.fills;
             0x1_0000_0000 + 0x1_0000 * (points as u64) + fills as u64
@@ -155,8 +154,7 @@ pub extern "C" fn higlaupth_fills(file: &[u8], fills: &mut [u8]) -> u64
     ensures number { result ≡ fill_number_of (fill_answer_of file.now (length fills.old)) }
     ensures fills { fills.new ≡ fills_after file.now fills.old }
 {
-    let a = sheet_fills::fill_sheet(file, fills);
-    fill_number_of(a)
+    fill_number_of(sheet_fills::fill_sheet(file, fills))
 }
 
 // ---- a root by whole numbers

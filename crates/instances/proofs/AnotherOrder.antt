@@ -1,5 +1,5 @@
 -- Demand 3 (b), another order, of the sheet of five points; and of a file with another setting. Assumes nothing.
-use Rattle.std.specs.Prelude.{Some}
+use Rattle.std.specs.Prelude.{Some, Ok}
 use mathlib.Core.Path.{◌≡◌, refl, sym, ap, ◌∙◌}
 use mathlib.Core.List.Permᴰ
 use mathlib.Core.List.{List, [], ◌∷◌, ◌++◌, Permᴰ}
@@ -14,7 +14,6 @@ use Rattle.sheet_file.specs.declared.Layout.{Layout}
 use Rattle.ruling.specs.Order.{records_in, Relisted}
 use Rattle.ruling.proofs.Weights.{bytes-by, headed-by}
 use Rattle.kept.specs.Answer.{answer_of, rows_after}
-use Rattle.kept.specs.declared.Answer.TheVariants.{Accepted}
 use Rattle.sheet_listing.specs.Text.{text_of}
 use Rattle.promises.specs.Promises.{SameResult}
 use Rattle.promises.proofs.Theorems.{another-order}
@@ -47,7 +46,7 @@ pub turned_same : SameResult file turned
 turned_same = another-order file turned (layout_of file) file-bytes framed is-relisted
 
 -- so the counts, the text and the rows of the one file are those of the other
-pub turned-answered : answer_of turned 140 ≡ Accepted (record { points = 5; components = 2; rounds = 0 })
+pub turned-answered : answer_of turned 140 ≡ Ok (record { points = 5; components = 2; rounds = 0 })
 turned-answered = turned_same.answer 140 ∙ answered
 
 pub turned-printed : text_of turned ≡ shown
@@ -85,11 +84,11 @@ pub zero-size-marks : marks_of zero_size near ≡ 0 ∷ 0 ∷ []
 unfolding rules-compute
 zero-size-marks = refl
 
-near-answered : answer_of near_file 56 ≡ Accepted (record { points = 2; components = 0; rounds = 0 })
+near-answered : answer_of near_file 56 ≡ Ok (record { points = 2; components = 0; rounds = 0 })
 unfolding answer_of file-computes rules-compute
 near-answered = refl
 
-zero-size-answered : answer_of zero_size_file 56 ≡ Accepted (record { points = 2; components = 1; rounds = 0 })
+zero-size-answered : answer_of zero_size_file 56 ≡ Ok (record { points = 2; components = 1; rounds = 0 })
 unfolding answer_of file-computes rules-compute
 zero-size-answered = refl
 

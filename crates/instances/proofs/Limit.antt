@@ -1,5 +1,6 @@
 -- The limit of points, of the call and of the programs `sheet` and `map`: sheets of zeros at the limit, above it, of the most points that can be framed, and of
 -- one more, by laws and not by computing over the bytes; and one whose tag 4 does not fit. Assumes nothing.
+use Rattle.std.specs.Prelude.{Err}
 use mathlib.Core.Path.{◌≡◌, refl}
 use mathlib.Core.List.{List, [], ◌++◌}
 use mathlib.Core.Logic.{inl}
@@ -13,7 +14,6 @@ use Rattle.ruling.specs.Limit.{point_count, short_sheet, zero_sheet}
 use Rattle.ruling.proofs.Limit.{limit, short-framed, zero-bytes, zero-unframed}
 use Rattle.ruling.proofs.Weights.{none-empty, bytes-by}
 use Rattle.kept.specs.Answer.{answer_of}
-use Rattle.kept.specs.declared.Answer.TheVariants.{Refused}
 use Rattle.promises.specs.Limit.{AllRefuse, NoneRefuses, PassesShown, LimitShown}
 use Rattle.promises.proofs.Limit.{limit-shown}
 use Rattle.stars.specs.Stars.{rules-compute}
@@ -64,7 +64,7 @@ framing-needed-shown f = let n = most_records + 1 in (past-most-not-two n 0 (ome
 pub one_passes : PassesShown (zero_sheet 1) 27
 one_passes = few-shown 1 27 (omega arith)
 
-pub one-three : answer_of (zero_sheet 1) 27 ≡ Refused 3
+pub one-three : answer_of (zero_sheet 1) 27 ≡ Err 3
 unfolding answer_of short_sheet file-computes rules-compute
 one-three = refl
 

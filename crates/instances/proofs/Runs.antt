@@ -1,6 +1,6 @@
 -- "totals of a run": three small files, one of them refused, in two orders and in another listing; records near their limits, where an order
 -- matters. Assumes nothing.
-use Rattle.std.specs.Prelude.{Some}
+use Rattle.std.specs.Prelude.{Some, Ok, Err}
 use mathlib.Core.Path.{◌≡◌, refl, sym, ap, ◌∙◌}
 use mathlib.Core.Bool.{false}
 use mathlib.Core.Logic.{inl, inr}
@@ -22,9 +22,8 @@ use Rattle.runs.specs.Run.{full, new_run, run_from, run_refusals, run_with}
 use Rattle.runs.specs.Promises.{FitsU32, Bounded}
 use Rattle.runs.specs.declared.Run.{Run}
 use Rattle.runs.proofs.Full.{none-at}
+use Rattle.refusals.proofs.Number.{err-no-ok}
 use Rattle.kept.specs.Answer.{answer_of, tally_of}
-use Rattle.kept.specs.declared.Answer.TheVariants.{Refused, Accepted}
-use Rattle.kept.specs.declared.Counts.{Counts}
 use Rattle.kept_in_run.specs.InRun.{answer_in_run, run_after}
 use Rattle.kept_in_run.specs.Through.{Call, run_through, answers_in}
 use Rattle.promises.specs.Runs.{accepted_tallies, RunTotals, NoneEleven, OtherListing, SameRun}
@@ -55,7 +54,7 @@ three = call_on file 140 ∷ call_on cut_file 140 ∷ call_on doubled_file 56 �
 abbrev old : List ℕ
 old = 812 ∷ 40 ∷ 3 ∷ 25 ∷ 120 ∷ []
 
-pub three-answers : answers_in (run_from old) three ≡ Accepted (record { points = 5; components = 2; rounds = 0 }) ∷ Refused 1 ∷ Accepted (record { points = 2; components = 1; rounds = 0 }) ∷ []
+pub three-answers : answers_in (run_from old) three ≡ Ok (record { points = 5; components = 2; rounds = 0 }) ∷ Err 1 ∷ Ok (record { points = 2; components = 1; rounds = 0 }) ∷ []
 unfolding runs-compute
 three-answers = refl
 
@@ -102,11 +101,11 @@ few_first = call_on doubled_file 56 ∷ call_on file 140 ∷ []
 abbrev many_first : List Call
 many_first = call_on file 140 ∷ call_on doubled_file 56 ∷ []
 
-few-answers : answers_in nearly few_first ≡ Accepted (record { points = 2; components = 1; rounds = 0 }) ∷ Accepted (record { points = 5; components = 2; rounds = 0 }) ∷ []
+few-answers : answers_in nearly few_first ≡ Ok (record { points = 2; components = 1; rounds = 0 }) ∷ Ok (record { points = 5; components = 2; rounds = 0 }) ∷ []
 unfolding runs-compute
 few-answers = refl
 
-pub many-answers : answers_in nearly many_first ≡ Accepted (record { points = 5; components = 2; rounds = 0 }) ∷ Refused 11 ∷ []
+pub many-answers : answers_in nearly many_first ≡ Ok (record { points = 5; components = 2; rounds = 0 }) ∷ Err 11 ∷ []
 unfolding runs-compute
 many-answers = refl
 
@@ -119,10 +118,7 @@ unfolding runs-compute
 many-run = refl
 
 none-in-few : NoneEleven nearly few_first
-none-in-few = rw few-answers ((λ e. answers-apart e), ((λ e. answers-apart e), tt))
-  where
-    answers-apart : {k : ℕ} {c : Counts} → Accepted c ≡ Refused k → ⊥
-    answers-apart e = let z : ◌≡◌ {A = ℕ} 1 0 = cc in omega arith
+none-in-few = rw few-answers ((λ e. err-no-ok (sym e)), ((λ e. err-no-ok (sym e)), tt))
 
 -- so the promise on the order of sheets needs its condition, and of both orders
 pub both-needed : ((r : Run) (a b : List Call) → Permᴰ a b → NoneEleven r a → run_through r a ≡ run_through r b) → ⊥
@@ -137,12 +133,12 @@ abbrev counted : ℕ → Run
 counted sheets = record_of (replicate 5 (2 ^ 32 - 1)) sheets (replicate 6 0)
 
 -- no bytes are refused with 1; in a run that counts 65,535 sheets, with 11
-pub eleven-before-one : answer_in_run (counted 65535) [] 0 ≡ Refused 11
+pub eleven-before-one : answer_in_run (counted 65535) [] 0 ≡ Err 11
 unfolding full
 eleven-before-one = (call-in-run (counted 65535) [] []).eleven refl
 
 -- with 65,534 sheets it is the sheet's own number, and an accepted one is the last
-pub one-by-itself : answer_in_run (counted 65534) [] 0 ≡ Refused 1
+pub one-by-itself : answer_in_run (counted 65534) [] 0 ≡ Err 1
 unfolding runs-compute
 one-by-itself = refl
 
@@ -150,7 +146,7 @@ pub last-sheet : run_after (counted 65534) file 140 ≡ record_of (replicate 5 (
 unfolding runs-compute
 last-sheet = refl
 
-pub not-by-itself : answer_of [] 0 ≡ Refused 11 → ⊥
+pub not-by-itself : answer_of [] 0 ≡ Err 11 → ⊥
 not-by-itself = (eleven-alone []).sheet 0
 
 -- ---- another listing of a sheet

@@ -1,6 +1,6 @@
 -- "Weak ends of a patch": files with tag 4 of two to five points, of another order, a whole move, the switches and the kept patch; and of files
 -- without the conditions. Assumes nothing.
-use Rattle.std.specs.Prelude.{None, Some, is_some}
+use Rattle.std.specs.Prelude.{None, Some, is_some, Ok}
 use mathlib.Core.Path.{◌≡◌, refl, sym, ap, ◌∙◌, subst}
 use mathlib.Core.Bool.{Bool, true, false, not, ◌&&◌, true≢false}
 use mathlib.Core.List.{List, [], ◌∷◌, ◌++◌, Permᴰ}
@@ -32,7 +32,6 @@ use Rattle.marks.specs.Filters.{validate, leaf, component, filter_count}
 use Rattle.marks.specs.Byte.{has_mark}
 use Rattle.validate.specs.Validate.{validate_mark}
 use Rattle.kept.specs.Answer.{answer_of, rows_after}
-use Rattle.kept.specs.declared.Answer.TheVariants.{Accepted}
 use Rattle.text.specs.Text.{bytes}
 use Rattle.sheet_listing.specs.Text.{text_of}
 use Rattle.promises.specs.Promises.{LargestPatch, SameResult, MovedMarks, MovedRows, SameRowBits}
@@ -110,7 +109,7 @@ pub row_same : SameResult row_file turned_row
 row_same = another-order row_file turned_row (layout_of row_file) row-bytes row-framed row-relisted
 
 -- so the counts, the text and the rows of the one file are those of the other
-pub turned-row-answered : answer_of turned_row 84 ≡ Accepted (record { points = 3; components = 1; rounds = 2 })
+pub turned-row-answered : answer_of turned_row 84 ≡ Ok (record { points = 3; components = 1; rounds = 2 })
 turned-row-answered = row_same.answer 84 ∙ row-answered
 
 pub turned-row-printed : text_of turned_row ≡ bytes "points 3 components 1 rounds 2\n0 0 0 ---L- - -\n1 0 1 ---L- - -\n2 0 2 ----- - -\nkept 1 validate 0 orientation 0 wrong 0 leaf 2 component 0\n0 0 0\n1 0 0\n"
@@ -129,7 +128,7 @@ pub left-behind-marks : marks_of row_settings (on_row 0 0 0 one ∷ on_row 1 1 s
 unfolding rules-compute
 left-behind-marks = refl
 
-left-behind-answered : answer_of left_behind 84 ≡ Accepted (record { points = 3; components = 1; rounds = 1 })
+left-behind-answered : answer_of left_behind 84 ≡ Ok (record { points = 3; components = 1; rounds = 1 })
 unfolding answer_of file-computes rules-compute
 left-behind-answered = refl
 
@@ -204,7 +203,7 @@ rounds-moved =
 pub row-moved-rows : MovedRows row_file moved_row (replicate 84 0) 3
 row-moved-rows = moved-file-rows row_file (replicate 84 0) (negsuc 5) (pos 7) row-bytes row_settings row row-accepted row-in-range
 
-pub row-moved-answered : answer_of moved_row 84 ≡ Accepted (record { points = 3; components = 1; rounds = 2 })
+pub row-moved-answered : answer_of moved_row 84 ≡ Ok (record { points = 3; components = 1; rounds = 2 })
 row-moved-answered =
     row-moved-rows.counts
     (λ k h.

@@ -1,6 +1,7 @@
 -- The bytes of small sheet files; the sheet of five points; settings with cell size 0; the marks of points, and the component count and the
 -- rounds of an answer; a repeated index; a file cut short. Assumes nothing.
-use Rattle.std.specs.Prelude.{List, [], ◌∷◌, ◌++◌, ℕ, length, take, None}
+use Rattle.kept.specs.Answer.{Answer}
+use Rattle.std.specs.Prelude.{List, [], ◌∷◌, ◌++◌, ℕ, length, take, None, Ok, Err}
 use Rattle.folds.specs.Arith.{f32}
 use Rattle.cells.specs.Points.{Point}
 use Rattle.sheet_file.specs.Bytes.{little_endian}
@@ -9,8 +10,6 @@ use Rattle.sheet_file.specs.Refusals.{defaults_for}
 use Rattle.sheet_file.specs.declared.Fraction.TheVariants.{Missing}
 use Rattle.sheet_file.specs.declared.Settings.{Settings}
 use Rattle.judging.specs.Judging.{judged_for}
-use Rattle.kept.specs.declared.Answer.{Answer}
-use Rattle.kept.specs.declared.Answer.TheVariants.{Refused, Accepted}
 use Rattle.stars.specs.Listed.{file}
 use Rattle.written_file.specs.File.{points_bytes, unweighed_file, weighed_file}
 
@@ -87,13 +86,13 @@ marks_of s ps = take (length ps) (judged_for s ps).marks
 
 -- the component count of an answer
 abbrev pub answered_components : Answer → ℕ
-answered_components (Refused k) = 0
-answered_components (Accepted c) = c.components
+answered_components (Err k) = 0
+answered_components (Ok c) = c.components
 
 -- and its rounds
 abbrev pub answered_rounds : Answer → ℕ
-answered_rounds (Refused k) = 0
-answered_rounds (Accepted c) = c.rounds
+answered_rounds (Err k) = 0
+answered_rounds (Ok c) = c.rounds
 
 -- ---- one index at two cells, and at one position
 

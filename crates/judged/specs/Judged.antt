@@ -1,7 +1,7 @@
 -- A judged sheet: what the filters find of its points, by rank. Assumes nothing.
-use Rattle.std.specs.Prelude.{List, ℕ, replicate}
+use Rattle.std.specs.Prelude.{List, ℕ, replicate, Option}
 use Rattle.view.specs.View.{max_points}
-use Rattle.local_h.specs.declared.Residual.{Residual}
+use Rattle.local_h.specs.Residual.{Distance}
 use Rattle.edge_shape.specs.declared.Figures.{Figures}
 use Rattle.edge_shape.specs.Figures.{no_figures}
 use Rattle.judged.specs.declared.Findings.{Findings}
@@ -16,7 +16,7 @@ pub record Judged : Type 0 where
   -- how many indices are counted under each filter, and how many are kept
   pub tally : List ℕ
   -- the residual of each rank's index
-  pub residuals : List Residual
+  pub residuals : List (Option Distance)
   -- the edge figures and the box boundary that are held under its index
   pub figures : List Figures
   pub boundary : List ℕ

@@ -81,7 +81,7 @@ module _ (ps : List Point) (o : CellOrder ps) (limits : (k : ℕ) → k < length
   unfolding strengths_of
   finite-strengths k h = rw (column-at max_points nan (length ps) (λ (k : ℕ). f32 (get_or ps k nowhere).strength) k h) (inside-finite (f32 (get_or ps k nowhere).strength) (strengths k h))
 
-  module _ (n number : ℕ) (t : Table) (size : n ≡ length ps) (h : Tabled number ps t) where
+  module _ (n : ℕ) (t : Table) (size : n ≡ length ps) (h : Tabled ps t) where
     pub arrays-ready : Arrays n t.keys t.x t.y t.strength
     arrays-ready = record {
       keyed = rw (size, h.keys-are) (keys-ready ps o);

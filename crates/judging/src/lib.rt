@@ -1,24 +1,26 @@
 // From the points of a sheet in cell order to the judged sheet. What it is stands in specs/Judging.antt.
 #![tactic(auto)]
 
-ghost use Rattle.std.specs.Prelude.{◌≡◌, ◌≤◌, replicate};
-ghost use Rattle.view.specs.View.{max_points, ranks_size, view_at};
-ghost use Rattle.view.specs.Seen.{view_in};
+ghost use Rattle.std.specs.Prelude.{◌≡◌, replicate};
+ghost use Rattle.view.specs.View.{ranks_size};
+ghost use Rattle.view.specs.Seen.{seen_in, view_in};
 ghost use Rattle.grid.specs.Tables.{ranks_of};
 ghost use Rattle.cells.specs.Cell.{cells_at};
 ghost use Rattle.judged.specs.Judged.{judged_from, blank_figures};
 ghost use Rattle.predict.specs.Fills.{fills_of};
 ghost use Rattle.drop_set.specs.Filters.{sides_of, judged_of};
 ghost use Rattle.drop_set.specs.Given.{Celled, Weighed};
-ghost use Rattle.judging.specs.Judging.{Arrays, judged_by};
+ghost use Rattle.judging.specs.Judging.{judged_by};
 
+mod columns;
+
+pub use columns::Columns;
+use grid::Points;
 use judged::Findings;
 use judged::figures::FigureColumn;
-use local_h::Residual;
 use predict::Fills;
-use ruling::Sheet;
 use sheet_file::Settings;
-use view::{Floats, Lattice, MAX_POINTS, Marks, RANKS_SIZE, Ranks, View, Words};
+use view::{Floats, Lattice, MAX_POINTS, Marks, Positions, RANKS_SIZE, Ranks, View, Words};
 
 // The judged sheet of a view with the keys of its cells and its strengths, its edge figures into an empty array.
 #[inline(never)]
@@ -32,10 +34,10 @@ pub fn judge_view(
     requires { Celled view.now.lattice.count keys.now view.now.x.now view.now.y.now × Weighed (view_in view.now) strength.now × (figures.old ≡ blank_figures) }
     ensures { judged_from result figures.new ≡ judged_of s (view_in view.now) (cells_at keys.now) strength.now }
 {
-    let mut residuals = [Residual::NoFit; MAX_POINTS];
+    let mut residuals = [None; MAX_POINTS];
     let m = drop_set::measure(s, view, keys, figures, &mut residuals);
     let measured = m.marks;
-    let d = drop_set::drop_patches(s, view, strength, &measured);
+    let d = drop_set::drop_patches(s, &view.sheet(), strength, &measured);
     let marks = d.marks;
     let tally = d.tally;
     let boundary = m.boundary;
@@ -51,64 +53,61 @@ pub fn judge_view(
 
 // The judged sheet of points that were read of an accepted file with their table of ranks, its edge figures into an empty array.
 #[inline(never)]
-fn judge_ranked<'a>(sheet: &'a Sheet, ranks: &'a Ranks, figures: &mut FigureColumn) -> Findings
-    requires arrays { Arrays sheet.now.count sheet.now.table.keys sheet.now.table.x sheet.now.table.y sheet.now.table.strength }
-    requires ranks { ranks.now ≡ ranks_of sheet.now.count sheet.now.table.keys sheet.now.table.idx }
+fn judge_ranked<'a>(
+    points: &'a Columns<'a>,
+    ranks: &'a Ranks,
+    figures: &mut FigureColumn,
+) -> Findings
+    requires ranks { ranks.now ≡ ranks_of points.now.count points.now.keys.now points.now.idx.now }
     requires blank { figures.old ≡ blank_figures }
-    ensures { judged_from result figures.new ≡ judged_by sheet.now.settings sheet.now.count sheet.now.table.keys sheet.now.table.idx sheet.now.table.x sheet.now.table.y sheet.now.table.strength }
+    ensures { judged_from result figures.new ≡ judged_by points.now.settings points.now.count points.now.keys.now points.now.idx.now points.now.x.now points.now.y.now points.now.strength.now }
 {
     let lattice = Lattice {
         ranks,
-        count: sheet.count,
+        count: points.count,
     };
     let view = View {
         lattice,
-        x: &sheet.table.x,
-        y: &sheet.table.y,
+        x: points.x,
+        y: points.y,
     };
     judge_view(
-        sheet.settings,
+        points.settings,
         &view,
-        &sheet.table.keys,
-        &sheet.table.strength,
+        points.keys,
+        points.strength,
         figures,
     )
 }
 
 // The judged sheet of points that were read of an accepted file, its table of ranks and its edge figures into empty arrays.
-pub fn judge_sheet(sheet: &Sheet, ranks: &mut Ranks, figures: &mut FigureColumn) -> Findings
-    requires { Arrays sheet.now.count sheet.now.table.keys sheet.now.table.x sheet.now.table.y sheet.now.table.strength × (ranks.old ≡ replicate ranks_size 0) × (figures.old ≡ blank_figures) }
-    ensures ranks { ranks.new ≡ ranks_of sheet.now.count sheet.now.table.keys sheet.now.table.idx }
-    ensures judged { judged_from result figures.new ≡ judged_by sheet.now.settings sheet.now.count sheet.now.table.keys sheet.now.table.idx sheet.now.table.x sheet.now.table.y sheet.now.table.strength }
+pub fn judge_sheet(points: &Columns, ranks: &mut Ranks, figures: &mut FigureColumn) -> Findings
+    requires { (ranks.old ≡ replicate ranks_size 0) × (figures.old ≡ blank_figures) }
+    ensures ranks { ranks.new ≡ ranks_of points.now.count points.now.keys.now points.now.idx.now }
+    ensures judged { judged_from result figures.new ≡ judged_by points.now.settings points.now.count points.now.keys.now points.now.idx.now points.now.x.now points.now.y.now points.now.strength.now }
 {
-    grid::fill(&sheet.table.keys, &sheet.table.idx, sheet.count, ranks);
-    judge_ranked(sheet, ranks, figures)
+    let listed = Points {
+        keys: points.keys,
+        idx: points.idx,
+        count: points.count,
+    };
+    grid::fill(&listed, ranks);
+    judge_ranked(points, ranks, figures)
 }
 
 // The same, with a table of ranks of its own.
-pub fn judge(sheet: &Sheet, figures: &mut FigureColumn) -> Findings
-    requires { Arrays sheet.now.count sheet.now.table.keys sheet.now.table.x sheet.now.table.y sheet.now.table.strength × (figures.old ≡ blank_figures) }
-    ensures { judged_from result figures.new ≡ judged_by sheet.now.settings sheet.now.count sheet.now.table.keys sheet.now.table.idx sheet.now.table.x sheet.now.table.y sheet.now.table.strength }
+pub fn judge(points: &Columns, figures: &mut FigureColumn) -> Findings
+    requires { figures.old ≡ blank_figures }
+    ensures { judged_from result figures.new ≡ judged_by points.now.settings points.now.count points.now.keys.now points.now.idx.now points.now.x.now points.now.y.now points.now.strength.now }
 {
     let mut ranks = [0u16; RANKS_SIZE];
-    judge_sheet(sheet, &mut ranks, figures)
+    judge_sheet(points, &mut ranks, figures)
 }
 
-// The fills of a judged sheet: what is predicted for each point with a mark.
+// The fills of a judged sheet: what is predicted for each point with a mark. The offsets are those of any sheet.
 #[inline(never)]
-pub fn fills(sheet: &Sheet, ranks: &Ranks, marks: &Marks) -> Fills
-    requires { sheet.now.count ≤ max_points }
-    ensures { result ≡ fills_of (view_at sheet.now.count ranks.now sheet.now.table.x sheet.now.table.y) (sides_of sheet.now.settings) marks.now }
+pub fn fills(lattice: &Lattice, seen: &Positions, marks: &Marks) -> Fills
+    ensures { (s : Settings) → result ≡ fills_of (seen_in lattice.now seen.now) (sides_of s) marks.now }
 {
-    let lattice = Lattice {
-        ranks,
-        count: sheet.count,
-    };
-    predict::fills(
-        &lattice,
-        &sheet.table.x,
-        &sheet.table.y,
-        marks,
-        &patches::square_sides(),
-    )
+    predict::fills(lattice, seen, marks, &patches::square_sides())
 }

@@ -1,20 +1,27 @@
 -- What the call answers and what it leaves in the result buffer, for any bytes and any buffer. Assumes nothing.
-use Rattle.std.specs.Prelude.{List, ℕ, ◌+◌, length, replicate}
+use Rattle.std.specs.Prelude.{List, ℕ, length, Result, Ok, Err}
 use Rattle.std.proofs.Math.Option.{Option, none, some}
+use Rattle.cells.specs.Points.{Point}
+use Rattle.sheet_file.specs.declared.Settings.{Settings}
 use Rattle.ruling.specs.Ruling.{Ruling, refused, accepted, ruling_of}
 use Rattle.judged.specs.Shown.{shown_at}
 use Rattle.judging.specs.Judging.{judged_for}
 use Rattle.rows.specs.Rows.{rows_over}
-use Rattle.marks.specs.Filters.{filter_count}
-use Rattle.kept.specs.declared.Answer.{Answer}
-use Rattle.kept.specs.declared.Answer.TheVariants.{Refused, Accepted}
+use Rattle.kept.specs.declared.Counts.{Counts}
 use Rattle.kept.specs.declared.Kept.{Kept}
 
--- the numbers and values of document 01 for each ruling: the refusal number, or the counts of points and of components, and "the number of
--- rounds that removed something"
+-- the refusal number, or the counts
+abbrev pub Answer : Type 0
+Answer = Result Counts ℕ
+
+-- the counts of points and of components, and "the number of rounds that removed something"
+abbrev pub counts_for : Settings → List Point → Counts
+counts_for s ps = record { points = length ps; components = (judged_for s ps).components; rounds = (judged_for s ps).rounds }
+
+-- the numbers and values of document 01 for each ruling
 abbrev pub answer_by : Ruling → Answer
-answer_by (refused k) = Refused k
-answer_by (accepted s ps) = Accepted (record { points = length ps; components = (judged_for s ps).components; rounds = (judged_for s ps).rounds })
+answer_by (refused k) = Err k
+answer_by (accepted s ps) = Ok (counts_for s ps)
 
 -- the buffer afterwards: the rows, 28 bytes a point in cell order, and what stood beyond them; or what stood before, if refused
 abbrev pub rows_by : List ℕ → Ruling → List ℕ
@@ -41,11 +48,10 @@ tally_of file room = tally_by (ruling_of file room)
 
 -- ---- for the code: answer and tally together
 
--- where there is no tally, zeros
-abbrev pub counts_in : Option (List ℕ) → List ℕ
-counts_in none = replicate (filter_count + 1) 0
-counts_in (some counts) = counts
+abbrev pub kept_by : Ruling → Result Kept ℕ
+kept_by (refused k) = Err k
+kept_by (accepted s ps) = Ok (record { counts = counts_for s ps; tally = (judged_for s ps).tally })
 
-unfoldable pub kept_of : List ℕ → ℕ → Kept
-unfolding answer_of tally_of
-kept_of file room = record { answer = answer_of file room; tally = counts_in (tally_of file room) }
+unfoldable pub kept_of : List ℕ → ℕ → Result Kept ℕ
+unfolding ruling_of judged_for
+kept_of file room = kept_by (ruling_of file room)

@@ -1,13 +1,16 @@
-// The call on a sheet file: its rows and counts, or the number of a refusal.
+// The call on a sheet file: its rows and counts, or a refusal.
 #![tactic(auto)]
 
-ghost use Rattle.std.specs.Prelude.{◌≡◌, length};
+ghost use Rattle.std.specs.Prelude.{◌≡◌, length, Ok};
+ghost use Rattle.refusals.specs.Number.{numbered};
 ghost use Rattle.ruling.specs.Ruling.{ruling_of};
 ghost use Rattle.ruling.specs.Sheet.{Ruled};
 ghost use Rattle.kept.specs.Answer.{answer_of, kept_of, rows_after};
 
 use edge_shape::NO_FIGURES;
-use marks::{COUNTS, Tally};
+use judging::Columns;
+use marks::Tally;
+use refusals::Refusal;
 use ruling::Sheet;
 use view::MAX_POINTS;
 
@@ -18,59 +21,57 @@ pub struct Counts {
     pub rounds: usize,
 }
 
-#[derive(Clone, Copy)]
-pub enum Answer {
-    Refused(u8),
-    Accepted(Counts),
-}
-
-// The answer, and the tally of an accepted sheet; zeros where it is refused.
+// The counts of an accepted sheet, and its tally.
 #[derive(Clone, Copy)]
 pub struct Kept {
-    pub answer: Answer,
+    pub counts: Counts,
     pub tally: Tally,
 }
 
-// Writes the rows of a sheet that was read of a file, and gives the counts; or the number of a refusal, and writes nothing.
+// Writes the rows of a sheet that was read of a file, and gives the counts and the tally.
 #[inline(never)]
-fn keep_sheet(file: &[u8], sheet: Sheet, rows: &mut [u8]) -> Kept
-    requires { Ruled (ruling_of file.now (length rows.old)) sheet }
-    ensures answer { result ≡ kept_of file.now (length rows.old) }
+fn keep_sheet(file: &[u8], sheet: &Sheet, rows: &mut [u8]) -> Kept
+    requires { Ruled (ruling_of file.now (length rows.old)) (Ok sheet.now) }
+    ensures kept { Ok result ≡ kept_of file.now (length rows.old) }
     ensures rows { rows.new ≡ rows_after file.now rows.old }
 {
-    let n = sheet.count;
-    let number = sheet.table.number;
-    if number == 0 {
-        let mut figures = [NO_FIGURES; MAX_POINTS];
-        let j = judging::judge(&sheet, &mut figures);
-        let answer = Answer::Accepted(Counts {
-            points: n,
-            components: j.components,
-            rounds: j.rounds,
-        });
-        let tally = j.tally;
-        rows::write_rows(j, &figures, n, rows);
-        return Kept { answer, tally };
-    }
-    let answer = Answer::Refused(number);
-    let tally = [0; COUNTS];
-    Kept { answer, tally }
+    let mut figures = [NO_FIGURES; MAX_POINTS];
+    let points = Columns {
+        settings: sheet.settings,
+        count: sheet.count,
+        keys: &sheet.table.keys,
+        idx: &sheet.table.idx,
+        x: &sheet.table.x,
+        y: &sheet.table.y,
+        strength: &sheet.table.strength,
+    };
+    let j = judging::judge(&points, &mut figures);
+    let counts = Counts {
+        points: sheet.count,
+        components: j.components,
+        rounds: j.rounds,
+    };
+    let tally = j.tally;
+    rows::write_rows(&j, &figures, sheet.count, rows);
+    Kept { counts, tally }
 }
 
-// The call, with the tally: the rows of a sheet file's points, 28 bytes each, in cell order, and the counts; or the number of a refusal.
-pub fn keep_counted(file: &[u8], rows: &mut [u8]) -> Kept
-    ensures answer { result ≡ kept_of file.now (length rows.old) }
+// The call, with the tally: writes the rows of a sheet file's points, 28 bytes each, in cell order, and gives the counts; or a refusal, and
+// writes nothing.
+pub fn keep_counted(file: &[u8], rows: &mut [u8]) -> Result<Kept, Refusal>
+    ensures kept { numbered result ≡ kept_of file.now (length rows.old) }
     ensures rows { rows.new ≡ rows_after file.now rows.old }
 {
-    let sheet = ruling::read(file, rows.len());
-    keep_sheet(file, sheet, rows)
+    match &ruling::read(file, rows.len()) {
+        Ok(sheet) => Ok(keep_sheet(file, sheet, rows)),
+        Err(refusal) => Err(*refusal),
+    }
 }
 
 // The call.
-pub fn keep(file: &[u8], rows: &mut [u8]) -> Answer
-    ensures answer { result ≡ answer_of file.now (length rows.old) }
+pub fn keep(file: &[u8], rows: &mut [u8]) -> Result<Counts, Refusal>
+    ensures answer { numbered result ≡ answer_of file.now (length rows.old) }
     ensures rows { rows.new ≡ rows_after file.now rows.old }
 {
-    let k = keep_counted(file, rows);
-    k.answer
+    Ok(keep_counted(file, rows)?.counts)
 }

@@ -5,28 +5,22 @@ use mathlib.Core.Bool.{Bool, true, false, cond}
 use mathlib.Core.List.{List}
 use mathlib.Core.Option.{none, some}
 use Prim.Native.Nat.{ℕ}
-use native.Mathlib.Omega.{arith}
 use lib.ListN.{length}
+use Rattle.std.proofs.Common.{Ok, Err}
+use Rattle.refusals.proofs.Number.{err-no-ok}
 use Rattle.ruling.specs.Ruling.{Ruling, refused, accepted, ruling_of}
 use Rattle.runs.specs.Run.{full, with_sheet, run_with}
 use Rattle.runs.specs.declared.Run.{Run}
 use Rattle.runs.proofs.Theorems.{after-sheet}
 use Rattle.judging.specs.Judging.{judged_for}
 use Rattle.kept.specs.Answer.{answer_by, tally_by, rows_by, answer_of, rows_after, tally_of}
-use Rattle.kept.specs.declared.Answer.TheVariants.{Refused, Accepted}
 use Rattle.kept.specs.declared.Counts.{Counts}
 use Rattle.ruling.proofs.Given.{sheet-number}
 use Rattle.kept.proofs.Bounds.{refusal-listed}
 use Rattle.kept_in_run.specs.InRun.{answer_in_run, run_after, rows_in_run}
 
-refused-apart : {k : ℕ} {c : Counts} → Refused k ≡ Accepted c → ⊥
-refused-apart e = let z : ◌≡◌ {A = ℕ} 0 1 = cc in omega arith
-
-one_number : (j k : ℕ) → Refused j ≡ Refused k → j ≡ k
-one_number j k e = cc e
-
 module _ (r : Run) (file : List ℕ) where
-  pub answer-is : (room : ℕ) → answer_in_run r file room ≡ cond (full r) (Refused 11) (answer_of file room)
+  pub answer-is : (room : ℕ) → answer_in_run r file room ≡ cond (full r) (Err 11) (answer_of file room)
   unfolding answer_in_run
   answer-is room = refl
 
@@ -39,40 +33,40 @@ module _ (r : Run) (file : List ℕ) where
   rows_are buffer = refl
 
 -- no sheet is refused with 11 by itself
-pub never-eleven : (file : List ℕ) (room : ℕ) → answer_of file room ≡ Refused 11 → ⊥
+pub never-eleven : (file : List ℕ) (room : ℕ) → answer_of file room ≡ Err 11 → ⊥
 never-eleven file room e = (sheet-number 11 (refusal-listed file room e)).not-run refl
 
 module _ (file : List ℕ) (room : ℕ) where
   -- a refused sheet has no tally, an accepted one has one
-  refused-tally : {k : ℕ} → answer_of file room ≡ Refused k → tally_of file room ≡ none
+  refused-tally : {k : ℕ} → answer_of file room ≡ Err k → tally_of file room ≡ none
   unfolding answer_of tally_of
   refused-tally {k} e = go (ruling_of file room) e
     where
-      go : (x : Ruling) → answer_by x ≡ Refused k → tally_by x ≡ none
+      go : (x : Ruling) → answer_by x ≡ Err k → tally_by x ≡ none
       go (refused j) e = refl
-      go (accepted s ps) e = absurd (refused-apart (sym e))
+      go (accepted s ps) e = absurd (err-no-ok (sym e))
 
-  pub accepted-tally : {c : Counts} → answer_of file room ≡ Accepted c → (t : List ℕ) × (tally_of file room ≡ some t)
+  pub accepted-tally : {c : Counts} → answer_of file room ≡ Ok c → (t : List ℕ) × (tally_of file room ≡ some t)
   unfolding answer_of tally_of
   accepted-tally {c} e = go (ruling_of file room) e
     where
-      go : (x : Ruling) → answer_by x ≡ Accepted c → (t : List ℕ) × (tally_by x ≡ some t)
-      go (refused j) e = absurd (refused-apart e)
+      go : (x : Ruling) → answer_by x ≡ Ok c → (t : List ℕ) × (tally_by x ≡ some t)
+      go (refused j) e = absurd (err-no-ok e)
       go (accepted s ps) e = ((judged_for s ps).tally, refl)
 
-refused-buffer : (file buffer : List ℕ) {k : ℕ} → answer_of file (length buffer) ≡ Refused k → rows_after file buffer ≡ buffer
+refused-buffer : (file buffer : List ℕ) {k : ℕ} → answer_of file (length buffer) ≡ Err k → rows_after file buffer ≡ buffer
 unfolding answer_of rows_after
 refused-buffer file buffer {k} e = go (ruling_of file (length buffer)) e
   where
-    go : (x : Ruling) → answer_by x ≡ Refused k → rows_by buffer x ≡ buffer
+    go : (x : Ruling) → answer_by x ≡ Err k → rows_by buffer x ≡ buffer
     go (refused j) e = refl
-    go (accepted s ps) e = absurd (refused-apart (sym e))
+    go (accepted s ps) e = absurd (err-no-ok (sym e))
 
 module _ (r : Run) (file buffer : List ℕ) where
   abbrev room : ℕ
   room = length buffer
 
-  pub eleven : full r ≡ true → answer_in_run r file room ≡ Refused 11
+  pub eleven : full r ≡ true → answer_in_run r file room ≡ Err 11
   eleven e = answer-is r file room ∙ rw e
 
   pub else-answer : full r ≡ false → answer_in_run r file room ≡ answer_of file room
@@ -81,30 +75,30 @@ module _ (r : Run) (file buffer : List ℕ) where
   pub else-rows : full r ≡ false → rows_in_run r file buffer ≡ rows_after file buffer
   else-rows e = rows_are r file buffer ∙ rw e
 
-  pub eleven-only : answer_in_run r file room ≡ Refused 11 → full r ≡ true
+  pub eleven-only : answer_in_run r file room ≡ Err 11 → full r ≡ true
   eleven-only h = go (full r) refl
     where
       go : (b : Bool) → full r ≡ b → full r ≡ true
       go true q = q
       go false q = absurd (never-eleven file room (sym (else-answer q) ∙ h))
 
-  pub refused-record : (k : ℕ) → answer_in_run r file room ≡ Refused k → run_after r file room ≡ r
+  pub refused-record : (k : ℕ) → answer_in_run r file room ≡ Err k → run_after r file room ≡ r
   refused-record k h = after_is r file room ∙ go (full r) refl
     where
       go : (b : Bool) → full r ≡ b → run_with r (tally_of file room) ≡ r
       go true q = (after-sheet r).when-full q (tally_of file room)
       go false q = ap (run_with r) (refused-tally file room (sym (else-answer q) ∙ h)) ∙ (after-sheet r).refused
 
-  pub refused-rows : (k : ℕ) → answer_in_run r file room ≡ Refused k → rows_in_run r file buffer ≡ buffer
+  pub refused-rows : (k : ℕ) → answer_in_run r file room ≡ Err k → rows_in_run r file buffer ≡ buffer
   refused-rows k h = go (full r) refl
     where
       go : (b : Bool) → full r ≡ b → rows_in_run r file buffer ≡ buffer
       go true q = rows_are r file buffer ∙ rw q
       go false q = else-rows q ∙ refused-buffer file buffer (sym (else-answer q) ∙ h)
 
-  pub sheet-added : (c : Counts) → answer_in_run r file room ≡ Accepted c → (t : List ℕ) × (tally_of file room ≡ some t) × (run_after r file room ≡ with_sheet r t)
+  pub sheet-added : (c : Counts) → answer_in_run r file room ≡ Ok c → (t : List ℕ) × (tally_of file room ≡ some t) × (run_after r file room ≡ with_sheet r t)
   sheet-added c h = go (full r) refl
     where
       go : (b : Bool) → full r ≡ b → (t : List ℕ) × (tally_of file room ≡ some t) × (run_after r file room ≡ with_sheet r t)
-      go true q = absurd (refused-apart (sym (eleven q) ∙ h))
+      go true q = absurd (err-no-ok (sym (eleven q) ∙ h))
       go false q = let t = accepted-tally file room (sym (else-answer q) ∙ h) in (t.0, t.1, after_is r file room ∙ ap (run_with r) t.1 ∙ (after-sheet r).accepted q t.0)

@@ -1,7 +1,7 @@
 -- One call in a run after the other. Assumes nothing.
 use Rattle.std.specs.Prelude.{List, [], ◌∷◌, ℕ, length}
 use Rattle.runs.specs.declared.Run.{Run}
-use Rattle.kept.specs.declared.Answer.{Answer}
+use Rattle.kept.specs.Answer.{Answer}
 use Rattle.kept_in_run.specs.InRun.{answer_in_run, run_after}
 
 -- a file and a result buffer

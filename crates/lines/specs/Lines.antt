@@ -8,7 +8,7 @@ use Rattle.lines.specs.declared.Rule.{Rule}
 
 -- what the code's rule holds points against
 abbrev pub rule_in : Rule → LineRule
-rule_in r = record { x = value_at r.x.now; y = value_at r.y.now; scale = value_at r.scale.now; tolerance = r.tolerance }
+rule_in r = record { x = value_at r.seen.x.now; y = value_at r.seen.y.now; scale = value_at r.scale.now; tolerance = r.tolerance }
 
 -- the members of a line are ranks
 pub record Members (l : List ℕ) : Type 0 where

@@ -14,7 +14,7 @@ ghost use Rattle.lines.specs.Fit.{value_at, larger_eigenvalue, direction_of, lin
 ghost use Rattle.lines.specs.Flags.{is_far, flagged_by, is_flagged, flags_at};
 ghost use Rattle.lines.specs.Lines.{rule_in, Members, Numbered, Chained, Onward, Linked, mark_if};
 
-use view::{Floats, MAX_POINTS, Marks, Places, View};
+use view::{Floats, Lattice, MAX_POINTS, Marks, Places, Positions, View};
 
 // A line: its centre and its unit direction.
 #[derive(Clone, Copy)]
@@ -34,14 +34,13 @@ struct Vector {
 // What points are held against: where they are seen, the scale of each rank's index, the line tolerance and the line minimum.
 #[derive(Clone, Copy)]
 struct Rule<'a> {
-    x: &'a Floats,
-    y: &'a Floats,
+    seen: Positions<'a>,
     scale: &'a Floats,
     tolerance: f32,
     minimum: u16,
 }
 
-// The ranks of each line, chained: the first on each line, and for each rank the next on its line; n is none.
+// The ranks of each line, chained: the first on each line, and for each rank the next on its line; the count is none.
 #[derive(Drop)]
 struct Chain {
     heads: Places,
@@ -94,16 +93,16 @@ fn distance(line: Line, x: f32, y: f32) -> f32
 }
 
 // The centre of the points with these ranks.
-fn centre(x: &Floats, y: &Floats, members: &[u16]) -> Vector
+fn centre(seen: &Positions, members: &[u16]) -> Vector
     requires { Members members.now }
-    ensures { result ≡ centre_of (value_at x.now) (value_at y.now) members.now }
+    ensures { result ≡ centre_of (value_at seen.now.x.now) (value_at seen.now.y.now) members.now }
 {
     let mut cx = 0.0;
     let mut cy = 0.0;
     for j in members {
         let j = usize::from(*j);
-        cx += x[j];
-        cy += y[j];
+        cx += seen.x[j];
+        cy += seen.y[j];
     }
     let n = members.len() as f32;
     Vector {
@@ -113,17 +112,17 @@ fn centre(x: &Floats, y: &Floats, members: &[u16]) -> Vector
 }
 
 // The line through v fitted to the points with these ranks.
-fn line_around(x: &Floats, y: &Floats, v: Vector, members: &[u16]) -> Line
+fn line_around(seen: &Positions, v: Vector, members: &[u16]) -> Line
     requires { Members members.now }
-    ensures { result ≡ line_around (value_at x.now) (value_at y.now) v members.now }
+    ensures { result ≡ line_around (value_at seen.now.x.now) (value_at seen.now.y.now) v members.now }
 {
     let mut sxx = 0.0;
     let mut sxy = 0.0;
     let mut syy = 0.0;
     for j in members {
         let j = usize::from(*j);
-        let dx = x[j] - v.x;
-        let dy = y[j] - v.y;
+        let dx = seen.x[j] - v.x;
+        let dy = seen.y[j] - v.y;
         sxx += dx * dx;
         sxy += dx * dy;
         syy += dy * dy;
@@ -132,11 +131,11 @@ fn line_around(x: &Floats, y: &Floats, v: Vector, members: &[u16]) -> Line
 }
 
 // The line fitted to the points with these ranks.
-fn fit(x: &Floats, y: &Floats, members: &[u16]) -> Line
+fn fit(seen: &Positions, members: &[u16]) -> Line
     requires { Members members.now }
-    ensures { result ≡ fit_of (value_at x.now) (value_at y.now) members.now }
+    ensures { result ≡ fit_of (value_at seen.now.x.now) (value_at seen.now.y.now) members.now }
 {
-    line_around(x, y, centre(x, y, members), members)
+    line_around(seen, centre(seen, members), members)
 }
 
 impl Rule<'_> {
@@ -145,7 +144,7 @@ impl Rule<'_> {
         requires { j < max_points }
         ensures { result ≡ is_far (rule_in self.now) line j }
     {
-        distance(line, self.x[j], self.y[j]) > self.tolerance * self.scale[j]
+        distance(line, self.seen.x[j], self.seen.y[j]) > self.tolerance * self.scale[j]
     }
 
     // Sets the marks of those members of a line that it flags.
@@ -156,7 +155,7 @@ impl Rule<'_> {
         if members.is_empty() || members.len() < usize::from(self.minimum) {
             return;
         }
-        let line = fit(self.x, self.y, members);
+        let line = fit(&self.seen, members);
         for j in members {
             let j = usize::from(*j);
             if self.is_far(line, j) {
@@ -166,16 +165,15 @@ impl Rule<'_> {
     }
 }
 
-// The chain of n ranks, whose lines are given by numbers that are ranks.
-fn chained<F: Fn(usize) -> usize>(line: F, n: usize) -> Chain
-    requires few { n ≤ max_points }
-    requires callable { (k : ℕ) → k < n → F.pre line k }
-    requires numbered { (g : ℕ → ℕ) × Numbered n (F.post line) g }
-    ensures { (g : ℕ → ℕ) → Numbered n (F.post line) g → Chained n g 0 result.heads result.nexts }
+// The chain of all ranks, whose lines are given by numbers that are ranks.
+fn chained<F: Fn(usize) -> usize>(lattice: &Lattice, line: F) -> Chain
+    requires callable { (k : ℕ) → k < lattice.now.count → F.pre line k }
+    requires numbered { (g : ℕ → ℕ) × Numbered lattice.now.count (F.post line) g }
+    ensures { (g : ℕ → ℕ) → Numbered lattice.now.count (F.post line) g → Chained lattice.now.count g 0 result.heads result.nexts }
 {
-    let mut heads = [n as u16; MAX_POINTS];
+    let mut heads = [lattice.count as u16; MAX_POINTS];
     let mut nexts = [0u16; MAX_POINTS];
-    for i in (0..n).rev() {
+    for i in (0..lattice.count).rev() {
         let number = line(i);
         nexts[i] = heads[number];
         heads[number] = i as u16;
@@ -184,13 +182,13 @@ fn chained<F: Fn(usize) -> usize>(line: F, n: usize) -> Chain
 }
 
 // Writes the ranks from `from` on along the chain, and returns how many they are.
-fn members(nexts: &Places, n: usize, from: usize, out: &mut Places) -> usize
-    requires { (n ≤ max_points) × Onward n nexts.now × (from ≤ n) }
-    ensures { (p : ℕ → Bool) → Linked p n nexts.now → first p 0 n ≡ from → Gathered p n out.new result }
+fn members(lattice: &Lattice, nexts: &Places, from: usize, out: &mut Places) -> usize
+    requires { Onward lattice.now.count nexts.now × (from ≤ lattice.now.count) }
+    ensures { (p : ℕ → Bool) → Linked p lattice.now.count nexts.now → first p 0 lattice.now.count ≡ from → Gathered p lattice.now.count out.new result }
 {
     let mut c: usize = 0;
     let mut k = from;
-    while k < n {
+    while k < lattice.count {
         out[c] = k as u16;
         c += 1;
         k = usize::from(nexts[k]);
@@ -199,17 +197,16 @@ fn members(nexts: &Places, n: usize, from: usize, out: &mut Places) -> usize
 }
 
 // 1 for each rank that its line flags, else 0; the lines are given by numbers that are ranks.
-fn flagged<F: Fn(usize) -> usize>(rule: &Rule, n: usize, line: F) -> Marks
-    requires few { n ≤ max_points }
-    requires callable { (k : ℕ) → k < n → F.pre line k }
-    requires numbered { (g : ℕ → ℕ) × Numbered n (F.post line) g }
-    ensures { (g : ℕ → ℕ) → Numbered n (F.post line) g → result ≡ column_of max_points 0 n (λ (k : ℕ). bit (is_flagged (rule_in rule.now) rule.now.minimum g n k)) }
+fn flagged<F: Fn(usize) -> usize>(rule: &Rule, lattice: &Lattice, line: F) -> Marks
+    requires callable { (k : ℕ) → k < lattice.now.count → F.pre line k }
+    requires numbered { (g : ℕ → ℕ) × Numbered lattice.now.count (F.post line) g }
+    ensures { (g : ℕ → ℕ) → Numbered lattice.now.count (F.post line) g → result ≡ column_of max_points 0 lattice.now.count (λ (k : ℕ). bit (is_flagged (rule_in rule.now) rule.now.minimum g lattice.now.count k)) }
 {
-    let Chain { heads, nexts } = chained(line, n);
+    let Chain { heads, nexts } = chained(lattice, line);
     let mut l = [0u16; MAX_POINTS];
     let mut out = [0u8; MAX_POINTS];
-    for number in 0..n {
-        let c = members(&nexts, n, usize::from(heads[number]), &mut l);
+    for number in 0..lattice.count {
+        let c = members(lattice, &nexts, usize::from(heads[number]), &mut l);
         rule.mark_flagged(&l[..c], &mut out);
     }
     out
@@ -233,15 +230,14 @@ pub fn line_flags(view: &View, scale: &Floats, tolerance: f32, minimum: u16) -> 
     ensures { result ≡ column_of max_points 0 view.now.lattice.count (flags_at (view_in view.now) (value_at scale.now) tolerance minimum) }
 {
     let rule = Rule {
-        x: view.x,
-        y: view.y,
+        seen: view.positions(),
         scale,
         tolerance,
         minimum,
     };
     let lattice = &view.lattice;
-    let rows = flagged(&rule, lattice.count, |k| lattice.row(k));
-    let columns = flagged(&rule, lattice.count, |k| lattice.column(k));
+    let rows = flagged(&rule, lattice, |k| lattice.row(k));
+    let columns = flagged(&rule, lattice, |k| lattice.column(k));
     let mut flags = [0u16; MAX_POINTS];
     count(view, &rows, &mut flags);
     count(view, &columns, &mut flags);

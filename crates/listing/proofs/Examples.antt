@@ -11,11 +11,10 @@ use Rattle.cells.specs.Cell.{Cell}
 use Rattle.cells.proofs.Edges.{cell_at}
 use Rattle.float.specs.Root.{root_of}
 use Rattle.float.specs.Remainder.{remainder_in, whole_root_of}
-use Rattle.local_h.specs.declared.Residual.{Residual}
-use Rattle.local_h.specs.declared.Residual.TheVariants.{Value, NoFit}
+use Rattle.float.specs.declared.Distance.{Distance}
 use Rattle.judged.specs.Shown.{shown_at}
 use Rattle.judged.specs.Judged.{Judged}
-use Rattle.std.specs.Prelude.{None, Some}
+use Rattle.std.specs.Prelude.{None, Some, Option}
 use Rattle.text.specs.Text.{bytes, each, digits, decimal, whole, hex}
 use Rattle.listing.specs.Listing.{cell_text, marks_text, distance_text, residual_text, shown_text, line_text, head_text, tally_text, position_text, fill_text, fill_line, listing_of}
 
@@ -43,8 +42,8 @@ unfolding listing_of fill_text position_text head_text line_text cell_text shown
 one-leaf = refl
 
 -- the residual that is the root of the f32 with these bits
-root : ℕ → Residual
-root b = let x = of_bits binary32 b in Value (record { value = root_of x; remainder = remainder_in (whole_root_of x) })
+root : ℕ → Option Distance
+root b = let x = of_bits binary32 b in Some (record { value = root_of x; remainder = remainder_in (whole_root_of x) })
 
 -- a line with every column in use: the first root is rounded, the second is not
 full : (line_text (cell_at (negsuc 7999) (pos 12)) 4294967295 31 2 (root 0x41e6_9986) ≡ bytes "-8000 12 4294967295 VOWLC 2 40ABCDEF\n")
@@ -61,7 +60,7 @@ same-digits = (refl, refl)
 special-residuals : (residual_text (root 0x0000_0000) ≡ bytes "00000000=")
     × (residual_text (root 0x7f80_0000) ≡ bytes "7F800000")
     × (residual_text (root 0x7fc0_0000) ≡ bytes "7FC00000")
-    × (residual_text NoFit ≡ bytes "-")
+    × (residual_text None ≡ bytes "-")
 unfolding distance_text hex of_bits root_of whole_root_of root
 special-residuals = (refl, refl, refl, refl)
 

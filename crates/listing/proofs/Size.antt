@@ -17,14 +17,13 @@ use Rattle.text.specs.Text.{bytes, each, decimal, whole, digit, hex}
 use Rattle.cells.specs.Points.{bias, stride}
 use Rattle.cells.specs.Cell.{cell_of_key, cells_at}
 use Rattle.float.specs.Remainder.{is_exact}
-use Rattle.local_h.specs.declared.Residual.{Residual}
-use Rattle.local_h.specs.declared.Residual.TheVariants.{Value, NoFit}
+use Rattle.float.specs.declared.Distance.{Distance}
 use Rattle.judged.specs.Shown.{Shown, shown_at}
 use Rattle.judged.specs.Judged.{Judged}
 use Rattle.edge_shape.specs.Figures.{reason_number}
 use Rattle.predict.specs.declared.PredictedPosition.{PredictedPosition}
 use Rattle.predict.specs.Predict.{Prediction}
-use Rattle.std.specs.Prelude.{None, Some}
+use Rattle.std.specs.Prelude.{None, Some, Option}
 use Rattle.marks.specs.Filters.{filter_count, filter_at}
 use Rattle.marks.specs.Byte.{has_mark}
 use Rattle.listing.specs.Listing.{cell_text, mark_text, marks_text, distance_text, residual_text, shown_text, line_text, line_of, head_text, count_text, tally_text, position_text, prediction_text, fill_text, fill_line, listing_of, line_size, fill_line_size, listing_size}
@@ -67,12 +66,12 @@ marks-size marks =
 float_size : (x : Float) → AtMost 8 (hex 8 (to_bits binary32 x))
 float_size x = record { within = omega (arith, hex-length 8 (to_bits binary32 x)) }
 
-residual-size : (r : Residual) → AtMost 9 (residual_text r)
+residual-size : (r : Option Distance) → AtMost 9 (residual_text r)
 unfolding distance_text
-residual-size NoFit = record { within = omega arith }
-residual-size (Value d) = join (float_size d.value) (either (is_exact d) (known (bytes "=")) (record { within = omega arith }))
+residual-size None = record { within = omega arith }
+residual-size (Some d) = join (float_size d.value) (either (is_exact d) (known (bytes "=")) (record { within = omega arith }))
 
-shown-size : (marks reason : ℕ) (r : Residual) → AtMost (12 + filter_count) (shown_text marks reason r)
+shown-size : (marks reason : ℕ) (r : Option Distance) → AtMost (12 + filter_count) (shown_text marks reason r)
 unfolding shown_text
 shown-size marks reason r =
     join (join (join (join (marks-size marks) (known (bytes " "))) (either (leb 1 reason && leb reason 3) (known (digit reason)) (known (bytes "-")))) (known (bytes " "))) (residual-size r)

@@ -1,13 +1,11 @@
 -- "What the program `sheet` prints". Assumes nothing.
-use Rattle.std.specs.Prelude.{cond, ◌&&◌, List, [], ◌++◌, ℕ, ◌+◌, ◌*◌, eqb, leb, get_or}
+use Rattle.std.specs.Prelude.{cond, ◌&&◌, List, [], ◌++◌, ℕ, ◌+◌, ◌*◌, eqb, leb, get_or, Option}
 use Rattle.std.specs.Float.{binary32}
 use Rattle.std.specs.Float.Ieee.{to_bits}
 use Rattle.view.specs.View.{max_points}
 use Rattle.cells.specs.Cell.{Cell}
 use Rattle.float.specs.Remainder.{is_exact}
 use Rattle.float.specs.declared.Distance.{Distance}
-use Rattle.local_h.specs.declared.Residual.{Residual}
-use Rattle.local_h.specs.declared.Residual.TheVariants.{Value, NoFit}
 use Rattle.edge_shape.specs.Figures.{reason_number}
 use Rattle.judged.specs.Shown.{Shown, shown_at}
 use Rattle.judged.specs.Judged.{Judged}
@@ -41,16 +39,16 @@ unfolding hex to_bits
 distance_text d = hex 8 (to_bits binary32 d.value) ++ cond (is_exact d) (bytes "=") []
 
 -- "residual in eight hexadecimal digits with capitals or a dash"
-abbrev pub residual_text : Residual → List ℕ
-residual_text NoFit = bytes "-"
-residual_text (Value d) = distance_text d
+abbrev pub residual_text : Option Distance → List ℕ
+residual_text None = bytes "-"
+residual_text (Some d) = distance_text d
 
-unfoldable pub shown_text : ℕ → ℕ → Residual → List ℕ
+unfoldable pub shown_text : ℕ → ℕ → Option Distance → List ℕ
 unfolding marks_text distance_text
 shown_text marks reason residual = marks_text marks ++ bytes " " ++ reason_text reason ++ bytes " " ++ residual_text residual
 
 -- "Per point: u, v, index, marks (VOWC), reason 1 to 3 or a dash, residual in eight hexadecimal digits with capitals or a dash."
-unfoldable pub line_text : Cell → ℕ → ℕ → ℕ → Residual → List ℕ
+unfoldable pub line_text : Cell → ℕ → ℕ → ℕ → Option Distance → List ℕ
 unfolding cell_text decimal shown_text
 line_text cell index marks reason residual = cell_text cell ++ bytes " " ++ decimal index ++ bytes " " ++ shown_text marks reason residual ++ bytes "\n"
 

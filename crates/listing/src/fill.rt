@@ -10,7 +10,7 @@ use text::Writer;
 fn put_position(w: &mut Writer, p: PredictedPosition)
     ensures { Stored w.old (position_text p) w.new }
 {
-    w.decimal(p.n_axis_pairs as usize);
+    w.decimal(usize::from(p.n_axis_pairs));
     w.byte(b' ');
     w.hex(8, float::to_bits(p.x));
     w.byte(b' ');

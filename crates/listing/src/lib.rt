@@ -4,18 +4,21 @@
 mod fill;
 mod line;
 
-ghost use Rattle.std.specs.Prelude.{◌≡◌, ◌≤◌, get_or};
+ghost use Rattle.std.specs.Prelude.{◌≡◌, List, ℕ, ◌≤◌, ◌<◌, get_or, Option};
 ghost use Rattle.view.specs.View.{max_points};
 ghost use Rattle.cells.specs.Cell.{cells_at};
 ghost use Rattle.marks.specs.Filters.{filter_count};
 ghost use Rattle.text.specs.Answer.{Shows};
 ghost use Rattle.text.specs.Stored.{Stored};
 ghost use Rattle.text.specs.Text.{each};
+ghost use Rattle.edge_shape.specs.Figures.{no_figures};
+ghost use Rattle.edge_shape.specs.declared.Figures.{Figures};
+ghost use Rattle.edge_shape.specs.declared.Reason.{Reason as EdgeReason};
 ghost use Rattle.judged.specs.Judged.{judged_from};
 ghost use Rattle.listing.specs.Listing.{head_text, lines_of, tally_text, fill_lines, listing_of, listing_size, count_text};
 
+use edge_shape::Reason;
 use judged::Findings;
-use judged::figures::FigureColumn;
 use marks::Tally;
 use marks::filters::{FILTERS, Filter};
 use predict::Fills;
@@ -27,6 +30,15 @@ pub const LISTING_SIZE: usize = 40
     + (37 + FILTERS) * MAX_POINTS
     + (10 + 17 * FILTERS)
     + 33 * MAX_POINTS;
+
+// The points of a sheet in cell order: the keys of their cells, and their indices.
+#[derive(Clone, Copy)]
+pub struct Points<'a> {
+    pub keys: &'a Words,
+    pub idx: &'a Words,
+    pub count: usize,
+    ghost few: { count ≤ max_points },
+}
 
 // The number that the specifications use is the code's.
 pub fn listing_size() -> usize
@@ -47,21 +59,25 @@ fn put_head(w: &mut Writer, n: usize, components: usize, rounds: usize)
     w.byte(b'\n');
 }
 
-// A line for each point.
-fn put_lines(
+// A line for each point; `reason` gives the edge reason of each.
+fn put_lines<F: Fn(usize) -> Option<Reason>>(
     w: &mut Writer,
-    n: usize,
-    keys: &Words,
-    idx: &Words,
-    j: Findings,
-    figures: &FigureColumn,
+    points: &Points,
+    j: &Findings,
+    reason: F,
 )
-    requires { n ≤ max_points }
-    ensures { Stored w.old (lines_of (cells_at keys.now) idx.now (judged_from j figures.now) n) w.new }
+    requires { (k : ℕ) → k < points.now.count → F.pre reason k }
+    ensures { (figures : List Figures) → ((k : ℕ) (r : Option EdgeReason) → k < points.now.count → F.post reason k r → r ≡ (get_or figures k no_figures).reason) → Stored w.old (lines_of (cells_at points.now.keys.now) points.now.idx.now (judged_from j.now figures) points.now.count) w.new }
 {
-    for k in 0..n {
-        let number = edge_shape::reason_number(figures[k].reason);
-        line::put_line(w, keys[k], idx[k], j.marks[k], number, j.residuals[k]);
+    for k in 0..points.count {
+        line::put_line(
+            w,
+            points.keys[k],
+            points.idx[k],
+            j.marks[k],
+            reason(k),
+            j.residuals[k],
+        );
     }
 }
 
@@ -84,35 +100,30 @@ fn put_tally(w: &mut Writer, counts: &Tally)
 }
 
 // A line for each point with a mark.
-fn put_fills(w: &mut Writer, n: usize, keys: &Words, marks: &Marks, fills: Fills)
-    requires { n ≤ max_points }
-    ensures { Stored w.old (fill_lines (cells_at keys.now) marks.now fills n) w.new }
+fn put_fills(w: &mut Writer, points: &Points, marks: &Marks, fills: &Fills)
+    ensures { Stored w.old (fill_lines (cells_at points.now.keys.now) marks.now fills.now points.now.count) w.new }
 {
-    for k in 0..n {
-        fill::put_fill(w, keys[k], marks[k], fills[k]);
+    for k in 0..points.count {
+        fill::put_fill(w, points.keys[k], marks[k], fills[k]);
     }
 }
 
-// The listing of n points in cell order: the keys of their cells, their indices, what was judged of them, and their fills. Of the edge figures
-// it shows the reasons alone.
-pub fn write_listing<'a>(
-    n: usize,
-    keys: &'a Words,
-    idx: &'a Words,
-    j: Findings,
-    fills: Fills,
-    figures: &FigureColumn,
+// The listing of points in cell order: what was judged of them, and their fills. Of the edge figures it shows the reasons alone, which
+// `reason` gives.
+pub fn write_listing<F: Fn(usize) -> Option<Reason>>(
+    points: &Points,
+    j: &Findings,
+    fills: &Fills,
+    reason: F,
     out: &mut [u8],
 ) -> Result<usize, NoRoom>
-    requires { n ≤ max_points }
-    ensures { Shows (listing_of n (cells_at keys.now) idx.now (judged_from j figures.now) fills) out.old out.new result }
+    requires { (k : ℕ) → k < points.now.count → F.pre reason k }
+    ensures { (figures : List Figures) → ((k : ℕ) (r : Option EdgeReason) → k < points.now.count → F.post reason k r → r ≡ (get_or figures k no_figures).reason) → Shows (listing_of points.now.count (cells_at points.now.keys.now) points.now.idx.now (judged_from j.now figures) fills.now) out.old out.new result }
 {
-    let tally = j.tally;
-    let marks = j.marks;
     let mut w = Writer::new(out);
-    put_head(&mut w, n, j.components, j.rounds);
-    put_lines(&mut w, n, keys, idx, j, figures);
-    put_tally(&mut w, &tally);
-    put_fills(&mut w, n, keys, &marks, fills);
+    put_head(&mut w, points.count, j.components, j.rounds);
+    put_lines(&mut w, points, j, reason);
+    put_tally(&mut w, &j.tally);
+    put_fills(&mut w, points, &j.marks, fills);
     w.answer()
 }

@@ -2,12 +2,14 @@
 ghost use Rattle.std.specs.Prelude.{◌≡◌, cond, [], ◌∷◌, ◌<◌, pos, ◌-ℤ◌};
 ghost use Rattle.cells.specs.Points.{bias};
 ghost use Rattle.cells.specs.Cell.{cell_of_key};
+ghost use Rattle.edge_shape.specs.Figures.{reason_number};
 ghost use Rattle.float.specs.Remainder.{is_exact};
 ghost use Rattle.marks.specs.Places.{place};
 ghost use Rattle.text.specs.Stored.{Stored};
 ghost use Rattle.text.specs.Text.{bytes, whole};
 ghost use Rattle.listing.specs.Listing.{cell_text, mark_text, marks_text, reason_text, distance_text, residual_text, shown_text, line_text};
 
+use edge_shape::Reason;
 use float::Distance;
 use local_h::Residual;
 use marks::filters::Filter;
@@ -31,16 +33,15 @@ fn put_marks(w: &mut Writer, marks: u8)
     }
 }
 
-fn reason_byte(reason: u8) -> u8
-    ensures { (result ∷ []) ≡ reason_text reason }
+fn reason_byte(reason: Option<Reason>) -> u8
+    ensures { (result ∷ []) ≡ reason_text (reason_number reason) }
 {
-    if reason < 1 {
-        return b'-';
+    match reason {
+        None => b'-',
+        Some(Reason::LowCardinalDegree) => b'1',
+        Some(Reason::BadContinuation) => b'2',
+        Some(Reason::NoValidAdjacentCell) => b'3',
     }
-    if reason <= 3 {
-        return 48 + reason;
-    }
-    b'-'
 }
 
 // `=` if the remainder is 0.
@@ -63,8 +64,8 @@ fn put_residual(w: &mut Writer, r: Residual)
     ensures { Stored w.old (residual_text r) w.new }
 {
     match r {
-        Residual::Value(d) => put_distance(w, d),
-        Residual::NoFit => w.byte(b'-'),
+        Some(d) => put_distance(w, d),
+        None => w.byte(b'-'),
     }
 }
 
@@ -83,8 +84,8 @@ pub(crate) fn put_cell(w: &mut Writer, key: u32)
     put_cell_number(w, cells::v_part(key));
 }
 
-fn put_shown(w: &mut Writer, marks: u8, reason: u8, r: Residual)
-    ensures { Stored w.old (shown_text marks reason r) w.new }
+fn put_shown(w: &mut Writer, marks: u8, reason: Option<Reason>, r: Residual)
+    ensures { Stored w.old (shown_text marks (reason_number reason) r) w.new }
 {
     put_marks(w, marks);
     w.byte(b' ');
@@ -94,8 +95,15 @@ fn put_shown(w: &mut Writer, marks: u8, reason: u8, r: Residual)
 }
 
 // The line of the point whose cell has this key.
-pub(crate) fn put_line(w: &mut Writer, key: u32, index: u32, marks: u8, reason: u8, r: Residual)
-    ensures { Stored w.old (line_text (cell_of_key key) index marks reason r) w.new }
+pub(crate) fn put_line(
+    w: &mut Writer,
+    key: u32,
+    index: u32,
+    marks: u8,
+    reason: Option<Reason>,
+    r: Residual,
+)
+    ensures { Stored w.old (line_text (cell_of_key key) index marks (reason_number reason) r) w.new }
 {
     put_cell(w, key);
     w.byte(b' ');

@@ -1,12 +1,12 @@
 -- A whole number below 0 as f32 is the negative of that above 0. Assumes nothing.
 use mathlib.Core.Path.{◌≡◌, refl}
 use mathlib.Core.Bool.{Bool, true, false, cond}
-use Prim.Native.Nat.{ℕ, zero, suc, ◌+◌, ◌-◌, ◌*◌, ◌/◌, ◌%◌, ◌^◌, ◌<◌, compare}
+use Prim.Native.Nat.{ℕ, zero, suc, ◌+◌, ◌-◌, ◌*◌, ◌/◌, ◌%◌, ◌^◌, ◌≤◌, ◌<◌, compare}
 use native.Mathlib.Omega.{arith}
-use lib.Dec.{ltb}
+use lib.Dec.{T, ltb}
 use lib.IntN.{pos, ◌-ℤ◌}
-use lib.Ieee.{Format, inf, binary32, prec, emax, low, neg, odd, units, round, nearest, size, of_int}
-use borrow.Author.Tests.{lt-ltb}
+use lib.Ieee.{Format, inf, binary32, prec, emax, low, neg, odd, units, round, nearest, size, of_int, in_float}
+use borrow.Author.Tests.{le-leb, lt-ltb, le-ltb}
 use Rattle.cells.specs.Points.{bias}
 use Rattle.local_h.specs.Residual.{coordinate}
 
@@ -35,3 +35,11 @@ unfolding of_int
 coordinate-below b h =
     let e : 8003 - b ≡ suc (8003 - suc b) = omega arith in
     rw (lt-ltb b 8003 h, e) (neg-round binary32 (suc (8003 - suc b)) 1)
+
+pub coordinate-above : (b : ℕ) → bias ≤ b → of_int binary32 (pos (b - bias)) ≡ coordinate (pos b -ℤ pos bias)
+coordinate-above b h = rw (le-ltb b 8003 h)
+
+-- whole numbers up to 2 ^ 24 are f32
+pub whole-exact : (n : ℕ) → n ≤ 2 ^ 24 → T (in_float binary32 (pos n))
+unfolding in_float
+whole-exact n h = rw (le-leb n (2 ^ 24) h) tt

@@ -16,7 +16,6 @@ use Rattle.view.specs.Seen.{below}
 use Rattle.view.proofs.Found.{not-found, found, found-below}
 use Rattle.local_h.specs.declared.Found.{Found as Place}
 use Rattle.local_h.specs.Order.{offset_at}
-use Rattle.local_h.specs.declared.Residual.TheVariants.{NoFit}
 use Rattle.local_h.specs.Base.{member_at, on_line, is_other, is_serving, is_fourth, FourPlaces, places_of, base_of}
 use Rattle.local_h.specs.Finding.{place_at, other_at, found_at, found_from, found_base, place_in}
 use Rattle.local_h.specs.Residual.{residual_from, residual_at}
@@ -237,6 +236,6 @@ module _ (n : ℕ) (ranks : List ℕ) (xs ys : List Float) (cell : ℕ → Cell)
   unfolding residual_at residual_from
   fitted f = rw (lt-ltb _ 24 f.has, ← f.one, ← f.two, ← f.three, ← f.four)
 
-  pub unfitted : 24 ≤ (places_of (view_at n ranks xs ys) k).d → NoFit ≡ residual_at (view_at n ranks xs ys) cell k
+  pub unfitted : 24 ≤ (places_of (view_at n ranks xs ys) k).d → None ≡ residual_at (view_at n ranks xs ys) cell k
   unfolding residual_at
   unfitted h = rw (le-ltb _ 24 h)

@@ -14,27 +14,26 @@ use Rattle.view.specs.View.{View}
 use Rattle.local_h.specs.Base.{has_four}
 use Rattle.local_h.specs.Residual.{distance_by, residual_by, residual_from, residual_at}
 use Rattle.local_h.specs.NoFit.{is_unfit_at}
-use Rattle.local_h.specs.declared.Residual.{Residual}
-use Rattle.local_h.specs.declared.Residual.TheVariants.{Value, NoFit}
+use Rattle.std.specs.Prelude.{Option}
 
 -- the residual r is none where b holds, and else a number
-abbrev Unless : Bool → Residual → Type 0
-Unless b r = (x : Distance) × (r ≡ cond b NoFit (Value x))
+abbrev Unless : Bool → Option Distance → Type 0
+Unless b r = (x : Distance) × (r ≡ cond b None (Some x))
 
-unless : (four unfit : Bool) (h : Homography) (p q : PlanePoint) → Unless (not four || unfit) (cond four (residual_by (cond unfit None (Some h)) p q) NoFit)
+unless : (four unfit : Bool) (h : Homography) (p q : PlanePoint) → Unless (not four || unfit) (cond four (residual_by (cond unfit None (Some h)) p q) None)
 unfolding residual_by
 unless true true h p q = (distance_by h p q, refl)
 unless true false h p q = (distance_by h p q, refl)
 unless false unfit h p q = (distance_by h p q, refl)
 
-data IsNone : Residual → Type 0 where
-  none : IsNone NoFit
+data IsNone : Option Distance → Type 0 where
+  none : IsNone None
 
 -- it is a number
-pub data IsValue : Residual → Type 0 where
-  value : (x : Distance) → IsValue (Value x)
+pub data IsValue : Option Distance → Type 0 where
+  value : (x : Distance) → IsValue (Some x)
 
-none_of : (b : Bool) (x : Distance) → IsNone (cond b NoFit (Value x)) → b ≡ true
+none_of : (b : Bool) (x : Distance) → IsNone (cond b None (Some x)) → b ≡ true
 none_of true x e = refl
 none_of false x e = elim e [ ]
 
@@ -44,11 +43,11 @@ module _ (w : View) (cell : ℕ → Cell) (k : ℕ) where
   residual-unless = rw (fit-unless _ _) (unless (has_four w k) (is_unfit _ _) _ _ _)
 
   -- no fit is found in these cases only
-  pub no-fit-only : residual_at w cell k ≡ NoFit → is_unfit_at w cell k ≡ true
+  pub no-fit-only : residual_at w cell k ≡ None → is_unfit_at w cell k ≡ true
   no-fit-only e = none_of (is_unfit_at w cell k) residual-unless.0 (subst IsNone (sym e ∙ residual-unless.1) none)
 
   -- and in all of them
-  pub no-fit-all : is_unfit_at w cell k ≡ true → residual_at w cell k ≡ NoFit
+  pub no-fit-all : is_unfit_at w cell k ≡ true → residual_at w cell k ≡ None
   no-fit-all e = residual-unless.1 ∙ rw e refl
 
   -- in all others the residual is a number

@@ -36,6 +36,9 @@ mag-abs : (z : ℤ) → mag z ≤ nat_abs z
 mag-abs (pos n) = omega arith
 mag-abs (negsuc n) = omega arith
 
+pub difference-fits : (x y : ℤ) → is_within2 x ≡ true → is_within2 y ≡ true → SFits w8 (x -ℤ y)
+difference-fits x y h l = sfits_of (omega (arith, mag-abs (x -ℤ y), difference-small x y h l))
+
 pub small-held : (z : ℤ) → nat_abs z ≤ 4 → to_z w8 (of_z w8 z) ≡ z
 small-held z h = to_z-of_z w8 z (sfits_of (omega (arith, mag-abs z, h)))
 

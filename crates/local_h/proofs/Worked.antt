@@ -14,7 +14,7 @@ use Rattle.homography.specs.NoFit.{is_unfit}
 use Rattle.offsets.specs.Offsets.{own, next_u, prev_u, next_v, prev_v, place_of}
 use Rattle.cells.specs.Cell.{Cell}
 use Rattle.view.specs.View.{View}
-use Rattle.local_h.specs.declared.Residual.TheVariants.{Value, NoFit}
+use Rattle.std.specs.Prelude.{None}
 use Rattle.local_h.specs.Base.{has_four}
 use Rattle.local_h.specs.Residual.{residual_at, residuals-compute}
 use Rattle.local_h.specs.NoFit.{is_unfit_at}
@@ -45,7 +45,7 @@ cell k = record { u = pos (get_or (10 ∷ 10 ∷ 9 ∷ 11 ∷ 10 ∷ []) k 0); v
 abbrev five : View
 five = around 5 (whole 1000 ∷ whole 1003 ∷ whole 902 ∷ whole 1099 ∷ whole 1001 ∷ []) (whole 1200 ∷ whole 1097 ∷ whole 1201 ∷ whole 1205 ∷ whole 1298 ∷ [])
 
-pub corner-residual : residual_at five cell 0 ≡ Value (record { value = f32 0x4066_62F0; remainder = Some (pos 8609536) })
+pub corner-residual : residual_at five cell 0 ≡ Some (record { value = f32 0x4066_62F0; remainder = Some (pos 8609536) })
 unfolding residuals-compute
 corner-residual = refl
 
@@ -57,7 +57,7 @@ corner-fits = refl
 abbrev seen-at-one : View
 seen-at-one = around 5 (whole 1000 ∷ whole 1003 ∷ whole 1003 ∷ whole 1003 ∷ whole 1001 ∷ []) (whole 1200 ∷ whole 1097 ∷ whole 1097 ∷ whole 1097 ∷ whole 1298 ∷ [])
 
-pub three-unfit : (is_unfit_at seen-at-one cell 0 ≡ true) × (residual_at seen-at-one cell 0 ≡ NoFit)
+pub three-unfit : (is_unfit_at seen-at-one cell 0 ≡ true) × (residual_at seen-at-one cell 0 ≡ None)
 unfolding residuals-compute is_unfit is_unfit_at
 three-unfit = (refl, refl)
 
@@ -65,6 +65,6 @@ three-unfit = (refl, refl)
 abbrev without-fourth : View
 without-fourth = around 4 (whole 1000 ∷ whole 1003 ∷ whole 902 ∷ whole 1099 ∷ []) (whole 1200 ∷ whole 1097 ∷ whole 1201 ∷ whole 1205 ∷ [])
 
-pub without-four : (has_four without-fourth 0 ≡ false) × (residual_at without-fourth cell 0 ≡ NoFit)
+pub without-four : (has_four without-fourth 0 ≡ false) × (residual_at without-fourth cell 0 ≡ None)
 unfolding residuals-compute
 without-four = (refl, refl)

@@ -8,6 +8,7 @@ use Rattle.offsets.specs.declared.Offset.{Offset}
 use Rattle.offsets.specs.Offsets.{−2, −1, ±0, +1, +2, offset, own, is_near, offset_of}
 use Rattle.cells.specs.Cell.{agree}
 
+-- the 24 offsets, in that order
 abbrev pub nearest_first : List Offset
 nearest_first =
     offset ±0 −1
@@ -65,6 +66,7 @@ is_ordered l = every (λ (q : ℕ). every (λ (p : ℕ). comes_first (get_or l p
 abbrev pub is_around : Offset → Bool
 is_around o = is_near o && not (same o own)
 
+-- all entries of a table do
 unfoldable pub are_around : List Offset → Bool
 unfolding every
 are_around l = every (λ (p : ℕ). is_around (get_or l p own)) (length l)
@@ -74,6 +76,7 @@ unfoldable pub each_once : List Offset → Bool
 unfolding every tally
 each_once l = every (λ (d : ℕ). eqb (tally (λ (p : ℕ). same (get_or l p own) (offset_of d)) (length l)) (bit (is_around (offset_of d)))) 25
 
+-- "the 24 cells within 2, nearest first, then smaller dv, then smaller du"
 unfoldable pub is_nearest_first : List Offset → Bool
 unfolding is_ordered are_around each_once
 is_nearest_first l = is_ordered l && (are_around l && each_once l)

@@ -3,7 +3,7 @@
 
 ghost use Rattle.std.specs.Prelude.{◌≡◌, Bool, true, List, ℕ, [], ◌+◌, ◌*◌, ◌≤◌, ◌<◌, get_or, Float, pos, nat_abs, ◌-ℤ◌, IfSome};
 ghost use Rattle.offsets.specs.declared.Offset.{Offset};
-ghost use Rattle.offsets.specs.Offsets.{is_within2, is_near};
+ghost use Rattle.offsets.specs.Offsets.{is_within2, is_near, place_of};
 ghost use Rattle.view.specs.View.{max_points, view_at};
 ghost use Rattle.view.specs.Seen.{lattice_in, below};
 ghost use Rattle.cells.specs.Points.{bias};
@@ -16,7 +16,7 @@ ghost use Rattle.local_h.specs.Residual.{coordinate, cell_point, seen_at, residu
 use float::Distance;
 use homography::{Homography, PlanePoint};
 use offsets::Offset;
-use view::{Floats, Lattice, MAX_POINTS, Words};
+use view::{Floats, Lattice, MAX_POINTS, Ranks, Words};
 
 // The base of a corner: its members' places in the order of the 24 cells round it. Where one is missing, so are those after it.
 pub type Base = [Option<usize>; 4];
@@ -29,12 +29,8 @@ struct Found {
     rank: usize,
 }
 
-// A residual, or the finding that no fit exists.
-#[derive(Clone, Copy)]
-pub enum Residual {
-    NoFit,
-    Value(Distance),
-}
+// A residual, or none: the finding that no fit exists.
+pub type Residual = Option<Distance>;
 
 // An entry for each point.
 pub type ResidualColumn = [Residual; MAX_POINTS];
@@ -83,13 +79,22 @@ fn offset_at(p: usize) -> Offset
     NEAREST_FIRST[p]
 }
 
+// What the table has at place p of the order round rank k: the rank there, or a number that is no rank.
+pub fn member(ranks: &Ranks, k: usize, p: usize) -> usize
+    requires { (k < max_points) × (p < 24) }
+    ensures { result ≡ get_or ranks.now (25 * k + place_of (offset_at p)) 0 }
+{
+    usize::from(ranks[25 * k + offsets::place(offset_at(p))])
+}
+
 // The rank at place p of the order round rank k, if there is a point.
-pub fn member(lattice: &Lattice, k: usize, p: usize) -> Option<usize>
+pub fn present_member(lattice: &Lattice, k: usize, p: usize) -> Option<usize>
     requires { (k < max_points) × (p < 24) }
     ensures value { result ≡ below lattice.now.count (member_at (lattice_in lattice.now) k p) }
     ensures inside { IfSome result (λ j. j < lattice.now.count) }
 {
-    lattice.neighbour(k, offset_at(p))
+    let j = member(lattice.ranks, k, p);
+    if j < lattice.count { Some(j) } else { None }
 }
 
 // Place p with the rank there, if there is a point and its index is not rank k's.
@@ -251,16 +256,14 @@ impl Seen<'_> {
 }
 
 // How far the map takes p from q.
+#[tactic(auto, unfolding(crate::specs::Residual::residual_by))]
 fn residual_by(fit: Option<Homography>, p: PlanePoint, q: PlanePoint) -> Residual
     ensures { result ≡ residual_by fit p q }
 {
-    match fit {
-        Some(h) => {
-            let s = homography::apply(h, p);
-            Residual::Value(float::norm(s.x - q.x, s.y - q.y))
-        }
-        None => Residual::NoFit,
-    }
+    fit.map(|h| {
+        let s = homography::apply(h, p);
+        float::norm(s.x - q.x, s.y - q.y)
+    })
 }
 
 // The residual of rank k by the ranks of its base.
@@ -282,7 +285,7 @@ pub fn local_h_residual(lattice: &Lattice, seen: &Seen, k: usize) -> Residual
 {
     let [a, b, c, d] = find_base(lattice, k);
     let (Some(a), Some(b), Some(c), Some(d)) = (a, b, c, d) else {
-        return Residual::NoFit;
+        return None;
     };
     residual_from(seen, k, [a.rank, b.rank, c.rank, d.rank])
 }

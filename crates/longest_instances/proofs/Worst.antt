@@ -1,5 +1,6 @@
 -- The sheet that the program `worst` writes: of three points it is the row of the worked sheets, of 2,304 it takes 2,303 rounds; and what the
 -- conditions are for: one point, a point too many, a buffer that is a byte too short. Assumes nothing.
+use Rattle.std.specs.Prelude.{Ok}
 use mathlib.Core.Path.{◌≡◌, refl, sym, ap, ◌∙◌}
 use mathlib.Core.List.{List}
 use mathlib.Core.Logic.{inr}
@@ -14,7 +15,6 @@ use Rattle.written_file.specs.File.{weighed_file}
 use Rattle.written_file.proofs.Framed.{SettingsSize}
 use Rattle.written_file.proofs.ReadBack.{many-refused, room-refused}
 use Rattle.kept.specs.Answer.{answer_of}
-use Rattle.kept.specs.declared.Answer.TheVariants.{Accepted}
 use Rattle.worst_sheet.specs.Worst.{float_bits, point_at, worst_points, settings_data, worst_file}
 use Rattle.worst_row.specs.Sheet.{worst_settings}
 use Rattle.promises.specs.Words.{rounds_of}
@@ -29,7 +29,7 @@ pub three-is : worst_file 3 ≡ row_file
 unfolding worst_file to_bits of_int round
 three-is = refl
 
-pub three-answered : answer_of (worst_file 3) 84 ≡ Accepted (record { points = 3; components = 1; rounds = 2 })
+pub three-answered : answer_of (worst_file 3) 84 ≡ Ok (record { points = 3; components = 1; rounds = 2 })
 three-answered = ap (λ (file : List ℕ). answer_of file 84) three-is ∙ row-answered
 
 -- ---- the most points

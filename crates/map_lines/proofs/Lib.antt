@@ -5,6 +5,7 @@ pub mod Extremes
 pub mod Characters
 pub mod Size
 pub mod Moved
+pub mod First
 pub mod Places
 pub mod Start
 pub mod Examples

@@ -7,7 +7,7 @@ use Prim.Native.Nat.{ℕ, ◌<◌}
 use native.Mathlib.Decide.{ℕ_discrete}
 use native.Mathlib.Omega.{arith}
 use lib.Dec.{ltb}
-use lib.IntN.{ℤ, pos, ◌+ℤ◌}
+use lib.IntN.{ℤ, pos, ◌+ℤ◌, +ℤ_idr}
 use lib.ListN.{get_or}
 use Rattle.folds.proofs.Below.{fold-ext}
 use Rattle.cells.specs.Cell.{Cell, moved, coincide}
@@ -113,3 +113,25 @@ module _ (a b : ℤ) (n : ℕ) (cell other : ℕ → Cell) (at : (k : ℕ) → k
         ∙ ap (λ (v : ℤ). lines_from v (line_characters n other more) (span_v n other)) first_v
         ∙ ap (λ (f : ℕ → List ℕ). lines_from (smallest_v n cell +ℤ b) f (span_v n other)) characters-moved
         ∙ ap (lines_from (smallest_v n cell +ℤ b) (line_characters n cell marks)) span_v-moved
+
+-- ---- the same cells
+
+stays : (c : Cell) → moved (pos 0) (pos 0) c ≡ c
+stays c = same-cell (+ℤ_idr c.u) (+ℤ_idr c.v)
+
+module _ (n : ℕ) (cell other : ℕ → Cell) (same : (k : ℕ) → k < n → other k ≡ cell k) where
+  unmoved : (k : ℕ) → k < n → other k ≡ moved (pos 0) (pos 0) (cell k)
+  unmoved k l = same k l ∙ sym (stays (cell k))
+
+  -- the map goes by the cells of its points alone
+  pub wide-same : too_wide n other ≡ too_wide n cell
+  wide-same = wide-moved (pos 0) (pos 0) n cell other unmoved
+
+  pub cells-same : (marks : List ℕ) → map_of n other marks ≡ map_of n cell marks
+  cells-same marks =
+      elim (ℕ_discrete n 0) [
+        | yes e ↦ rw e (no-points other marks ∙ sym (no-points cell marks))
+        | no h ↦ (map-moved (pos 0) (pos 0) n cell other unmoved (omega (arith, h)) marks marks (λ k l. refl)
+            ∙ ap (λ (v : ℤ). lines_from v (line_characters n cell marks) (span_v n cell)) (+ℤ_idr (smallest_v n cell))
+            ∙ sym (map-lines n cell marks))
+      ]

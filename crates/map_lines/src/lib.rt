@@ -3,7 +3,7 @@
 
 pub mod spans;
 
-ghost use Rattle.std.specs.Prelude.{◌≡◌, false, ◌||◌, [], ◌∷◌, ℕ, ◌+◌, ◌^◌, ◌≤◌, ◌<◌, ltb, pos, ◌-ℤ◌};
+ghost use Rattle.std.specs.Prelude.{◌≡◌, false, ◌||◌, [], ◌∷◌, ℕ, ◌+◌, ◌^◌, ◌≤◌, ◌<◌, ltb, length, pos, ◌-ℤ◌};
 ghost use Rattle.view.specs.View.{max_points};
 ghost use Rattle.cells.specs.Points.{bias};
 ghost use Rattle.cells.specs.Cell.{cells_at};
@@ -17,7 +17,7 @@ ghost use Rattle.map_lines.specs.Page.{Spans, OnPage, Drawn, page_line};
 use marks::filters;
 use spans::Span;
 use text::{NoRoom, Writer};
-use view::{Marks, Words};
+use view::Marks;
 
 // The characters of v in a line, and those of cells.
 const LABEL_WIDTH: usize = 6;
@@ -60,15 +60,15 @@ fn character(marks: u8) -> u8
     }
 }
 
-// The page from cell (u, v) on, both plus BIAS, with the characters of n points.
-fn draw(keys: &Words, marks: &Marks, n: usize, u: usize, v: usize) -> Page
-    requires { (n ≤ max_points) × OnPage keys.now n u v }
-    ensures { Drawn n (cells_at keys.now) marks.now (pos u -ℤ pos bias) (pos v -ℤ pos bias) result }
+// The page from cell (u, v) on, both plus BIAS, with the characters of the points with these keys.
+fn draw(keys: &[u32], marks: &Marks, u: usize, v: usize) -> Page
+    requires { (length keys.now ≤ max_points) × OnPage keys.now (length keys.now) u v }
+    ensures { Drawn (length keys.now) (cells_at keys.now) marks.now (pos u -ℤ pos bias) (pos v -ℤ pos bias) result }
 {
     let mut page = [b'.'; PAGE_SIZE];
-    for k in 0..n {
-        let column = cells::u_part(keys[k]) as usize - u;
-        let line = cells::v_part(keys[k]) as usize - v;
+    for (k, key) in keys.iter().enumerate() {
+        let column = cells::u_part(*key) as usize - u;
+        let line = cells::v_part(*key) as usize - v;
         page[COLUMNS * line + column] = character(marks[k]);
     }
     page
@@ -106,19 +106,18 @@ fn put_lines(w: &mut Writer, page: &Page, count: usize, v: usize)
     }
 }
 
-// The map of n points in cell order: the keys of their cells, their marks, and what they span.
+// The map of points in cell order: the keys of their cells, their marks, and what they span.
 pub fn write_map(
-    n: usize,
-    keys: &Words,
+    keys: &[u32],
     marks: &Marks,
     u: Span,
     v: Span,
     out: &mut [u8],
 ) -> Result<usize, NoRoom>
-    requires { (n ≤ max_points) × Spans AlongU keys.now n u × Spans AlongV keys.now n v × (too_wide n (cells_at keys.now) ≡ false) }
-    ensures { Shows (map_of n (cells_at keys.now) marks.now) out.old out.new result }
+    requires { (length keys.now ≤ max_points) × Spans AlongU keys.now (length keys.now) u × Spans AlongV keys.now (length keys.now) v × (too_wide (length keys.now) (cells_at keys.now) ≡ false) }
+    ensures { Shows (map_of (length keys.now) (cells_at keys.now) marks.now) out.old out.new result }
 {
-    let page = draw(keys, marks, n, u.least, v.least);
+    let page = draw(keys, marks, u.least, v.least);
     let mut w = Writer::new(out);
     put_lines(&mut w, &page, v.count, v.least);
     w.answer()

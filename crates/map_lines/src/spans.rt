@@ -1,10 +1,8 @@
 // What the cells of a sheet span in u and in v.
-ghost use Rattle.std.specs.Prelude.{◌≡◌, ◌^◌, ◌≤◌, ◌<◌};
-ghost use Rattle.view.specs.View.{max_points};
+ghost use Rattle.std.specs.Prelude.{◌≡◌, ◌^◌, ◌<◌, length};
 ghost use Rattle.map_lines.specs.Page.{part, Spans};
 
 use offsets::Axis;
-use view::Words;
 
 // The smallest u or v, plus BIAS, and how many values there are from it to the largest.
 #[derive(Clone, Copy)]
@@ -23,18 +21,20 @@ fn coordinate(key: u32, axis: Axis) -> usize
     }
 }
 
-// What the cells with the first n keys span.
-pub fn span_along(keys: &Words, n: usize, axis: Axis) -> Span
-    requires { n ≤ max_points }
-    ensures { Spans axis keys.now n result }
+// What the cells with these keys span.
+pub fn span_along(keys: &[u32], axis: Axis) -> Span
+    ensures { Spans axis keys.now (length keys.now) result }
 {
-    let mut least = coordinate(keys[0], axis);
+    let Some(first) = keys.first() else {
+        return Span { least: 0, count: 0 };
+    };
+    let mut least = coordinate(*first, axis);
     let mut most = least;
-    for k in 0..n {
-        let c = coordinate(keys[k], axis);
+    for key in keys {
+        let c = coordinate(*key, axis);
         least = least.min(c);
         most = most.max(c);
     }
-    let count = if n == 0 { 0 } else { most - least + 1 };
+    let count = most - least + 1;
     Span { least, count }
 }

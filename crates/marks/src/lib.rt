@@ -7,7 +7,7 @@ ghost use Rattle.std.specs.Prelude.{◌≡◌, cond, ◌&&◌, List, [], ℕ, �
 ghost use Rattle.folds.specs.Column.{column};
 ghost use Rattle.folds.specs.Marked.{bit, Marked};
 ghost use Rattle.view.specs.View.{max_points, view_at};
-ghost use Rattle.view.specs.Seen.{lattice_in, view_in};
+ghost use Rattle.view.specs.Seen.{lattice_in};
 ghost use Rattle.marks.specs.Marks.{is_set, is_at, place_has, index_marks};
 ghost use Rattle.marks.specs.Filters.{filter_count};
 ghost use Rattle.marks.specs.Places.{place};
@@ -15,7 +15,7 @@ ghost use Rattle.marks.specs.Byte.{with_mark, marked_by, first_mark};
 ghost use Rattle.marks.specs.Tally.{counts_of};
 
 use filters::{FILTERS, Filter};
-use view::{Lattice, MAX_POINTS, Marks, View};
+use view::{Lattice, MAX_POINTS, Marks, SheetLattice};
 
 // A mark as a number.
 pub fn bit_of(b: bool) -> u8
@@ -67,12 +67,12 @@ fn at_index(lattice: &Lattice, mark: &Marks) -> Marks
 }
 
 // At each rank the mark of its index: whether some point with that index is marked.
-pub fn by_index(view: &View, mark: &Marks) -> Marks
-    ensures { result ≡ index_marks (view_in view.now) mark.now }
+pub fn by_index(sheet: &SheetLattice, mark: &Marks) -> Marks
+    ensures { (xs ys : List Float) → result ≡ index_marks (view_at sheet.now.lattice.count sheet.now.lattice.ranks.now xs ys) mark.now }
 {
-    let held = at_index(&view.lattice, mark);
+    let held = at_index(&sheet.lattice, mark);
     let mut out = [0u8; MAX_POINTS];
-    view.spread(&held, &mut out);
+    sheet.spread(&held, &mut out);
     out
 }
 

@@ -18,6 +18,7 @@ unfoldable pub rising_of : Float → ℕ
 unfolding to_bits
 rising_of x = cond (ltb (to_bits binary32 x) sign_bit) (sign_bit + to_bits binary32 x) (2 * sign_bit - to_bits binary32 x)
 
+-- r is the key of x, which is a finite f32, and has 32 bits at most
 pub record RisingKey (x : Float) (r : ℕ) : Type 0 where
   pub is : r ≡ rising_of x
   pub small : r < 2 * sign_bit

@@ -7,6 +7,7 @@ use Rattle.folds.specs.Below.{tally}
 use Rattle.folds.specs.Lists.{listed}
 use Rattle.view.specs.View.{max_points}
 
+-- the number at place k is above 0
 abbrev pub positive_at : List Float → ℕ → Bool
 positive_at v k = lt zero_f (get_or v k nan)
 
@@ -15,6 +16,7 @@ unfoldable pub positives : List Float → ℕ → List Float
 unfolding listed lt of_bits
 positives v n = listed (positive_at v) (λ (k : ℕ). get_or v k nan) n
 
+-- the bit patterns of f32s, in their order
 abbrev pub patterns : List Float → List ℕ
 patterns l = map (to_bits binary32) l
 

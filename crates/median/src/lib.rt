@@ -1,4 +1,4 @@
-// The median of an array's numbers: of the positive ones, by a sort of their bit patterns; of all, by a sort of keys that rise with them.
+// The median of numbers: of the positive ones, by a sort of their bit patterns; of all, by a sort of keys that rise with them.
 #![tactic(auto)]
 
 ghost use Rattle.std.specs.Prelude.{◌≡◌, ◌≤◌, ◌<◌, T};
@@ -9,6 +9,14 @@ ghost use Rattle.median.specs.Packed.{positives, Put, Packed};
 ghost use Rattle.median.specs.Keys.{RisingKey, Keyed, KeyedInOrder};
 
 use view::{Floats, MAX_POINTS, Words};
+
+// One number of each of so many points.
+#[derive(Clone, Copy)]
+pub struct Numbers<'a> {
+    pub values: &'a Floats,
+    pub count: usize,
+    ghost few: { count ≤ max_points },
+}
 
 // Puts the pattern of x at c, if x is positive.
 fn put(x: f32, c: usize, a: &mut Words) -> usize
@@ -22,26 +30,24 @@ fn put(x: f32, c: usize, a: &mut Words) -> usize
     c
 }
 
-// The patterns of the positive ones among the first n, from the front of a.
-fn pack(v: &Floats, n: usize, a: &mut Words) -> usize
-    requires { n ≤ max_points }
-    ensures packed { Packed v.now n result a.new }
-    ensures few { result ≤ n }
+// The patterns of the positive ones, from the front of a.
+fn pack(v: &Numbers, a: &mut Words) -> usize
+    ensures packed { Packed v.now.values.now v.now.count result a.new }
+    ensures few { result ≤ v.now.count }
 {
     let mut c = 0;
-    for k in 0..n {
-        c = put(v[k], c, a);
+    for k in 0..v.count {
+        c = put(v.values[k], c, a);
     }
     c
 }
 
-// The median of the positive ones among the first n; NaN where there is none.
-pub fn middle(v: &Floats, n: usize) -> f32
-    requires { n ≤ max_points }
-    ensures { result ≡ median_of (positives v.now n) }
+// The median of the positive ones; NaN where there is none.
+pub fn middle(v: &Numbers) -> f32
+    ensures { result ≡ median_of (positives v.now.values.now v.now.count) }
 {
     let mut a = [0; MAX_POINTS];
-    let c = pack(v, n, &mut a);
+    let c = pack(v, &mut a);
     if c == 0 {
         return f32::NAN;
     }
@@ -62,35 +68,35 @@ fn rising(x: f32) -> u64
 }
 
 // The key and the place of each number, packed into one.
-fn keys(v: &Floats, n: usize) -> [u64; MAX_POINTS]
-    requires { (n ≤ max_points) × Finite n v.now }
-    ensures { Keyed v.now n result }
+fn keys(v: &Numbers) -> [u64; MAX_POINTS]
+    requires { Finite v.now.count v.now.values.now }
+    ensures { Keyed v.now.values.now v.now.count result }
 {
     let mut out = [0; MAX_POINTS];
-    for k in 0..n {
-        out[k] = rising(v[k]) * sort::PACKED_PLACES + k as u64;
+    for k in 0..v.count {
+        out[k] = rising(v.values[k]) * sort::PACKED_PLACES + k as u64;
     }
     out
 }
 
 // The same in rising order: entry i, taken modulo `sort::PACKED_PLACES`, is the place of the number that is i-th in the order of numbers.
-pub fn keys_in_order(v: &Floats, n: usize) -> [u64; MAX_POINTS]
-    requires { (n ≤ max_points) × Finite n v.now }
-    ensures { KeyedInOrder v.now n result }
+pub fn keys_in_order(v: &Numbers) -> [u64; MAX_POINTS]
+    requires { Finite v.now.count v.now.values.now }
+    ensures { KeyedInOrder v.now.values.now v.now.count result }
 {
-    let mut a = keys(v, n);
-    sort::sort(&mut a, n);
+    let mut a = keys(v);
+    sort::sort(&mut a[..v.count]);
     a
 }
 
-// The median of the first n numbers, which are finite; NaN where there is none.
-pub fn middle_of_all(v: &Floats, n: usize) -> f32
-    requires { (n ≤ max_points) × Finite n v.now }
-    ensures { result ≡ median_of (first_of n v.now) }
+// The median of the numbers, which are finite; NaN where there is none.
+pub fn middle_of_all(v: &Numbers) -> f32
+    requires { Finite v.now.count v.now.values.now }
+    ensures { result ≡ median_of (first_of v.now.count v.now.values.now) }
 {
-    if n == 0 {
+    if v.count == 0 {
         return f32::NAN;
     }
-    let a = keys_in_order(v, n);
-    v[(a[n / 2] % sort::PACKED_PLACES) as usize]
+    let a = keys_in_order(v);
+    v.values[(a[v.count / 2] % sort::PACKED_PLACES) as usize]
 }

@@ -1,10 +1,9 @@
 -- The members of a side and the marks, from their columns. Assumes nothing.
-use mathlib.Core.Path.{◌≡◌, ap, ◌∙◌}
-use mathlib.Core.Bool.{Bool, ◌&&◌, ◌||◌}
-use mathlib.Core.List.{List}
-use Prim.Native.Nat.{ℕ, ◌≤◌, ◌<◌}
-use lib.Dec.{eqb}
-use lib.ListN.{get_or, replicate}
+use Rattle.std.proofs.Common.{◌≡◌, refl, ap, ◌∙◌, Bool, true, false, cond, ◌&&◌, ◌||◌, List, ℕ, ◌≤◌, ◌<◌, eqb, get_or, ne_eqb}
+use Rattle.std.specs.Prelude.{Option, None, Some}
+use Prim.{Dec, yes, no}
+use native.Mathlib.Decide.{ℕ_discrete}
+use lib.ListN.{replicate}
 use Rattle.folds.specs.Below.{some, tally}
 use Rattle.folds.proofs.Below.{some-ext, tally-ext, and-false, and-swap}
 use Rattle.folds.specs.Column.{column}
@@ -14,11 +13,29 @@ use Rattle.offsets.specs.Offsets.{next_u, next_v}
 use Rattle.view.specs.View.{View, max_points, rank_at, index_has}
 use Rattle.marks.specs.Marks.{is_set, index_marks}
 use Rattle.marks.proofs.Guards.{guard, past, each-as-column, set_is, index-marks}
+use Rattle.orientation.specs.declared.Side.{Side}
+use Rattle.orientation.specs.declared.Side.TheVariants.{Positive, Negative}
 use Rattle.orientation.specs.Orientation.{vote_at, of_vote, votes_for, side_member, turned, orientation_mark, orientation_of}
-use Rattle.orientation.specs.Voters.{voters, voters_at}
+use Rattle.orientation.specs.Voters.{vote_of, side_number, is_for, votes_of, voters, voters_at}
+
+-- a vote is for the side whose number it is
+for-is : (s : Side) (v : ℕ) → is_for s (vote_of v) ≡ eqb v (side_number s)
+for-is s v = go s (ℕ_discrete v 1)
+  where
+    second : (s : Side) (b : Bool) → is_for s (cond b (Some Negative) None) ≡ cond (eqb (side_number s) 1) false b
+    second Positive true = refl
+    second Positive false = refl
+    second Negative true = refl
+    second Negative false = refl
+
+    go : (s : Side) → Dec (v ≡ 1) → is_for s (vote_of v) ≡ eqb v (side_number s)
+    go Positive (yes q) = rw q refl
+    go Negative (yes q) = rw q refl
+    go Positive (no q) = rw (ne_eqb v 1 q) (second Positive (eqb v 2))
+    go Negative (no q) = rw (ne_eqb v 1 q) (second Negative (eqb v 2))
 
 -- the three points of the votes for the side that a column of votes holds
-module _ (w : View) (vote : List ℕ) (side : ℕ) where
+module _ (w : View) (vote : List (Option Side)) (side : Side) where
   abbrev voters_of : ℕ → Bool
   voters_of m = some (λ (k : ℕ). voters_at w vote side k m) w.count
 
@@ -28,36 +45,38 @@ module _ (w : View) (vote : List ℕ) (side : ℕ) where
   members-column h r =
       let n = w.count in
       each-as-column (voters w vote side) (voters_at w vote side) max_points n h
-      (λ k m g l. rw (past k m n l, past (rank_at w k next_u) m n l, past (rank_at w k next_v) m n l) (and-false (eqb (get_or vote k 0) side)))
+      (λ k m g l. rw (past k m n l, past (rank_at w k next_u) m n l, past (rank_at w k next_v) m n l) (and-false (is_for side (get_or vote k None))))
       (λ k m g l. rw (guard k m n l, guard (rank_at w k next_u) m n l, guard (rank_at w k next_v) m n l)) r
 
-module _ (w : View) (vote : List ℕ) (e : vote ≡ column max_points 0 w.count (vote_at w)) where
-  vote-is : (k : ℕ) → k < w.count → get_or vote k 0 ≡ vote_at w k
-  vote-is k h = rw (e, column-at max_points 0 w.count (vote_at w) k h)
+module _ (w : View) (vote : List (Option Side)) (e : vote ≡ votes_of w) where
+  for-at : (s : Side) (k : ℕ) → k < w.count → is_for s (get_or vote k None) ≡ eqb (vote_at w k) (side_number s)
+  unfolding votes_of
+  for-at s k h = rw (e, column-at max_points None w.count (λ (j : ℕ). vote_of (vote_at w j)) k h) (for-is s (vote_at w k))
 
-  votes-are : (s : ℕ) → tally (λ (k : ℕ). eqb (get_or vote k 0) s) w.count ≡ votes_for w s
+  votes-are : (s : Side) → tally (λ (k : ℕ). is_for s (get_or vote k None)) w.count ≡ votes_for w (side_number s)
   unfolding votes_for
-  votes-are s = tally-ext (λ (k : ℕ). eqb (get_or vote k 0) s) (λ (k : ℕ). eqb (vote_at w k) s) w.count (λ k h. rw (vote-is k h))
+  votes-are s = tally-ext (λ (k : ℕ). is_for s (get_or vote k None)) (λ (k : ℕ). eqb (vote_at w k) (side_number s)) w.count (for-at s)
 
-  members-are : (s m : ℕ) → voters_of w vote s m ≡ side_member w s m
+  members-are : (s : Side) (m : ℕ) → voters_of w vote s m ≡ side_member w (side_number s) m
   unfolding side_member of_vote
   members-are s m =
-      some-ext (λ (k : ℕ). voters_at w vote s k m) (λ (k : ℕ). of_vote w k m && eqb (vote_at w k) s) w.count
-      (λ k h. rw (vote-is k h) (and-swap (eqb (vote_at w k) s) ((eqb k m || eqb (rank_at w k next_u) m) || eqb (rank_at w k next_v) m)))
+      some-ext (λ (k : ℕ). voters_at w vote s k m) (λ (k : ℕ). of_vote w k m && eqb (vote_at w k) (side_number s)) w.count
+      (λ k h. rw (for-at s k h) (and-swap (eqb (vote_at w k) (side_number s)) ((eqb k m || eqb (rank_at w k next_u) m) || eqb (rank_at w k next_v) m)))
 
   -- the marks of the indices that have a member of the side
-  abbrev Side : ℕ → List ℕ → List ℕ → Type 0
-  Side s part index = (part ≡ column max_points 0 w.count (λ (m : ℕ). bit (voters_of w vote s m))) × (index ≡ index_marks w part)
+  abbrev Members : Side → List ℕ → List ℕ → Type 0
+  Members s part index = (part ≡ column max_points 0 w.count (λ (m : ℕ). bit (voters_of w vote s m))) × (index ≡ index_marks w part)
 
-  side-is : (s : ℕ) (part index : List ℕ) → Side s part index → (k : ℕ) → k < w.count → is_set index k ≡ index_has w (side_member w s) k
+  side-is : (s : Side) (part index : List ℕ) → Members s part index → (k : ℕ) → k < w.count → is_set index k ≡ index_has w (side_member w (side_number s)) k
   side-is s part index f k h =
-      set_is max_points w.count (index_has w (side_member w s)) index
-      (f.1 ∙ index-marks w (side_member w s) part
-      (f.0 ∙ column-ext max_points 0 w.count (λ (m : ℕ). bit (voters_of w vote s m)) (λ (m : ℕ). bit (side_member w s m)) (λ m l. ap bit (members-are s m)))) k h
+      set_is max_points w.count (index_has w (side_member w (side_number s))) index
+      (f.1 ∙ index-marks w (side_member w (side_number s)) part
+      (f.0 ∙ column-ext max_points 0 w.count (λ (m : ℕ). bit (voters_of w vote s m)) (λ (m : ℕ). bit (side_member w (side_number s) m)) (λ m l. ap bit (members-are s m)))) k h
 
-  pub marks-are : (p q pi qi r : List ℕ) (np nn : ℕ) → np ≡ tally (λ (k : ℕ). eqb (get_or vote k 0) 1) w.count → nn ≡ tally (λ (k : ℕ). eqb (get_or vote k 0) 2) w.count
-      → Side 1 p pi → Side 2 q qi → r ≡ column max_points 0 w.count (λ (k : ℕ). bit (turned np nn (is_set pi k) (is_set qi k))) → r ≡ orientation_of w
+  pub marks-are : (p q pi qi r : List ℕ) (np nn : ℕ) → np ≡ tally (λ (k : ℕ). is_for Positive (get_or vote k None)) w.count
+      → nn ≡ tally (λ (k : ℕ). is_for Negative (get_or vote k None)) w.count → Members Positive p pi → Members Negative q qi
+      → r ≡ column max_points 0 w.count (λ (k : ℕ). bit (turned np nn (is_set pi k) (is_set qi k))) → r ≡ orientation_of w
   unfolding orientation_of orientation_mark
   marks-are p q pi qi r np nn a b f g h =
       h ∙ column-ext max_points 0 w.count (λ (k : ℕ). bit (turned np nn (is_set pi k) (is_set qi k))) (λ (k : ℕ). bit (orientation_mark w k))
-      (λ k l. rw (a ∙ votes-are 1, b ∙ votes-are 2, side-is 1 p pi f k l, side-is 2 q qi g k l))
+      (λ k l. rw (a ∙ votes-are Positive, b ∙ votes-are Negative, side-is Positive p pi f k l, side-is Negative q qi g k l))

@@ -1,14 +1,40 @@
--- The points of a vote, from an array of the votes. Assumes nothing.
-use Rattle.std.specs.Prelude.{Bool, ◌&&◌, ◌||◌, List, ℕ, eqb, ltb, get_or}
+-- Votes as the code holds them, and the points of a vote, from an array of the votes. Assumes nothing.
+use Rattle.std.specs.Prelude.{Bool, true, false, cond, ◌&&◌, ◌||◌, List, ℕ, eqb, ltb, get_or, Option, None, Some}
+use Rattle.folds.specs.Column.{column}
 use Rattle.offsets.specs.Offsets.{next_u, next_v}
-use Rattle.view.specs.View.{View, rank_at, present}
+use Rattle.view.specs.View.{max_points, View, rank_at, present}
+use Rattle.orientation.specs.declared.Side.{Side}
+use Rattle.orientation.specs.declared.Side.TheVariants.{Positive, Negative}
+use Rattle.orientation.specs.Orientation.{vote_at}
+
+-- "1 for a positive cross product, 2 for a negative one, 0 for no vote"
+abbrev pub vote_of : ℕ → Option Side
+vote_of v = cond (eqb v 1) (Some Positive) (cond (eqb v 2) (Some Negative) None)
+
+-- the number of a side
+abbrev pub side_number : Side → ℕ
+side_number Positive = 1
+side_number Negative = 2
+
+-- the vote is for the side
+abbrev pub is_for : Side → Option Side → Bool
+is_for s None = false
+is_for Positive (Some Positive) = true
+is_for Positive (Some Negative) = false
+is_for Negative (Some Positive) = false
+is_for Negative (Some Negative) = true
+
+-- the votes of all ranks
+unfoldable pub votes_of : View → List (Option Side)
+unfolding column vote_at
+votes_of w = column max_points None w.count (λ k. vote_of (vote_at w k))
 
 -- rank k's vote is for the side, and m is one of its three points
-abbrev pub voters_at : View → List ℕ → ℕ → ℕ → ℕ → Bool
-voters_at w vote side k m = eqb (get_or vote k 0) side && ((eqb k m || eqb (rank_at w k next_u) m) || eqb (rank_at w k next_v) m)
+abbrev pub voters_at : View → List (Option Side) → Side → ℕ → ℕ → Bool
+voters_at w vote side k m = is_for side (get_or vote k None) && ((eqb k m || eqb (rank_at w k next_u) m) || eqb (rank_at w k next_v) m)
 
 -- the same, with each of the three below the count
-unfoldable pub voters : View → List ℕ → ℕ → ℕ → ℕ → Bool
+unfoldable pub voters : View → List (Option Side) → Side → ℕ → ℕ → Bool
 voters w vote side k m =
-    eqb (get_or vote k 0) side
+    is_for side (get_or vote k None)
     && (((ltb k w.count && eqb k m) || (present w k next_u && eqb (rank_at w k next_u) m)) || (present w k next_v && eqb (rank_at w k next_v) m))

@@ -1,8 +1,7 @@
 // The boxes of patches, for the edge gate: whether a point is on the boundary of its patch's box. See specs/Boxes.antt.
-ghost use Rattle.std.specs.Prelude.{◌≡◌, ◌≤◌, ◌^◌, ◌<◌, ◌&&◌, ltb};
+ghost use Rattle.std.specs.Prelude.{◌≡◌, List, Float, ◌≤◌, ◌^◌, ◌<◌, ◌&&◌, ltb};
 ghost use Rattle.folds.specs.Marked.{bit};
-ghost use Rattle.view.specs.View.{max_points};
-ghost use Rattle.view.specs.Seen.{view_in};
+ghost use Rattle.view.specs.View.{max_points, view_at};
 ghost use Rattle.cells.specs.Cell.{cells_at};
 ghost use Rattle.offsets.specs.Offsets.{places};
 ghost use Rattle.patches.specs.Search.{AreNear};
@@ -11,7 +10,7 @@ ghost use Rattle.patches.specs.Extents.{extent, farthest_of, at_end, Reaching, a
 
 use crate::labels;
 use offsets::Offset;
-use view::{MAX_POINTS, Marks, Places, View, Words};
+use view::{MAX_POINTS, Marks, Places, SheetLattice, Words};
 
 // The greatest that a part of a cell's key can be.
 const FAR_END: u16 = (cells::STRIDE - 1) as u16;
@@ -100,14 +99,14 @@ impl Extents {
 }
 
 // 1 at each rank whose index has its place on the boundary of the box of its patch, given the labels.
-fn boundary_among(view: &View, keys: &Words, label: &Places) -> Marks
-    requires { CellKeys view.now.lattice.count keys.now }
-    ensures { result ≡ boundary_among (view_in view.now) label.now (cells_at keys.now) }
+fn boundary_among(sheet: &SheetLattice, keys: &Words, label: &Places) -> Marks
+    requires { CellKeys sheet.now.lattice.count keys.now }
+    ensures { (xs ys : List Float) → result ≡ boundary_among (view_at sheet.now.lattice.count sheet.now.lattice.ranks.now xs ys) label.now (cells_at keys.now) }
 {
-    let n = view.lattice.count;
+    let n = sheet.lattice.count;
     let extents = Extents::new(keys, label, n);
     view::filled(0, n, |i| {
-        let m = view.lattice.index(i);
+        let m = sheet.lattice.index(i);
         let s = usize::from(label[m]);
         u8::from(s < n && extents.has_end(s, keys[m]))
     })
@@ -115,10 +114,10 @@ fn boundary_among(view: &View, keys: &Words, label: &Places) -> Marks
 
 // 1 at each rank whose index has its place on the boundary of the box of its patch of all points.
 #[inline(never)]
-pub fn boundary(view: &View, keys: &Words, sides: &[Offset]) -> Marks
-    requires { AreNear sides.now × CellKeys view.now.lattice.count keys.now }
-    ensures { result ≡ boundary_of (view_in view.now) (places sides.now) (cells_at keys.now) }
+pub fn boundary(sheet: &SheetLattice, keys: &Words, sides: &[Offset]) -> Marks
+    requires { AreNear sides.now × CellKeys sheet.now.lattice.count keys.now }
+    ensures { (xs ys : List Float) → result ≡ boundary_of (view_at sheet.now.lattice.count sheet.now.lattice.ranks.now xs ys) (places sides.now) (cells_at keys.now) }
 {
-    let label = labels(&view.lattice, &[0; MAX_POINTS], sides);
-    boundary_among(view, keys, &label)
+    let label = labels(&sheet.lattice, &[0; MAX_POINTS], sides);
+    boundary_among(sheet, keys, &label)
 }

@@ -5,9 +5,10 @@ mod links;
 mod removals;
 mod state;
 
-ghost use Rattle.std.specs.Prelude.{◌≡◌, true};
+ghost use Rattle.std.specs.Prelude.{◌≡◌, true, List, Float};
 ghost use Rattle.offsets.specs.Offsets.{places};
-ghost use Rattle.view.specs.Seen.{view_in};
+ghost use Rattle.view.specs.View.{view_at};
+ghost use Rattle.view.specs.Seen.{lattice_in};
 ghost use Rattle.patches.specs.Reach.{Mirrored, paired};
 ghost use Rattle.patches.specs.Search.{AreNear};
 ghost use Rattle.peel.specs.Peel.{peeled_of};
@@ -16,7 +17,7 @@ use links::Links;
 use offsets::Offset;
 use removals::Removals;
 use state::states;
-use view::{Marks, View};
+use view::{Marks, SheetLattice};
 
 // The mark of each rank, and how many rounds removed something.
 #[derive(Drop)]
@@ -27,12 +28,17 @@ pub struct Peeled {
 
 // Removes the weak ends of patches in rounds. The work is n and a constant for each rank that is removed.
 #[inline(never)]
-pub fn weak_leaf_peel(view: &View, dropped: &Marks, weak: &Marks, sides: &[Offset]) -> Peeled
-    requires { AreNear sides.now × (paired (places sides.now) ≡ true) × Mirrored view.now.lattice.count (view_in view.now).near }
-    ensures { result ≡ peeled_of (view_in view.now) (places sides.now) dropped.now weak.now }
+pub fn weak_leaf_peel(
+    sheet: &SheetLattice,
+    dropped: &Marks,
+    weak: &Marks,
+    sides: &[Offset],
+) -> Peeled
+    requires { AreNear sides.now × (paired (places sides.now) ≡ true) × Mirrored sheet.now.lattice.count (lattice_in sheet.now.lattice).near }
+    ensures { (xs ys : List Float) → result ≡ peeled_of (view_at sheet.now.lattice.count sheet.now.lattice.ranks.now xs ys) (places sides.now) dropped.now weak.now }
 {
-    let links = Links::new(view, sides);
-    let mut state = states(dropped, weak, view.lattice.count);
+    let links = Links::new(sheet, sides);
+    let mut state = states(dropped, weak, sheet.lattice.count);
     let mut gone = Removals::new();
     gone.scan(&links, &state);
     let mut from = 0;

@@ -4,18 +4,18 @@ ghost use Rattle.peel.specs.Work.{Chained};
 
 use crate::state::States;
 use offsets::Offset;
-use view::{MAX_POINTS, Places, View};
+use view::{MAX_POINTS, Places, SheetLattice};
 
 // The points, the offsets that lead over a shared edge, and the chains of the ranks of each index: at the place of the index one more than the last
 // of them, and at each rank one more than the one before it; 0 where there is none.
 #[derive(Drop)]
 pub struct Links<'a> {
-    pub view: View<'a>,
+    pub sheet: SheetLattice<'a>,
     pub sides: &'a [Offset],
     last: Places,
     before: Places,
     ghost near: { AreNear sides.now },
-    ghost chained: { Chained view.lattice.ranks.now view.lattice.count last before },
+    ghost chained: { Chained sheet.lattice.ranks.now sheet.lattice.count last before },
 }
 
 impl<'a> Links<'a> {
@@ -24,20 +24,20 @@ impl<'a> Links<'a> {
     ghost use Rattle.peel.specs.Work.{with_index, last_below, index_at};
     ghost use Rattle.peel.specs.Steps.{leaf_in};
 
-    pub fn new(view: &View<'a>, sides: &'a [Offset]) -> Links<'a>
+    pub fn new(sheet: &SheetLattice<'a>, sides: &'a [Offset]) -> Links<'a>
         requires { AreNear sides.now }
-        ensures view { result.view ≡ view.now }
+        ensures sheet { result.sheet ≡ sheet.now }
         ensures sides { result.sides.now ≡ sides.now }
     {
         let mut last = [0; MAX_POINTS];
         let mut before = [0; MAX_POINTS];
-        for k in 0..view.lattice.count {
-            let b = view.lattice.index(k);
+        for k in 0..sheet.lattice.count {
+            let b = sheet.lattice.index(k);
             before[k] = last[b];
             last[b] = (k + 1) as u16;
         }
         Links {
-            view: *view,
+            sheet: *sheet,
             sides,
             last,
             before,
@@ -46,23 +46,23 @@ impl<'a> Links<'a> {
 
     // The last rank with rank k's index.
     pub fn last(&self, k: usize) -> Option<usize>
-        requires { k < self.now.view.lattice.count }
-        ensures { result ≡ last_below (with_index self.now.view.lattice.ranks.now (index_at self.now.view.lattice.ranks.now k)) self.now.view.lattice.count }
+        requires { k < self.now.sheet.lattice.count }
+        ensures { result ≡ last_below (with_index self.now.sheet.lattice.ranks.now (index_at self.now.sheet.lattice.ranks.now k)) self.now.sheet.lattice.count }
     {
-        usize::from(self.last[self.view.lattice.index(k)]).checked_sub(1)
+        usize::from(self.last[self.sheet.lattice.index(k)]).checked_sub(1)
     }
 
     // The rank before rank k with the same index.
     pub fn before(&self, k: usize) -> Option<usize>
-        requires { k < self.now.view.lattice.count }
-        ensures { result ≡ last_below (with_index self.now.view.lattice.ranks.now (index_at self.now.view.lattice.ranks.now k)) k }
+        requires { k < self.now.sheet.lattice.count }
+        ensures { result ≡ last_below (with_index self.now.sheet.lattice.ranks.now (index_at self.now.sheet.lattice.ranks.now k)) k }
     {
         usize::from(self.before[k]).checked_sub(1)
     }
 
     // Rank k is live and weak, and has at most one live neighbour.
     pub fn is_leaf(&self, state: &States, k: usize) -> bool
-        requires { k < self.now.view.lattice.count }
+        requires { k < self.now.sheet.lattice.count }
         ensures { result ≡ leaf_in self.now state.now k }
     {
         if !state[k].is_weak() {
@@ -70,7 +70,7 @@ impl<'a> Links<'a> {
         }
         let mut count = 0;
         for o in self.sides {
-            if let Some(j) = self.view.lattice.neighbour(k, *o) {
+            if let Some(j) = self.sheet.lattice.neighbour(k, *o) {
                 count += usize::from(state[j].is_live());
             }
         }

@@ -47,7 +47,7 @@ impl Removals {
 
     // If rank k is an end and has no mark, each rank of its index goes.
     fn consider(&mut self, links: &Links, state: &States, k: usize)
-        requires { (k < links.now.view.lattice.count) × whole_in links.now self.old }
+        requires { (k < links.now.sheet.lattice.count) × whole_in links.now self.old }
         ensures { SearchedBy links.now state.now (λ (j : ℕ). j ≡ k) self.old self.new }
     {
         if self.marks[k] == 1 || !links.is_leaf(state, k) {
@@ -66,7 +66,7 @@ impl Removals {
         ensures { SearchedBy links.now state.now (beside_in links.now x) self.old self.new }
     {
         for o in links.sides {
-            if let Some(k) = links.view.lattice.neighbour(x, *o) {
+            if let Some(k) = links.sheet.lattice.neighbour(x, *o) {
                 self.consider(links, state, k);
             }
         }
@@ -85,9 +85,9 @@ impl Removals {
     // Finds the ends of the first round.
     pub fn scan(&mut self, links: &Links, state: &States)
         requires { whole_in links.now self.old }
-        ensures { SearchedBy links.now state.now (λ (k : ℕ). k < links.now.view.lattice.count) self.old self.new }
+        ensures { SearchedBy links.now state.now (λ (k : ℕ). k < links.now.sheet.lattice.count) self.old self.new }
     {
-        for k in 0..links.view.lattice.count {
+        for k in 0..links.sheet.lattice.count {
             self.consider(links, state, k);
         }
     }

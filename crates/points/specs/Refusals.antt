@@ -4,7 +4,7 @@ use Rattle.std.specs.Prelude.{Bool, true, false, not, ◌&&◌, ◌||◌, List, 
 use Rattle.folds.specs.Among.{any_in, pair_in}
 use Rattle.folds.specs.Arith.{f32}
 use Rattle.sort.specs.Sorted.{sort}
-use Rattle.refusals.specs.First.{Refusal, ruled, number_in}
+use Rattle.refusals.specs.First.{Condition, ruled, number_in}
 use Rattle.cells.specs.Points.{Point, key_of}
 use Rattle.cells.specs.Cell.{signed, within}
 use Rattle.sheet_file.specs.Limit.{outside}
@@ -49,7 +49,7 @@ abbrev pub two_strengths : Point → Point → Bool
 two_strengths p q = eqb p.index q.index && not (same_strength p q)
 
 -- the refusals of a list of points with a fraction, in their order
-unfoldable pub point_refusals : Fraction → List Point → List Refusal
+unfoldable pub point_refusals : Fraction → List Point → List Condition
 point_refusals x ps =
     (6, any_in off_range ps)
     ∷ (7, any_in off_limit ps)
@@ -71,8 +71,3 @@ comes_before p q = ltb (key_of p) (key_of q)
 -- "Rows come in cell order, by u, then v."
 abbrev pub cell_order : List Point → List Point
 cell_order ps = sort comes_before ps
-
--- the points in cell order, and none where a number applies
-unfoldable pub accepted_of : Fraction → List Point → List Point
-unfolding point_refusals
-accepted_of x ps = ruled (λ (k : ℕ). []) (cell_order ps) (point_refusals x ps)

@@ -10,16 +10,19 @@ ghost use Rattle.cells.specs.Points.{Point, key_of};
 ghost use Rattle.view.specs.View.{max_points};
 ghost use Rattle.sort.specs.Packed.{packed_places, in_order_of, entries_of};
 ghost use Rattle.points.specs.Records.{points_in, PointsFit};
-ghost use Rattle.points.specs.Refusals.{off_range, off_limit, off_strength, off_fraction, same_position, two_positions, two_strengths, number_for, cell_order, accepted_of};
+ghost use Rattle.points.specs.Refusals.{off_range, off_limit, off_strength, off_fraction, same_position, two_positions, two_strengths, cell_order};
 ghost use Rattle.points.specs.Entries.{Likeness, clash, never};
-ghost use Rattle.points.specs.Held.{nth, listed, at_rank, Ordered, InCellOrder};
-ghost use Rattle.points.specs.Table.{Tabled};
+ghost use Rattle.points.specs.Held.{nth, listed, at_rank, Ordered};
+ghost use Rattle.points.specs.Table.{Tabled, TableFor};
 
+mod accepted;
 mod records;
 
+use accepted::Accepted;
 use records::{Order, Points};
+use refusals::Refusal;
 use sheet_file::{Fraction, Layout};
-use view::{Floats, MAX_POINTS, Words};
+use view::{Floats, Words};
 
 impl Points<'_> {
     // Where the record of point i begins.
@@ -197,55 +200,61 @@ impl Order<'_> {
     {
         self.any_apart(|p, q| self.points.strength(p) != self.points.strength(q))
     }
+}
 
-    // The fields of the point at rank r of cell order: its cell's key, its index, its position and its strength.
+impl Accepted<'_> {
+    // The fields of the point at rank r: its cell's key, its index, its position and its strength.
     #[tactic(auto, using(crate::proofs::Columns::cell_fits))]
     fn cell(&self, r: usize) -> u32
-        requires { InCellOrder self.now × (r < self.now.points.layout.count) }
-        ensures { result ≡ get_or self.now.entries r 0 / packed_places }
+        requires { r < self.now.order.points.layout.count }
+        ensures { result ≡ get_or self.now.order.entries r 0 / packed_places }
     {
-        self.key(r) as u32
+        self.order.key(r) as u32
     }
 
     fn index(&self, r: usize) -> u32
-        requires { InCellOrder self.now × (r < self.now.points.layout.count) }
-        ensures { result ≡ (at_rank self.now r).index }
+        requires { r < self.now.order.points.layout.count }
+        ensures { result ≡ (at_rank self.now.order r).index }
     {
-        self.points.index(self.place(r))
+        self.order.points.index(self.order.place(r))
     }
 
     #[tactic(auto, using(crate::proofs::Columns::x_inside))]
     fn x(&self, r: usize) -> f32
-        requires { InCellOrder self.now × (r < self.now.points.layout.count) }
-        ensures { result ≡ f32 (at_rank self.now r).x }
+        requires { r < self.now.order.points.layout.count }
+        ensures { result ≡ f32 (at_rank self.now.order r).x }
     {
-        sheet_file::float_at(self.points.file, self.points.at(self.place(r)) + 12)
+        sheet_file::float_at(
+            self.order.points.file,
+            self.order.points.at(self.order.place(r)) + 12,
+        )
     }
 
     #[tactic(auto, using(crate::proofs::Columns::y_inside))]
     fn y(&self, r: usize) -> f32
-        requires { InCellOrder self.now × (r < self.now.points.layout.count) }
-        ensures { result ≡ f32 (at_rank self.now r).y }
+        requires { r < self.now.order.points.layout.count }
+        ensures { result ≡ f32 (at_rank self.now.order r).y }
     {
-        sheet_file::float_at(self.points.file, self.points.at(self.place(r)) + 16)
+        sheet_file::float_at(
+            self.order.points.file,
+            self.order.points.at(self.order.place(r)) + 16,
+        )
     }
 
     #[tactic(auto, using(crate::proofs::Columns::strength_inside))]
     fn strength(&self, r: usize) -> f32
-        requires { InCellOrder self.now × (r < self.now.points.layout.count) }
-        ensures { result ≡ f32 (at_rank self.now r).strength }
+        requires { r < self.now.order.points.layout.count }
+        ensures { result ≡ f32 (at_rank self.now.order r).strength }
     {
-        sheet_file::float_of(self.points.strength(self.place(r)))
+        sheet_file::float_of(self.order.points.strength(self.order.place(r)))
     }
 
     // The points as they are handed on.
     fn table(&self) -> Table
-        requires { InCellOrder self.now }
-        ensures { Tabled 0 (cell_order (listed self.now.points)) result }
+        ensures { Tabled (cell_order (listed self.now.order.points)) result }
     {
-        let n = self.points.layout.count;
+        let n = self.order.points.layout.count;
         Table {
-            number: 0,
             keys: view::filled(0, n, |r| self.cell(r)),
             idx: view::filled(0, n, |r| self.index(r)),
             x: view::filled(f32::NAN, n, |r| self.x(r)),
@@ -255,10 +264,9 @@ impl Order<'_> {
     }
 }
 
-// The points in cell order, one array a field; or one of the numbers 6, 7, 13, 8, 9 and 14, and no points.
+// The points in cell order, one array a field.
 #[derive(Drop)]
 pub struct Table {
-    pub number: u8,
     pub keys: Words,
     pub idx: Words,
     pub x: Floats,
@@ -266,45 +274,31 @@ pub struct Table {
     pub strength: Floats,
 }
 
-// No points, and the number of a refusal.
-pub fn refused(number: u8) -> Table
-    ensures { Tabled number [] result }
-{
-    Table {
-        number,
-        keys: [0; MAX_POINTS],
-        idx: [0; MAX_POINTS],
-        x: [f32::NAN; MAX_POINTS],
-        y: [f32::NAN; MAX_POINTS],
-        strength: [f32::NAN; MAX_POINTS],
-    }
-}
-
-// The points of a file whose fields stand so, with its fraction.
-pub fn read(file: &[u8], f: Layout, fraction: Fraction) -> Table
+// The points of a file whose fields stand so, with its fraction; or one of the refusals 6, 7, 13, 8, 9 and 14.
+pub fn read(file: &[u8], f: Layout, fraction: Fraction) -> Result<Table, Refusal>
     requires { PointsFit file.now f }
-    ensures { Tabled (number_for fraction (points_in file.now f)) (accepted_of fraction (points_in file.now f)) result }
+    ensures { TableFor fraction (points_in file.now f) result }
 {
     let points = Points { file, layout: f };
     if points.any_off_range() {
-        return refused(6);
+        return Err(Refusal::BadCell);
     }
     if points.any_off_limit() {
-        return refused(7);
+        return Err(Refusal::BadPosition);
     }
     if points.any_off_strength(fraction) {
-        return refused(13);
+        return Err(Refusal::BadStrength);
     }
     let by_cell = points.by_cell();
     if by_cell.any_same_cell() {
-        return refused(8);
+        return Err(Refusal::RepeatedCell);
     }
     let by_index = points.by_index();
     if by_index.any_two_positions() {
-        return refused(9);
+        return Err(Refusal::TwoPositions);
     }
     if by_index.any_two_strengths() {
-        return refused(14);
+        return Err(Refusal::TwoStrengths);
     }
-    by_cell.table()
+    Ok(Accepted { order: by_cell }.table())
 }

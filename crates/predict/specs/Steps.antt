@@ -1,7 +1,8 @@
 -- What the methods of the kept points give. Assumes nothing.
 use Rattle.std.specs.Prelude.{cond, List, ℕ, Option, None, Some}
 use Rattle.offsets.specs.declared.Offset.{Offset}
-use Rattle.view.specs.View.{View, view_at, rank_at}
+use Rattle.view.specs.View.{View, rank_at}
+use Rattle.view.specs.Seen.{seen_in}
 use Rattle.predict.specs.Predict.{Prediction}
 use Rattle.predict.specs.Fills.{kept_at, prediction_at, fill_at}
 use Rattle.predict.specs.Sums.{sums_with}
@@ -9,7 +10,7 @@ use Rattle.predict.specs.declared.kept.Kept.{Kept}
 use Rattle.predict.specs.declared.sums.Sums.{Sums}
 
 abbrev pub view_of : Kept → View
-view_of p = view_at p.lattice.now.count p.lattice.now.ranks.now p.x.now p.y.now
+view_of p = seen_in p.lattice.now p.seen.now
 
 -- the rank at offset o from rank k, if it is kept
 abbrev pub kept_rank : Kept → ℕ → Offset → Option ℕ

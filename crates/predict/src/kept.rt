@@ -11,7 +11,7 @@ ghost use Rattle.predict.specs.Sums.{FewSides};
 use crate::PredictedPosition;
 use crate::sums::Sums;
 use offsets::Offset;
-use view::{Floats, Lattice, Marks};
+use view::{Floats, Lattice, Marks, Positions};
 
 // The offset the other way.
 fn opposite(o: Offset) -> Offset
@@ -43,8 +43,7 @@ fn midpoint(values: &Floats, f: usize, b: usize) -> f32
 #[derive(Clone, Copy)]
 pub struct Kept<'a> {
     pub lattice: &'a Lattice<'a>,
-    pub x: &'a Floats,
-    pub y: &'a Floats,
+    pub seen: &'a Positions<'a>,
     pub marks: &'a Marks,
 }
 
@@ -76,8 +75,8 @@ impl Kept<'_> {
             return a;
         };
         Sums {
-            x: a.x + midpoint(self.x, f, b),
-            y: a.y + midpoint(self.y, f, b),
+            x: a.x + midpoint(self.seen.x, f, b),
+            y: a.y + midpoint(self.seen.y, f, b),
             pairs: a.pairs + 1,
         }
     }

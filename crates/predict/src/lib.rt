@@ -5,13 +5,14 @@ mod kept;
 mod sums;
 
 ghost use Rattle.std.specs.Prelude.{◌≡◌, ◌<◌};
-ghost use Rattle.view.specs.View.{max_points, view_at};
+ghost use Rattle.view.specs.View.{max_points};
+ghost use Rattle.view.specs.Seen.{seen_in};
 ghost use Rattle.predict.specs.Fills.{prediction_at, fills_of};
 ghost use Rattle.predict.specs.Sums.{FewSides};
 
 use kept::Kept;
 use offsets::Offset;
-use view::{Floats, Lattice, MAX_POINTS, Marks};
+use view::{Lattice, MAX_POINTS, Marks, Positions};
 
 // The average of the midpoints of the opposite pairs, and how many there are.
 #[derive(Clone, Copy)]
@@ -27,19 +28,17 @@ pub type Fills = [Option<PredictedPosition>; MAX_POINTS];
 // What is predicted for the cell of rank k from the points without a mark, if there is a pair.
 pub fn predict_grid_position(
     lattice: &Lattice,
-    x: &Floats,
-    y: &Floats,
+    seen: &Positions,
     marks: &Marks,
     sides: &[Offset],
     k: usize,
 ) -> Option<PredictedPosition>
     requires { (k < max_points) × FewSides sides.now }
-    ensures { result ≡ prediction_at (view_at lattice.now.count lattice.now.ranks.now x.now y.now) sides.now marks.now k }
+    ensures { result ≡ prediction_at (seen_in lattice.now seen.now) sides.now marks.now k }
 {
     let kept = Kept {
         lattice,
-        x,
-        y,
+        seen,
         marks,
     };
     kept.prediction(sides, k)
@@ -47,14 +46,13 @@ pub fn predict_grid_position(
 
 // The fills of all points.
 #[inline(never)]
-pub fn fills(lattice: &Lattice, x: &Floats, y: &Floats, marks: &Marks, sides: &[Offset]) -> Fills
+pub fn fills(lattice: &Lattice, seen: &Positions, marks: &Marks, sides: &[Offset]) -> Fills
     requires { FewSides sides.now }
-    ensures { result ≡ fills_of (view_at lattice.now.count lattice.now.ranks.now x.now y.now) sides.now marks.now }
+    ensures { result ≡ fills_of (seen_in lattice.now seen.now) sides.now marks.now }
 {
     let kept = Kept {
         lattice,
-        x,
-        y,
+        seen,
         marks,
     };
     view::filled(None, lattice.count, |k| kept.fill(sides, k))

@@ -1,4 +1,5 @@
 -- The call for the fills, of every file and buffer. Assumes nothing.
+use Rattle.std.specs.Prelude.{Err}
 use mathlib.Core.Path.{◌≡◌, refl, sym, ap, ◌∙◌}
 use mathlib.Core.Bool.{Bool, not, ◌&&◌}
 use mathlib.Core.List.{List, ◌++◌}
@@ -21,10 +22,10 @@ use Rattle.judging.specs.Judging.{judged_for, fills_for}
 use Rattle.kept.proofs.Cases.{rows_fit}
 use Rattle.sheet_fills.specs.Bytes.{fill_size, fills_bytes, dropped_count}
 use Rattle.sheet_fills.specs.Answer.{as_rows, fill_ruling, fill_answer_by, fills_by, fill_answer_of, fills_after}
-use Rattle.sheet_fills.specs.declared.FillAnswer.TheVariants.{Refused}
 use Rattle.sheet_fills.proofs.Laws.{bytes-long}
 use Rattle.sheet_fills.proofs.Cases.{room-for-fills}
-use Rattle.sheet_fills.proofs.Bounds.{short-exactly, other}
+use Rattle.sheet_fills.proofs.Bounds.{short-exactly}
+use Rattle.refusals.proofs.Number.{err-no-ok}
 use Rattle.promises.specs.Words.{marks_in}
 use Rattle.promises.specs.Fills.{dropped_rank, FilledBy, FillCallPromise}
 
@@ -32,13 +33,13 @@ module _ (file buffer : List ℕ) where
   abbrev room : ℕ
   room = as_rows (length buffer)
 
-  nothing_written : (k : ℕ) → fill_answer_of file (length buffer) ≡ Refused k → fills_after file buffer ≡ buffer
+  nothing_written : (k : ℕ) → fill_answer_of file (length buffer) ≡ Err k → fills_after file buffer ≡ buffer
   unfolding fill_answer_of fills_after
   nothing_written k e = go (fill_ruling file (length buffer)) e
     where
-      go : (r : Ruling) → fill_answer_by r ≡ Refused k → fills_by buffer r ≡ buffer
+      go : (r : Ruling) → fill_answer_by r ≡ Err k → fills_by buffer r ≡ buffer
       go (refused j) e = refl
-      go (accepted s ps) e = absurd (other (sym e))
+      go (accepted s ps) e = absurd (err-no-ok (sym e))
 
   three-given : (layout_of file).count ≤ max_points → applies file room 3 ≡ ltb (length buffer) (fill_size * (layout_of file).count)
   unfolding applies

@@ -1,9 +1,11 @@
 -- The limit of points, of the call and of the programs `sheet` and `map`: a number is ruled exactly where it is answered and printed. Assumes nothing.
+use Rattle.std.specs.Prelude.{Err}
 use mathlib.Core.Path.{◌≡◌, refl, sym, ap, ◌∙◌}
 use mathlib.Core.List.{List}
 use Prim.Native.Nat.{ℕ}
 use native.Mathlib.Omega.{arith}
 use lib.ListN.{length, get_or}
+use Rattle.refusals.proofs.Number.{err-no-ok}
 use Rattle.cells.specs.Points.{indices_of}
 use Rattle.cells.specs.Cell.{Cell, cells_of}
 use Rattle.sheet_file.specs.Bytes.{Bytes}
@@ -16,8 +18,6 @@ use Rattle.text.specs.Text.{refusal_of}
 use Rattle.listing.specs.Listing.{listing_of}
 use Rattle.map_lines.proofs.Start.{refusal-first}
 use Rattle.kept.specs.Answer.{answer_by, answer_of}
-use Rattle.kept.specs.declared.Answer.TheVariants.{Refused, Accepted}
-use Rattle.kept.specs.declared.Counts.{Counts}
 use Rattle.sheet_listing.specs.Text.{text_by, text_of}
 use Rattle.sheet_listing.proofs.Laws.{text-is}
 use Rattle.sheet_map.proofs.Laws.{older-first, number-given}
@@ -26,20 +26,17 @@ use Rattle.promises.specs.Limit.{AllRefuse, NoneRefuses, LimitShownPromise}
 
 -- ---- the call
 
-number-answered : (file : List ℕ) (room k : ℕ) → ruling_of file room ≡ refused k → answer_of file room ≡ Refused k
+number-answered : (file : List ℕ) (room k : ℕ) → ruling_of file room ≡ refused k → answer_of file room ≡ Err k
 unfolding answer_of
 number-answered file room k e = ap answer_by e
 
-other : {k : ℕ} {c : Counts} → Accepted c ≡ Refused k → ⊥
-other e = let z : ◌≡◌ {A = ℕ} 0 1 = cc in omega arith
-
-answer-read : (file : List ℕ) (room k : ℕ) → answer_of file room ≡ Refused k → ruling_of file room ≡ refused k
+answer-read : (file : List ℕ) (room k : ℕ) → answer_of file room ≡ Err k → ruling_of file room ≡ refused k
 unfolding answer_of
 answer-read file room k e = go (ruling_of file room) refl e
   where
-    go : (x : Ruling) → ruling_of file room ≡ x → answer_by x ≡ Refused k → ruling_of file room ≡ refused k
+    go : (x : Ruling) → ruling_of file room ≡ x → answer_by x ≡ Err k → ruling_of file room ≡ refused k
     go (refused j) q e = let p : j ≡ k = cc e in q ∙ ap refused p
-    go (accepted s ps) q e = absurd (other e)
+    go (accepted s ps) q e = absurd (err-no-ok (sym e))
 
 -- ---- the listing
 

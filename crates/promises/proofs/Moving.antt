@@ -1,4 +1,5 @@
 -- Points that are seen alike have the same marks, once their validate marks are the same; and so have their rows. Assumes nothing.
+use Rattle.std.specs.Prelude.{Ok}
 use mathlib.Core.Path.{◌≡◌, sym, ap, ◌∙◌}
 use mathlib.Core.Bool.{◌&&◌}
 use mathlib.Core.List.{List}
@@ -24,9 +25,7 @@ use Rattle.orientation.specs.Orientation.{orientation_mark}
 use Rattle.drop_set.specs.Filters.{wrong_mark, judged_of}
 use Rattle.judged.specs.Judged.{Judged}
 use Rattle.judging.specs.Judging.{judged_for}
-use Rattle.kept.specs.Answer.{answer_by, answer_of}
-use Rattle.kept.specs.declared.Answer.{Answer}
-use Rattle.kept.specs.declared.Answer.TheVariants.{Accepted}
+use Rattle.kept.specs.Answer.{Answer, answer_by, answer_of}
 use Rattle.promises.specs.Words.{marks_in, kept_rank, marks_byte}
 use Rattle.promises.proofs.Bits.{validate-bit, orientation-bit, wrong-bit, marks-same, counts_same}
 use Rattle.promises.proofs.RowMarks.{row-marks}
@@ -38,7 +37,7 @@ strengths-moved a b ps qs size all =
     rw size (column-ext max_points nan (length ps) (λ (k : ℕ). f32 (get_or qs k nowhere).strength) (λ (k : ℕ). f32 (get_or ps k nowhere).strength) (λ k h. ap f32 (all k h).strength))
 
 same_answer : {n m a b c d : ℕ} → n ≡ m → a ≡ b → c ≡ d
-    → ◌≡◌ {A = Answer} (Accepted (record { points = n; components = a; rounds = c })) (Accepted (record { points = m; components = b; rounds = d }))
+    → ◌≡◌ {A = Answer} (Ok (record { points = n; components = a; rounds = c })) (Ok (record { points = m; components = b; rounds = d }))
 same_answer p q r = rw (p, q, r)
 
 -- the bits of points in cell order

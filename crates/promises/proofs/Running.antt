@@ -1,4 +1,5 @@
 -- The promises of specs/Runs.antt: what is proved of records and tallies, carried over to files and buffers. Assumes nothing.
+use Rattle.std.specs.Prelude.{Ok, Err}
 use mathlib.Core.Path.{◌≡◌, refl, sym, ap, ◌∙◌}
 use mathlib.Core.Bool.{Bool, true, false, cond, ◌||◌, true≢false}
 use mathlib.Core.Logic.{inl, inr}
@@ -17,9 +18,7 @@ use Rattle.runs.specs.Promises.{NoneFull, SmallYield}
 use Rattle.runs.specs.declared.Run.{Run}
 use Rattle.runs.proofs.Adding.{taken_is, over_none, over-cons, full-none, full-cons}
 use Rattle.runs.proofs.Theorems.{run-totals, order-free, nothing-wraps, from_start}
-use Rattle.kept.specs.Answer.{answer_by, tally_by, answer_of, tally_of}
-use Rattle.kept.specs.declared.Answer.{Answer}
-use Rattle.kept.specs.declared.Answer.TheVariants.{Refused, Accepted}
+use Rattle.kept.specs.Answer.{Answer, answer_by, tally_by, answer_of, tally_of}
 use Rattle.kept.specs.declared.Counts.{Counts}
 use Rattle.kept.proofs.Bounds.{tally-bounded}
 use Rattle.kept_in_run.specs.InRun.{answer_in_run, run_after}
@@ -76,7 +75,7 @@ taken-tally : (r : Run) (c : Call) → if_accepted (answer_in_run r c.file (leng
 unfolding Option-to_list
 taken-tally r c = rw (answer-is r c.file (length c.buffer), taken_is r (yield_of c)) (go (full r))
   where
-    go : (b : Bool) → if_accepted (cond b (Refused 11) (answer_of c.file (length c.buffer))) (yield_of c) ≡ Option-to_list (cond b none (yield_of c))
+    go : (b : Bool) → if_accepted (cond b (Err 11) (answer_of c.file (length c.buffer))) (yield_of c) ≡ Option-to_list (cond b none (yield_of c))
     go true = refl
     go false = by_answer c.file (length c.buffer)
 
@@ -88,11 +87,11 @@ tallies-are r (c ∷ l) =
     ∙ ap (λ (t : List (List ℕ)). Option-to_list (taken r (yield_of c)) ++ t) (tallies-are (run_after r c.file (length c.buffer)) l ∙ ap (λ (x : Run). tallies_in x (yields l)) (after_is r c.file (length c.buffer)))
 
 -- a tally for each that is accepted
-accepted-length : (a : Answer) (t : Yield) (answers : List Answer) (tallies : List (List ℕ)) → ((c : Counts) → a ≡ Accepted c → (x : List ℕ) × (t ≡ some x)) → length tallies ≡ accepted_count answers
+accepted-length : (a : Answer) (t : Yield) (answers : List Answer) (tallies : List (List ℕ)) → ((c : Counts) → a ≡ Ok c → (x : List ℕ) × (t ≡ some x)) → length tallies ≡ accepted_count answers
     → length (if_accepted a t ++ tallies) ≡ accepted_count (a ∷ answers)
 unfolding accepted_count Option-to_list
-accepted-length (Refused k) t answers tallies h e = e
-accepted-length (Accepted c) t answers tallies h e = rw (h c refl).1 (omega (arith, e))
+accepted-length (Err k) t answers tallies h e = e
+accepted-length (Ok c) t answers tallies h e = rw (h c refl).1 (omega (arith, e))
 
 each-tally : (r : Run) (calls : List Call) → length (accepted_tallies r calls) ≡ accepted_count (answers_in r calls)
 unfolding accepted_tallies answers_in accepted_count
@@ -143,7 +142,7 @@ one-ruling c d o =
 
 answer-same : (r : Run) (c d : Call) → ruling_in d ≡ ruling_in c → answer_in_run r d.file (length d.buffer) ≡ answer_in_run r c.file (length c.buffer)
 unfolding answer_of
-answer-same r c d e = answer-is r d.file (length d.buffer) ∙ ap (λ (x : Ruling). cond (full r) (Refused 11) (answer_by x)) e ∙ sym (answer-is r c.file (length c.buffer))
+answer-same r c d e = answer-is r d.file (length d.buffer) ∙ ap (λ (x : Ruling). cond (full r) (Err 11) (answer_by x)) e ∙ sym (answer-is r c.file (length c.buffer))
 
 after_same : (r : Run) (c d : Call) → ruling_in d ≡ ruling_in c → run_after r d.file (length d.buffer) ≡ run_after r c.file (length c.buffer)
 unfolding tally_of
@@ -174,7 +173,7 @@ smalls (c ∷ l) = (go (yield_of c) refl, smalls l)
   where
     go : (y : Yield) → yield_of c ≡ y → SmallYield y
     go none e = tt
-    go (some t) e = λ f. rw e at (tally-bounded c.file (length c.buffer) f)
+    go (some t) e = tally-bounded c.file (length c.buffer) e
 
 yields-length : (calls : List Call) → length (yields calls) ≡ length calls
 yields-length [] = refl

@@ -1,4 +1,5 @@
 -- The promises hold. Assumes nothing.
+use Rattle.std.specs.Prelude.{Ok}
 use mathlib.Core.Path.{◌≡◌, sym, ap, ◌∙◌}
 use mathlib.Core.Logic.{inl, inr}
 use mathlib.Core.List.{List}
@@ -36,7 +37,6 @@ use Rattle.marks.specs.Filters.{validate, orientation, wrong, leaf}
 use Rattle.marks.specs.Byte.{has_mark}
 use Rattle.judging.specs.Judging.{judged_for}
 use Rattle.kept.specs.Answer.{answer_by, rows_by, tally_by, answer_of, rows_after, tally_of}
-use Rattle.kept.specs.declared.Answer.TheVariants.{Accepted}
 use Rattle.sheet_listing.specs.Text.{text_by, text_of}
 use Rattle.map_lines.specs.Map.{point_character, line_characters, map_of}
 use Rattle.map_lines.proofs.Characters.{first-character, no-full-stop}
@@ -80,7 +80,7 @@ kept-patch file room s ps b e one on =
       has-smallest = λ W p. smallest (length ps) p (λ k h. reached-below s ps (p.inner k h));
     }
 
-pub answer-is : (file : List ℕ) (room : ℕ) (s : Settings) (ps : List Point) → ruling_of file room ≡ accepted s ps → answer_of file room ≡ Accepted (record { points = length ps; components = (judged_for s ps).components; rounds = rounds_of s ps })
+pub answer-is : (file : List ℕ) (room : ℕ) (s : Settings) (ps : List Point) → ruling_of file room ≡ accepted s ps → answer_of file room ≡ Ok (record { points = length ps; components = (judged_for s ps).components; rounds = rounds_of s ps })
 unfolding answer_of
 answer-is file room s ps e = ap answer_by e
 
@@ -90,12 +90,12 @@ component-count file room s ps b e on =
     record {
       first = roots s ps o;
       patch = patch_of s ps o;
-      answer = answer-is file room s ps e ∙ ap (λ (c : ℕ). Accepted (record { points = length ps; components = c; rounds = rounds_of s ps })) (count-on s ps o on);
+      answer = answer-is file room s ps e ∙ ap (λ (c : ℕ). Ok (record { points = length ps; components = c; rounds = rounds_of s ps })) (count-on s ps o on);
       each = all-counted s ps o;
     }
 
 pub no-count : NoCountPromise
-no-count file room s ps e off = answer-is file room s ps e ∙ ap (λ (c : ℕ). Accepted (record { points = length ps; components = c; rounds = rounds_of s ps })) (count-off s ps off)
+no-count file room s ps e off = answer-is file room s ps e ∙ ap (λ (c : ℕ). Ok (record { points = length ps; components = c; rounds = rounds_of s ps })) (count-off s ps off)
 
 -- ---- the tally
 

@@ -1,5 +1,4 @@
 -- What document 02, A.7, promises of positions for dropped points, of points ps in cell order with settings s. Assumes nothing.
-use Rattle.std.specs.Prelude.{◌≡◌, Bool, true, false, not, ◌&&◌, List, ◌++◌, ℕ, ◌+◌, ◌*◌, ◌≤◌, ◌<◌, T, eqb, ltb, ℤ, Float, length, get_or, drop, Some}
 use Rattle.std.specs.Float.Ieee.Scale.{finite}
 use Rattle.folds.specs.Arith.{f32}
 use Rattle.folds.specs.Below.{first, tally}
@@ -16,7 +15,7 @@ use Rattle.marks.specs.Byte.{has_mark}
 use Rattle.predict.specs.Predict.{opposite, side_at, prediction}
 use Rattle.predict.specs.declared.PredictedPosition.{PredictedPosition}
 use Rattle.predict.specs.Predict.{Prediction}
-use Rattle.std.specs.Prelude.{None, Some}
+use Rattle.std.specs.Prelude.{◌≡◌, Bool, true, false, not, ◌&&◌, List, ◌++◌, ℕ, ◌+◌, ◌*◌, ◌≤◌, ◌<◌, T, eqb, ltb, ℤ, Float, length, get_or, drop, Some, None, Ok, Err}
 use Rattle.ruling.specs.Ruling.{refused, accepted, ruling_of, applies}
 use Rattle.ruling.specs.Order.{Relisted}
 use Rattle.ruling.specs.Offset.{FileDisplaced, MovedAlong, moved_file, StaysInRange}
@@ -24,7 +23,6 @@ use Rattle.drop_set.specs.Filters.{sides_of}
 use Rattle.judging.specs.Judging.{judged_for, fills_for}
 use Rattle.sheet_fills.specs.Bytes.{fill_size, fills_bytes}
 use Rattle.sheet_fills.specs.Answer.{as_rows, fill_ruling, fill_answer_of, fills_after}
-use Rattle.sheet_fills.specs.declared.FillAnswer.TheVariants.{Refused, Filled}
 use Rattle.promises.specs.Words.{marks_in, kept_rank}
 
 module _ (s : Settings) (ps : List Point) where
@@ -126,7 +124,7 @@ KeptMovedPromise = (file other : List ℕ) (room size : ℕ) (s t : Settings) (p
 pub record FilledBy (s : Settings) (ps : List Point) (file buffer : List ℕ) : Type 0 where
   pub count : ℕ
   pub dropped : count ≡ tally (dropped_rank s ps) (length ps)
-  pub answer : fill_answer_of file (length buffer) ≡ Filled (record { points = length ps; fills = count })
+  pub answer : fill_answer_of file (length buffer) ≡ Ok (record { points = length ps; fills = count })
   pub size : length (fills_bytes (cells_of ps) (judged_for s ps).marks (fills_for s ps) (length ps)) ≡ fill_size * count
   pub fits : fill_size * count ≤ length buffer
   pub buffer-is : fills_after file buffer ≡ fills_bytes (cells_of ps) (judged_for s ps).marks (fills_for s ps) (length ps) ++ drop (fill_size * count) buffer
@@ -143,10 +141,10 @@ FillsOrderPromise = (file other : List ℕ) (f : Layout) → Bytes file → fram
 -- the call that writes the fills of an accepted sheet into a lent buffer, of every file and buffer
 pub record FillCall (file buffer : List ℕ) : Type 0 where
   -- the numbers are those of a sheet, and 3 is in its place among them: where the buffer is shorter than 20 bytes for each point
-  pub number : (k : ℕ) → fill_ruling file (length buffer) ≡ refused k → fill_answer_of file (length buffer) ≡ Refused k
+  pub number : (k : ℕ) → fill_ruling file (length buffer) ≡ refused k → fill_answer_of file (length buffer) ≡ Err k
   pub three : (layout_of file).count ≤ max_points → applies file (as_rows (length buffer)) 3 ≡ ltb (length buffer) (fill_size * (layout_of file).count)
   -- a refusal writes nothing
-  pub untouched : (k : ℕ) → fill_answer_of file (length buffer) ≡ Refused k → fills_after file buffer ≡ buffer
+  pub untouched : (k : ℕ) → fill_answer_of file (length buffer) ≡ Err k → fills_after file buffer ≡ buffer
   -- an accepted sheet's fills are its dropped points', in cell order, and nothing beyond them is touched
   pub filled : (s : Settings) (ps : List Point) → fill_ruling file (length buffer) ≡ accepted s ps → FilledBy s ps file buffer
 

@@ -1,25 +1,24 @@
 -- "2,304 points pass and 2,305 give refusal 2. .. on longer lists the program still tells 1 from 2": what the call answers and what both
 -- programs print, of every file and result buffer. What is ruled stands in ruling/specs/Limit.antt. Assumes nothing.
-use Rattle.std.specs.Prelude.{◌≡◌, List, ℕ, ◌≤◌, ◌<◌}
+use Rattle.std.specs.Prelude.{◌≡◌, List, ℕ, ◌≤◌, ◌<◌, Err}
 use Rattle.view.specs.View.{max_points}
 use Rattle.sheet_file.specs.Bytes.{Bytes}
 use Rattle.sheet_file.specs.Grammar.{WellFramed}
 use Rattle.ruling.specs.Limit.{point_count, WeightsFit}
 use Rattle.text.specs.Text.{refusal_of}
 use Rattle.kept.specs.Answer.{answer_of}
-use Rattle.kept.specs.declared.Answer.TheVariants.{Refused}
 use Rattle.sheet_listing.specs.Text.{text_of}
 use Rattle.sheet_map.specs.Text.{map_text_of}
 
 -- the call, the listing and the map all refuse with number k
 pub record AllRefuse (file : List ℕ) (room k : ℕ) : Type 0 where
-  pub answer : answer_of file room ≡ Refused k
+  pub answer : answer_of file room ≡ Err k
   pub listing : text_of file ≡ refusal_of k
   pub map : map_text_of file ≡ refusal_of k
 
 -- none of the three does
 pub record NoneRefuses (file : List ℕ) (room k : ℕ) : Type 0 where
-  pub answer : answer_of file room ≡ Refused k → ⊥
+  pub answer : answer_of file room ≡ Err k → ⊥
   pub listing : text_of file ≡ refusal_of k → ⊥
   pub map : map_text_of file ≡ refusal_of k → ⊥
 

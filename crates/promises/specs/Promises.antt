@@ -1,6 +1,6 @@
 -- Demand 3: what documents 01 and 02 promise of an accepted, rearranged, moved or switched sheet. Each promise is a type; proofs/Theorems.antt proves
 -- them of the definitions that the call is proved equal to. Assumes nothing.
-use Rattle.std.specs.Prelude.{◌≡◌, Bool, true, false, ◌&&◌, ◌⊎◌, List, ℕ, ◌<◌, eqb, ltb, ℤ, length, get_or, Some}
+use Rattle.std.specs.Prelude.{◌≡◌, Bool, true, false, ◌&&◌, ◌⊎◌, List, ℕ, ◌<◌, eqb, ltb, ℤ, length, get_or, Some, Ok}
 use Rattle.folds.specs.Below.{tally}
 use Rattle.cells.specs.Points.{Point, nowhere}
 use Rattle.cells.specs.Cell.{cell_of, before}
@@ -16,7 +16,6 @@ use Rattle.ruling.specs.Offset.{FileDisplaced, MovedAlong, moved_file, StaysInRa
 use Rattle.marks.specs.Filters.{validate, orientation, wrong, leaf}
 use Rattle.marks.specs.Byte.{has_mark}
 use Rattle.kept.specs.Answer.{answer_of, rows_after, tally_of}
-use Rattle.kept.specs.declared.Answer.TheVariants.{Accepted}
 use Rattle.sheet_listing.specs.Text.{text_of}
 use Rattle.sheet_map.specs.Text.{map_text_of}
 use Rattle.sheet_fills.specs.Answer.{fill_answer_of, fills_after}
@@ -53,7 +52,7 @@ KeptPatchPromise = (file : List ℕ) (room : ℕ) (s : Settings) (ps : List Poin
 pub record PatchCount (file : List ℕ) (room : ℕ) (s : Settings) (ps : List Point) : Type 0 where
   pub first : ℕ → Bool
   pub patch : ℕ → ℕ → Bool
-  pub answer : answer_of file room ≡ Accepted (record { points = length ps; components = tally first (length ps); rounds = rounds_of s ps })
+  pub answer : answer_of file room ≡ Ok (record { points = length ps; components = tally first (length ps); rounds = rounds_of s ps })
   pub each : PatchesCounted (survivor s ps) (joined s ps) (length ps) first patch
 
 abbrev pub ComponentCountPromise : Type 0
@@ -61,7 +60,7 @@ ComponentCountPromise = (file : List ℕ) (room : ℕ) (s : Settings) (ps : List
 
 -- "With the switch off the count is 0."
 abbrev pub NoCountPromise : Type 0
-NoCountPromise = (file : List ℕ) (room : ℕ) (s : Settings) (ps : List Point) → ruling_of file room ≡ accepted s ps → s.apply_largest_component ≡ false → answer_of file room ≡ Accepted (record { points = length ps; components = 0; rounds = rounds_of s ps })
+NoCountPromise = (file : List ℕ) (room : ℕ) (s : Settings) (ps : List Point) → ruling_of file room ≡ accepted s ps → s.apply_largest_component ≡ false → answer_of file room ≡ Ok (record { points = length ps; components = 0; rounds = rounds_of s ps })
 
 -- ---- (b) another order
 

@@ -1,6 +1,6 @@
 -- "totals of a run": what holds of one call in a run, and of any list of files and buffers from any record on. What holds of records and
 -- tallies alone stands in runs/specs/Promises.antt. Assumes nothing.
-use Rattle.std.specs.Prelude.{◌≡◌, true, false, ◌⊎◌, ℕ, ◌+◌, ◌≤◌, length, Some}
+use Rattle.std.specs.Prelude.{◌≡◌, true, false, ◌⊎◌, ℕ, ◌+◌, ◌≤◌, length, Some, Ok, Err}
 use mathlib.Core.List.{List, [], ◌∷◌, ◌++◌, Option-to_list, Permᴰ}
 use Rattle.std.proofs.Math.Option.{Option, some}
 use Rattle.folds.specs.Lists.{All}
@@ -12,9 +12,7 @@ use Rattle.ruling.specs.Order.{Relisted}
 use Rattle.runs.specs.Run.{most_sheets, full, run_from, with_sheet}
 use Rattle.runs.specs.Promises.{Totals, FitsU32, Bounded}
 use Rattle.runs.specs.declared.Run.{Run}
-use Rattle.kept.specs.Answer.{answer_of, rows_after, tally_of}
-use Rattle.kept.specs.declared.Answer.{Answer}
-use Rattle.kept.specs.declared.Answer.TheVariants.{Refused, Accepted}
+use Rattle.kept.specs.Answer.{Answer, answer_of, rows_after, tally_of}
 use Rattle.kept.specs.declared.Counts.{Counts}
 use Rattle.kept_in_run.specs.InRun.{answer_in_run, run_after, rows_in_run}
 use Rattle.kept_in_run.specs.Through.{Call, run_through, answers_in}
@@ -26,22 +24,22 @@ use Rattle.sheet_map.specs.Text.{map_ruling_of}
 -- of 2^31 or more": whatever the file and the buffer
 pub record CallInRun (r : Run) (file buffer : List ℕ) : Type 0 where
   -- 11 is given exactly where the record is full; else the sheet's own answer and rows
-  pub eleven : full r ≡ true → answer_in_run r file (length buffer) ≡ Refused 11
-  pub eleven-only : answer_in_run r file (length buffer) ≡ Refused 11 → full r ≡ true
+  pub eleven : full r ≡ true → answer_in_run r file (length buffer) ≡ Err 11
+  pub eleven-only : answer_in_run r file (length buffer) ≡ Err 11 → full r ≡ true
   pub else-answer : full r ≡ false → answer_in_run r file (length buffer) ≡ answer_of file (length buffer)
   pub else-rows : full r ≡ false → rows_in_run r file buffer ≡ rows_after file buffer
   -- a refusal writes nothing and leaves the record as it was
-  pub refused-record : (k : ℕ) → answer_in_run r file (length buffer) ≡ Refused k → run_after r file (length buffer) ≡ r
-  pub refused-rows : (k : ℕ) → answer_in_run r file (length buffer) ≡ Refused k → rows_in_run r file buffer ≡ buffer
+  pub refused-record : (k : ℕ) → answer_in_run r file (length buffer) ≡ Err k → run_after r file (length buffer) ≡ r
+  pub refused-rows : (k : ℕ) → answer_in_run r file (length buffer) ≡ Err k → rows_in_run r file buffer ≡ buffer
   -- an accepted sheet is added with its tally
-  pub added : (c : Counts) → answer_in_run r file (length buffer) ≡ Accepted c → (t : List ℕ) × (tally_of file (length buffer) ≡ some t) × (run_after r file (length buffer) ≡ with_sheet r t)
+  pub added : (c : Counts) → answer_in_run r file (length buffer) ≡ Ok c → (t : List ℕ) × (tally_of file (length buffer) ≡ some t) × (run_after r file (length buffer) ≡ with_sheet r t)
 
 abbrev pub CallInRunPromise : Type 0
 CallInRunPromise = (r : Run) (file buffer : List ℕ) → CallInRun r file buffer
 
 -- "The run's call alone": neither the call on a sheet nor the map gives 11
 pub record ElevenAlone (file : List ℕ) : Type 0 where
-  pub sheet : (room : ℕ) → answer_of file room ≡ Refused 11 → ⊥
+  pub sheet : (room : ℕ) → answer_of file room ≡ Err 11 → ⊥
   pub map : map_ruling_of file ≡ refused 11 → ⊥
 
 abbrev pub ElevenAlonePromise : Type 0
@@ -51,8 +49,8 @@ ElevenAlonePromise = (file : List ℕ) → ElevenAlone file
 
 -- the tally of a sheet, if this is its answer
 abbrev pub if_accepted : Answer → Option (List ℕ) → List (List ℕ)
-if_accepted (Refused k) tally = []
-if_accepted (Accepted c) tally = Option-to_list tally
+if_accepted (Err k) tally = []
+if_accepted (Ok c) tally = Option-to_list tally
 
 -- the tallies of the sheets that are accepted, in their order
 unfoldable pub accepted_tallies : Run → List Call → List (List ℕ)
@@ -64,8 +62,8 @@ accepted_tallies r (c ∷ l) =
 -- how many of the answers accept
 unfoldable pub accepted_count : List Answer → ℕ
 accepted_count [] = 0
-accepted_count (Refused k ∷ l) = accepted_count l
-accepted_count (Accepted c ∷ l) = accepted_count l + 1
+accepted_count (Err k ∷ l) = accepted_count l
+accepted_count (Ok c ∷ l) = accepted_count l + 1
 
 -- the new sums are up by those of the accepted sheets' tallies, the old ones stand, the count is up by the number of accepted sheets
 pub record RunTotals (r : Run) (calls : List Call) : Type 0 where
@@ -80,7 +78,7 @@ RunTotalsPromise = (r : Run) (calls : List Call) → RunTotals r calls
 
 -- none of the calls is answered with 11
 abbrev pub NoneEleven : Run → List Call → Type 0
-NoneEleven r calls = All (λ (a : Answer). a ≡ Refused 11 → ⊥) (answers_in r calls)
+NoneEleven r calls = All (λ (a : Answer). a ≡ Err 11 → ⊥) (answers_in r calls)
 
 -- the order of the sheets does not matter while none is refused with 11
 abbrev pub RunOrderPromise : Type 0

@@ -1,19 +1,12 @@
--- How many cases differ, and when two lists are the same. Assumes nothing.
+-- When two lists are the same. Assumes nothing.
 use mathlib.Core.Path.{◌≡◌, refl, sym}
 use mathlib.Core.List.{List}
 use mathlib.Core.Bool.{Bool, true, false}
-use Prim.Native.Nat.{ℕ, ◌≤◌}
-use native.Mathlib.Omega.{arith}
+use Prim.Native.Nat.{ℕ}
 use Rattle.std.specs.Prelude.{nat_eq}
 use Rattle.std.specs.Cmp.Lexicographic.{pointwise, same_text, other_text}
 use Rattle.folds.specs.Same.{same_list}
 use Rattle.folds.proofs.Same.{told}
-use Rattle.recorded.specs.Recorded.{differing}
-
--- one case more
-pub one-more : {r : ℕ} (agrees : Bool) → r ≡ differing agrees → r ≤ 1
-one-more true e = omega arith
-one-more false e = omega arith
 
 -- a test of two lists, entry by entry
 pub entries-same : (a b : List ℕ) → pointwise nat_eq a b ≡ same_list a b

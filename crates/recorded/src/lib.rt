@@ -4,12 +4,13 @@
 #![tactic(auto)]
 
 ghost use Rattle.std.specs.Prelude.{◌≡◌, length};
+ghost use Rattle.std.specs.Fn.{FnOnceReturnsAtMut};
 ghost use Rattle.folds.specs.Same.{same_list};
-ghost use Rattle.recorded.specs.Recorded.{Fits, filler, is_recorded, is_filled, same_run, is_text, differing};
+ghost use Rattle.recorded.specs.Recorded.{Fits, filler, Leaves, is_recorded, is_filled, same_run, is_text, differing};
 
-use kept::Answer;
+use kept::Counts;
 use runs::{NEW_SUMS, OLD_SUMS, Run};
-use sheet_fills::FillAnswer;
+use sheet_fills::FillCounts;
 use std::io::Read;
 use text::NoRoom;
 use view::MAX_POINTS;
@@ -111,17 +112,17 @@ pub fn read_entries<R: Read>(input: &mut R, buffer: &mut [u8], size: u8, count: 
     if MAX_POINTS < count {
         return false;
     }
-    read_part(input, buffer, size as usize * count)
+    read_part(input, buffer, usize::from(size) * count)
 }
 
 // ---- what came against what is recorded
 
-pub fn is_recorded(answer: Answer, recorded: RecordedAnswer) -> bool
+pub fn is_recorded(answer: Result<Counts, u8>, recorded: RecordedAnswer) -> bool
     ensures { result ≡ is_recorded answer recorded }
 {
     match answer {
-        Answer::Refused(number) => number as usize == recorded.number,
-        Answer::Accepted(counts) => {
+        Err(number) => usize::from(number) == recorded.number,
+        Ok(counts) => {
             if recorded.number != 0 {
                 return false;
             }
@@ -136,18 +137,37 @@ pub fn is_recorded(answer: Answer, recorded: RecordedAnswer) -> bool
     }
 }
 
-pub fn is_filled(answer: FillAnswer, recorded: RecordedFills) -> bool
+pub fn is_filled(answer: Result<FillCounts, u8>, recorded: RecordedFills) -> bool
     ensures { result ≡ is_filled answer recorded }
 {
     match answer {
-        FillAnswer::Refused(number) => number as usize == recorded.number,
-        FillAnswer::Filled(counts) => {
+        Err(number) => usize::from(number) == recorded.number,
+        Ok(counts) => {
             if recorded.number != 0 {
                 return false;
             }
             counts.fills == recorded.fills
         }
     }
+}
+
+// Whether the call, which is lent the first `room` bytes of the filled buffer, came as recorded, and left the expected bytes in the buffer and
+// beyond what it was lent.
+pub fn leaves<F: FnOnce(&mut [u8]) -> bool>(
+    buffer: &mut [u8],
+    room: usize,
+    expected: &[u8],
+    call: F,
+) -> bool
+    requires { F.IsAlwaysCallable call }
+    ensures { Leaves (FnOnceReturnsAtMut F.FnOnce call) (length buffer.old) room expected.now result }
+{
+    fill(buffer);
+    if buffer.len() < room {
+        return false;
+    }
+    let came = call(&mut buffer[..room]);
+    came & check::same(buffer, expected)
 }
 
 // Whether two records of a run are the same.
@@ -186,4 +206,16 @@ pub fn print_case<R: Print>(rt: &R, case: usize, agrees: bool) -> usize
 // The closing line.
 pub fn print_counts<R: Print>(rt: &R, count: usize, differ: usize) {
     let _ = println!(rt; "{count} files, {differ} differ");
+}
+
+// Reads how many cases there are, replays each by `agrees`, and prints the lines.
+pub fn replay_all<P: Print, R: Read, F: Fn(&mut R) -> bool>(rt: &P, input: &mut R, agrees: F)
+    requires { F.IsAlwaysCallable agrees }
+{
+    let count = read_number(input);
+    let mut differ = 0;
+    for i in 0..count {
+        differ += print_case(rt, i + 1, agrees(input));
+    }
+    print_counts(rt, count, differ);
 }

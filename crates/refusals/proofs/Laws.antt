@@ -1,4 +1,4 @@
--- Laws of any ordered list of refusals: what is ruled is the first that holds, and only that. Assumes nothing.
+-- Laws of any ordered list of conditions: what is ruled is the first that holds, and only that. Assumes nothing.
 use mathlib.Core.Path.{◌≡◌, refl, sym, ap, ◌∙◌}
 use mathlib.Core.Bool.{Bool, true, false, cond, not, ◌||◌, true≢false}
 use mathlib.Core.List.{List, [], ◌∷◌, ◌++◌}
@@ -7,27 +7,27 @@ use lib.Dec.{eqb}
 use borrow.Author.Tests.{eqb-true, eq-eqb}
 use Rattle.folds.specs.Among.{any_in, pair_in}
 use Rattle.folds.proofs.Below.{or-none, or-true, not-false, not-true}
-use Rattle.refusals.specs.First.{Refusal, ruled, applies_in, number_in}
+use Rattle.refusals.specs.First.{Condition, ruled, applies_in, number_in}
 
-abbrev pub holds : Refusal → Bool
+abbrev pub holds : Condition → Bool
 holds c = c.1
 
 -- the numbers of a list, in its order
-abbrev pub numbers_of : List Refusal → List ℕ
+abbrev pub numbers_of : List Condition → List ℕ
 numbers_of [] = []
 numbers_of (c ∷ l) = c.0 ∷ numbers_of l
 
 -- those before number k
-abbrev pub earlier_than : List Refusal → ℕ → List Refusal
+abbrev pub earlier_than : List Condition → ℕ → List Condition
 earlier_than [] k = []
 earlier_than (c ∷ l) k = cond (eqb c.0 k) [] (c ∷ earlier_than l k)
 
 -- no two have one number
-abbrev pub DistinctNumbers : List Refusal → Type 0
+abbrev pub DistinctNumbers : List Condition → Type 0
 DistinctNumbers l = pair_in eqb (numbers_of l) ≡ false
 
 -- number k is in the list, its condition holds, and no earlier one does
-pub record FirstHolding (l : List Refusal) (k : ℕ) : Type 0 where
+pub record FirstHolding (l : List Condition) (k : ℕ) : Type 0 where
   pub listed : any_in (eqb k) (numbers_of l) ≡ true
   pub holding : applies_in l k ≡ true
   pub earlier : any_in holds (earlier_than l k) ≡ false
@@ -39,7 +39,7 @@ pub neither-holds : {a b : Bool} → a ≡ false → b ≡ false → a || b ≡ 
 neither-holds e f = rw (e, f)
 
 -- "it gives no number whose condition fails"
-pub none-applies-in : (l : List Refusal) → any_in holds l ≡ false → (k : ℕ) → applies_in l k ≡ false
+pub none-applies-in : (l : List Condition) → any_in holds l ≡ false → (k : ℕ) → applies_in l k ≡ false
 none-applies-in [] e k = refl
 none-applies-in (c ∷ l) e k = let w = or-none c.1 (any_in holds l) e in go (eqb c.0 k) w.0 (none-applies-in l w.1 k)
   where
@@ -48,14 +48,14 @@ none-applies-in (c ∷ l) e k = let w = or-none c.1 (any_in holds l) e in go (eq
     go false a r = r
 
 -- and by their numbers, which differ
-pub none-holds : (l : List Refusal) → DistinctNumbers l → ((k : ℕ) → applies_in l k ≡ false) → any_in holds l ≡ false
+pub none-holds : (l : List Condition) → DistinctNumbers l → ((k : ℕ) → applies_in l k ≡ false) → any_in holds l ≡ false
 none-holds [] d f = refl
 none-holds (c ∷ l) d f =
     let w = or-none (any_in (eqb c.0) (numbers_of l)) (pair_in eqb (numbers_of l)) d in
     let own : c.1 ≡ false = rw (eq-eqb c.0 c.0 refl) at (f c.0) in
     rw own (none-holds l w.1 (λ k. go k (eqb c.0 k) refl (f k) w.0))
   where
-    absent : (m : List Refusal) (k : ℕ) → any_in (eqb k) (numbers_of m) ≡ false → applies_in m k ≡ false
+    absent : (m : List Condition) (k : ℕ) → any_in (eqb k) (numbers_of m) ≡ false → applies_in m k ≡ false
     absent [] k e = refl
     absent (a ∷ m) k e = let v = or-none (eqb k a.0) (any_in (eqb k) (numbers_of m)) e in rw (not-true (eqb a.0 k) (λ t. true≢false (sym (eq-eqb k a.0 (sym (eqb-true a.0 k t))) ∙ v.0))) (absent m k v.1)
 
@@ -77,7 +77,7 @@ each-listed p (n ∷ ns) k e h = let w = or-none (not (p n)) (any_in (λ (n : �
 
 module _ {R : Type 0} (refuse : ℕ → R) where
   -- given where its condition holds and no earlier one does
-  pub first-given : (z : R) (l : List Refusal) (k : ℕ) → applies_in l k ≡ true → any_in holds (earlier_than l k) ≡ false → ruled refuse z l ≡ refuse k
+  pub first-given : (z : R) (l : List Condition) (k : ℕ) → applies_in l k ≡ true → any_in holds (earlier_than l k) ≡ false → ruled refuse z l ≡ refuse k
   first-given z [] k e f = absurd (true≢false (sym e))
   first-given z (c ∷ l) k e f = go (eqb c.0 k) refl e f (first-given z l k)
     where
@@ -87,12 +87,12 @@ module _ {R : Type 0} (refuse : ℕ → R) where
       go false t e f r = let w = or-none c.1 (any_in holds (earlier_than l k)) f in rw w.0 (r e w.1)
 
   -- z where none holds
-  pub none_passes : (z : R) (l : List Refusal) → any_in holds l ≡ false → ruled refuse z l ≡ z
+  pub none_passes : (z : R) (l : List Condition) → any_in holds l ≡ false → ruled refuse z l ≡ z
   none_passes z [] e = refl
   none_passes z (c ∷ l) e = let w = or-none c.1 (any_in holds l) e in rw w.0 (none_passes z l w.1)
 
   -- only then
-  pub only_none : (z y : R) → ((k : ℕ) → refuse k ≡ y → ⊥) → (l : List Refusal) → ruled refuse z l ≡ y → (any_in holds l ≡ false) × (z ≡ y)
+  pub only_none : (z y : R) → ((k : ℕ) → refuse k ≡ y → ⊥) → (l : List Condition) → ruled refuse z l ≡ y → (any_in holds l ≡ false) × (z ≡ y)
   only_none z y f [] e = (refl, e)
   only_none z y f (c ∷ l) e = go c.1 e (only_none z y f l)
     where
@@ -101,7 +101,7 @@ module _ {R : Type 0} (refuse : ℕ → R) where
       go false e r = r e
 
   -- and a number only where its condition holds and no earlier one does
-  pub only-first : (z : R) → ((a b : ℕ) → refuse a ≡ refuse b → a ≡ b) → ((k : ℕ) → refuse k ≡ z → ⊥) → (l : List Refusal) → DistinctNumbers l → (k : ℕ) → ruled refuse z l ≡ refuse k → FirstHolding l k
+  pub only-first : (z : R) → ((a b : ℕ) → refuse a ≡ refuse b → a ≡ b) → ((k : ℕ) → refuse k ≡ z → ⊥) → (l : List Condition) → DistinctNumbers l → (k : ℕ) → ruled refuse z l ≡ refuse k → FirstHolding l k
   only-first z one other [] d k e = absurd (other k (sym e))
   only-first z one other (c ∷ l) d k e = go c.1 refl e (only-first z one other l w.1 k)
     where
@@ -118,12 +118,12 @@ module _ {R : Type 0} (refuse : ℕ → R) where
           record { listed = rw r.listed (or-true (eqb k c.0)); holding = rw n r.holding; earlier = rw (n, h) r.earlier }
 
   -- a list in two parts
-  pub ruled-in-two : (z : R) (a b : List Refusal) → ruled refuse z (a ++ b) ≡ ruled refuse (ruled refuse z b) a
+  pub ruled-in-two : (z : R) (a b : List Condition) → ruled refuse z (a ++ b) ≡ ruled refuse (ruled refuse z b) a
   ruled-in-two z [] b = refl
   ruled-in-two z (c ∷ a) b = ap (cond c.1 (refuse c.0)) (ruled-in-two z a b)
 
   -- what is ruled where none holds matters only there
-  pub ruled-same-end : (z y : R) (l : List Refusal) → (any_in holds l ≡ false → z ≡ y) → ruled refuse z l ≡ ruled refuse y l
+  pub ruled-same-end : (z y : R) (l : List Condition) → (any_in holds l ≡ false → z ≡ y) → ruled refuse z l ≡ ruled refuse y l
   ruled-same-end z y [] f = f refl
   ruled-same-end z y (c ∷ l) f = go c.1 f (ruled-same-end z y l)
     where
@@ -132,7 +132,7 @@ module _ {R : Type 0} (refuse : ℕ → R) where
       go false f r = r f
 
 -- what is made of a ruling
-pub ruled-through : {R S : Type 0} (g : R → S) (refuse : ℕ → R) (z : R) (l : List Refusal) → g (ruled refuse z l) ≡ ruled (λ (k : ℕ). g (refuse k)) (g z) l
+pub ruled-through : {R S : Type 0} (g : R → S) (refuse : ℕ → R) (z : R) (l : List Condition) → g (ruled refuse z l) ≡ ruled (λ (k : ℕ). g (refuse k)) (g z) l
 ruled-through g refuse z [] = refl
 ruled-through g refuse z (c ∷ l) = go c.1 (ruled-through g refuse z l)
   where
@@ -141,7 +141,7 @@ ruled-through g refuse z (c ∷ l) = go c.1 (ruled-through g refuse z l)
     go false r = r
 
 -- by the number that the code hands on
-pub ruled-by-number : {R : Type 0} (refuse : ℕ → R) (z : R) (l : List Refusal) → any_in (λ (n : ℕ). eqb n 0) (numbers_of l) ≡ false
+pub ruled-by-number : {R : Type 0} (refuse : ℕ → R) (z : R) (l : List Condition) → any_in (λ (n : ℕ). eqb n 0) (numbers_of l) ≡ false
     → cond (eqb (number_in l) 0) z (refuse (number_in l)) ≡ ruled refuse z l
 ruled-by-number refuse z [] e = refl
 ruled-by-number refuse z (c ∷ l) e = let w = or-none (eqb c.0 0) (any_in (λ (n : ℕ). eqb n 0) (numbers_of l)) e in go c.1 w.0 (ruled-by-number refuse z l w.1)

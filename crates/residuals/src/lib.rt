@@ -1,18 +1,17 @@
 // The residuals of indices: "a residual comes from the last cell, in the order of the rows, having one", and a flag from any cell stays.
 #![tactic(auto)]
 
-ghost use Rattle.std.specs.Prelude.{◌≡◌, ℕ, ◌≤◌, get_or};
+ghost use Rattle.std.specs.Prelude.{◌≡◌, ℕ, get_or, None};
 ghost use Rattle.std.specs.Float.{nan};
 ghost use Rattle.folds.specs.Column.{column};
 ghost use Rattle.view.specs.View.{max_points};
 ghost use Rattle.view.specs.Seen.{view_in};
 ghost use Rattle.cells.specs.Cell.{cells_at};
 ghost use Rattle.local_h.specs.Residual.{residual_at};
-ghost use Rattle.local_h.specs.declared.Residual.TheVariants.{NoFit};
 ghost use Rattle.residuals.specs.ByIndex.{exceeds, is_high, residuals_of, rank_flags, index_flags};
 
 use local_h::{Residual, ResidualColumn, Seen};
-use view::{Floats, MAX_POINTS, Marks, View, Words};
+use view::{Floats, Lattice, MAX_POINTS, Marks, View, Words};
 
 mod by_index;
 
@@ -26,7 +25,7 @@ pub struct Flags {
 fn exceeds_limit(limit: f32, r: Residual) -> bool
     ensures { result ≡ exceeds limit r }
 {
-    matches!(r, Residual::Value(d) if limit < d.value)
+    matches!(r, Some(d) if limit < d.value)
 }
 
 fn is_high(limit: f32, r: Residual) -> bool
@@ -37,28 +36,27 @@ fn is_high(limit: f32, r: Residual) -> bool
 
 // The residual of each rank, which takes the place of what stood in the column.
 fn cell_residuals(view: &View, keys: &Words, values: &mut ResidualColumn)
-    ensures { values.new ≡ column max_points NoFit view.now.lattice.count (residual_at (view_in view.now) (cells_at keys.now)) }
+    ensures { values.new ≡ column max_points None view.now.lattice.count (residual_at (view_in view.now) (cells_at keys.now)) }
 {
     let seen = Seen {
         keys,
         x: view.x,
         y: view.y,
     };
-    *values = [Residual::NoFit; MAX_POINTS];
+    *values = [None; MAX_POINTS];
     for k in 0..view.lattice.count {
         values[k] = local_h::local_h_residual(&view.lattice, &seen, k);
     }
 }
 
-// The flags of each of n ranks: the tolerance times the scale of the rank's index is the limit.
-fn flags_of(values: &ResidualColumn, scale: &Floats, tolerance: f32, n: usize) -> Flags
-    requires { n ≤ max_points }
-    ensures { result ≡ rank_flags (λ (k : ℕ). get_or values.now k NoFit) (λ (k : ℕ). get_or scale.now k nan) tolerance n }
+// The flags of each rank: the tolerance times the scale of the rank's index is the limit.
+fn flags_of(lattice: &Lattice, values: &ResidualColumn, scale: &Floats, tolerance: f32) -> Flags
+    ensures { result ≡ rank_flags (λ (k : ℕ). get_or values.now k None) (λ (k : ℕ). get_or scale.now k nan) tolerance lattice.now.count }
 {
-    let over = view::filled(0, n, |k| {
+    let over = view::filled(0, lattice.count, |k| {
         u8::from(exceeds_limit(tolerance * scale[k], values[k]))
     });
-    let high = view::filled(0, n, |k| {
+    let high = view::filled(0, lattice.count, |k| {
         u8::from(is_high(tolerance * scale[k], values[k]))
     });
     Flags { over, high }
@@ -78,10 +76,10 @@ pub fn index_residuals(
     ensures flags { result ≡ index_flags (residual_at (view_in view.now) (cells_at keys.now)) (λ (j : ℕ). get_or scale.now j nan) tolerance (view_in view.now) }
 {
     cell_residuals(view, keys, values);
-    let Flags { over, high } = flags_of(values, scale, tolerance, view.lattice.count);
+    let Flags { over, high } = flags_of(&view.lattice, values, scale, tolerance);
     by_index::gather(view, values);
     Flags {
-        over: marks::by_index(view, &over),
-        high: marks::by_index(view, &high),
+        over: marks::by_index(&view.sheet(), &over),
+        high: marks::by_index(&view.sheet(), &high),
     }
 }

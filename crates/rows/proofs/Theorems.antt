@@ -1,7 +1,7 @@
 -- What a reader may expect of rows. Assumes nothing.
 use mathlib.Core.Path.{◌≡◌, refl, sym, ap, ◌∙◌}
 use mathlib.Core.List.{List, [], ◌∷◌, ◌++◌}
-use Rattle.std.specs.Prelude.{Some, None}
+use Rattle.std.specs.Prelude.{Some, None, Option}
 use Prim.Native.Nat.{ℕ, zero, suc, ◌+◌, ◌-◌, ◌*◌, ◌/◌, ◌%◌, ◌≤◌, ◌<◌}
 use native.Mathlib.Omega.{arith}
 use native.Mathlib.Nat.{add-zero}
@@ -9,8 +9,7 @@ use lib.ListN.{length, get_or, drop, replicate, length-append, get_or-append}
 use lib.Seq.{get_or-append-add, get_or-drop}
 use lib.Ieee.{nan, binary32, of_bits, to_bits}
 use lib.IntN.{pos}
-use Rattle.local_h.specs.declared.Residual.{Residual}
-use Rattle.local_h.specs.declared.Residual.TheVariants.{Value}
+use Rattle.float.specs.declared.Distance.{Distance}
 use Rattle.edge_shape.specs.declared.Reason.TheVariants.{BadContinuation}
 use Rattle.edge_shape.specs.Figures.{no_figures}
 use Rattle.folds.specs.Lists.{list_of}
@@ -30,7 +29,7 @@ nan-bits = refl
 pub worked-row : row_of
     (record {
       marks = 5;
-      residual = Value (record { value = of_bits binary32 0x3f80_0000; remainder = Some (pos 0) });
+      residual = Some (record { value = of_bits binary32 0x3f80_0000; remainder = Some (pos 0) });
       figures = record { degree = 4; adjacent = 3; valid = 0; continuation = Some (record { cosine = of_bits binary32 0x3f00_0000; ratio = of_bits binary32 0x4000_0000 }); cells = None; reason = Some BadContinuation };
       boundary = 1;
     })
@@ -40,7 +39,7 @@ unfolding row_of of_bits
 worked-row = refl
 
 -- "Without tag 2, bytes 1, 3 to 7 and all edge floats are zero": of a point without figures
-pub blank-row : (marks : ℕ) (residual : Residual) → row_of (record { marks = marks; residual = residual; figures = no_figures; boundary = 0 })
+pub blank-row : (marks : ℕ) (residual : Option Distance) → row_of (record { marks = marks; residual = residual; figures = no_figures; boundary = 0 })
     ≡ marks ∷ 0 ∷ bit (is_present (residual_float residual)) ∷ replicate 5 0 ++ little_endian (bits_of (residual_float residual)) ++ replicate 16 0
 unfolding row_of
 blank-row marks residual = rw (add-zero (bit (is_present (residual_float residual))))

@@ -6,8 +6,7 @@ use Rattle.folds.specs.Column.{overlaid}
 use Rattle.folds.specs.Marked.{bit}
 use Rattle.edge_shape.specs.Figures.{reason_number}
 use Rattle.edge_shape.specs.declared.Measure.{Measure}
-use Rattle.local_h.specs.declared.Residual.{Residual}
-use Rattle.local_h.specs.declared.Residual.TheVariants.{Value, NoFit}
+use Rattle.float.specs.declared.Distance.{Distance}
 use Rattle.judged.specs.Shown.{Shown}
 use Rattle.sheet_file.specs.Bytes.{little_endian}
 
@@ -22,9 +21,9 @@ abbrev pub is_present : Option Float → Bool
 is_present x = is_some x
 
 -- the number of a residual
-abbrev pub residual_float : Residual → Option Float
-residual_float NoFit = None
-residual_float (Value d) = Some d.value
+abbrev pub residual_float : Option Distance → Option Float
+residual_float None = None
+residual_float (Some d) = Some d.value
 
 -- the least cosine and the largest ratio of a measure
 abbrev pub cosine_of : Option Measure → Option Float

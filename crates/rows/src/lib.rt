@@ -1,14 +1,13 @@
 // Rows: what is shown of each point, 28 bytes in cell order.
 #![tactic(auto)]
 
-ghost use Rattle.std.specs.Prelude.{◌≡◌, ◌+◌, ◌*◌, ◌≤◌, length};
-ghost use Rattle.std.proofs.lemmas.List.Edits.{sets};
+ghost use Rattle.std.specs.Prelude.{◌≡◌, ◌+◌, ◌*◌, ◌≤◌, length, is_some};
 ghost use Rattle.view.specs.View.{max_points};
 ghost use Rattle.folds.specs.Marked.{bit};
 ghost use Rattle.judged.specs.Judged.{judged_from};
 ghost use Rattle.judged.specs.Shown.{shown_at};
 ghost use Rattle.sheet_file.specs.Bytes.{little_endian};
-ghost use Rattle.rows.specs.Rows.{bits_of, is_present, residual_float, cosine_of, ratio_of, floats_of, presence, row_of, row_size, rows_over};
+ghost use Rattle.rows.specs.Rows.{bits_of, residual_float, floats_of, presence, row_of, row_size, rows_over};
 
 use edge_shape::{Figures, Measure};
 use judged::Findings;
@@ -18,110 +17,69 @@ use local_h::Residual;
 // The bytes of a row.
 pub const ROW_SIZE: usize = 28;
 
-// Puts the bytes of b into the rows from a place on, the lowest first.
-fn put_word(b: u32, rows: &mut [u8], at: usize)
-    requires { at + 4 ≤ length rows.old }
-    ensures { rows.new ≡ sets rows.old at (little_endian b) }
+// The number of a residual.
+fn residual_float(r: Residual) -> Option<f32>
+    ensures { result ≡ residual_float r }
 {
-    rows[at] = (b % 256) as u8;
-    rows[at + 1] = (b / 256 % 256) as u8;
-    rows[at + 2] = (b / 65536 % 256) as u8;
-    rows[at + 3] = (b / 16777216 % 256) as u8;
+    r.map(|d| d.value)
 }
 
-// The pattern of the residual, or 0.
-fn residual_bits(r: Residual) -> u32
-    ensures { result ≡ bits_of (residual_float r) }
+// The pattern of a float, or 0, the lowest byte first.
+fn float_bytes(x: Option<f32>) -> [u8; 4]
+    ensures { result ≡ little_endian (bits_of x) }
 {
-    match r {
-        Residual::Value(d) => float::to_bits(d.value),
-        Residual::NoFit => 0,
+    match x {
+        None => [0; 4],
+        Some(x) => float::to_bits(x).to_le_bytes(),
     }
 }
 
-// The pattern of the cosine, or 0.
-fn cosine_bits(m: Option<Measure>) -> u32
-    ensures { result ≡ bits_of (cosine_of m) }
+// 1 if there is something, else 0.
+fn count<T: Copy>(x: Option<T>) -> u8
+    ensures { (result ≡ bit (is_some x)) × (result ≤ 1) }
 {
-    match m {
-        None => 0,
-        Some(m) => float::to_bits(m.cosine),
-    }
-}
-
-// The pattern of the ratio, or 0.
-fn ratio_bits(m: Option<Measure>) -> u32
-    ensures { result ≡ bits_of (ratio_of m) }
-{
-    match m {
-        None => 0,
-        Some(m) => float::to_bits(m.ratio),
-    }
-}
-
-// 1 if there is a residual, else 0.
-fn residual_count(r: Residual) -> u8
-    ensures { (result ≡ bit (is_present (residual_float r))) × (result ≤ 1) }
-{
-    match r {
-        Residual::Value(_) => 1,
-        Residual::NoFit => 0,
-    }
-}
-
-// 1 if there are a cosine and a ratio, else 0.
-fn measure_count(m: Option<Measure>) -> u8
-    ensures { (result ≡ bit (is_present (cosine_of m))) × (result ≤ 1) }
-{
-    u8::from(m.is_some())
+    u8::from(x.is_some())
 }
 
 // Which floats are present: the cosine and the ratio of a measure are so together.
-fn present(residual: Residual, continuation: Option<Measure>, cells: Option<Measure>) -> u8
-    ensures { result ≡ presence (floats_of (residual_float residual) continuation cells) }
+fn present(residual: Option<f32>, continuation: Option<Measure>, cells: Option<Measure>) -> u8
+    ensures { result ≡ presence (floats_of residual continuation cells) }
 {
-    residual_count(residual) + 6 * measure_count(continuation) + 24 * measure_count(cells)
+    count(residual) + 6 * count(continuation) + 24 * count(cells)
 }
 
-// Puts the row that shows these into the rows, from a place on.
-fn put_row(marks: u8, residual: Residual, f: Figures, boundary: u8, rows: &mut [u8], at: usize)
-    requires { at + row_size ≤ length rows.old }
-    ensures { rows.new ≡ sets rows.old at (row_of (record { marks = marks; residual = residual; figures = f; boundary = boundary })) }
+// The row that shows these.
+#[tactic(auto, unfolding(crate::specs::Rows::row_of))]
+fn row(marks: u8, residual: Residual, f: Figures, boundary: u8) -> [u8; ROW_SIZE]
+    ensures { result ≡ row_of (record { marks = marks; residual = residual; figures = f; boundary = boundary }) }
 {
+    let residual = residual_float(residual);
     let continuation = f.continuation;
     let cells = f.cells;
-    let reason = f.reason;
-    let number = edge_shape::reason_number(reason);
-    let floats = present(residual, continuation, cells);
-    rows[at] = marks;
-    rows[at + 1] = number;
-    rows[at + 2] = floats;
-    rows[at + 3] = f.degree;
-    rows[at + 4] = boundary;
-    rows[at + 5] = f.adjacent;
-    rows[at + 6] = f.valid;
-    rows[at + 7] = 0;
-    put_word(residual_bits(residual), rows, at + 8);
-    put_word(cosine_bits(continuation), rows, at + 12);
-    put_word(ratio_bits(continuation), rows, at + 16);
-    put_word(cosine_bits(cells), rows, at + 20);
-    put_word(ratio_bits(cells), rows, at + 24);
+    let mut row = [0u8; ROW_SIZE];
+    row[0] = marks;
+    row[1] = edge_shape::reason_number(f.reason);
+    row[2] = present(residual, continuation, cells);
+    row[3] = f.degree;
+    row[4] = boundary;
+    row[5] = f.adjacent;
+    row[6] = f.valid;
+    row[8..12].copy_from_slice(&float_bytes(residual));
+    row[12..16].copy_from_slice(&float_bytes(continuation.map(|m| m.cosine)));
+    row[16..20].copy_from_slice(&float_bytes(continuation.map(|m| m.ratio)));
+    row[20..24].copy_from_slice(&float_bytes(cells.map(|m| m.cosine)));
+    row[24..28].copy_from_slice(&float_bytes(cells.map(|m| m.ratio)));
+    row
 }
 
-// Writes the rows of ranks 0 to n - 1 of a judged sheet.
+// Writes the rows of ranks 0 to n - 1 of a judged sheet. The buffer, which the caller of the library lends, may go on after them.
 #[inline(never)]
-pub fn write_rows(j: Findings, figures: &FigureColumn, n: usize, rows: &mut [u8])
+pub fn write_rows(j: &Findings, figures: &FigureColumn, n: usize, rows: &mut [u8])
     requires { (n ≤ max_points) × (row_size * n ≤ length rows.old) }
-    ensures { rows.new ≡ rows_over n (shown_at (judged_from j figures.now)) rows.old }
+    ensures { rows.new ≡ rows_over n (shown_at (judged_from j.now figures.now)) rows.old }
 {
     for k in 0..n {
-        put_row(
-            j.marks[k],
-            j.residuals[k],
-            figures[k],
-            j.boundary[k],
-            rows,
-            ROW_SIZE * k,
-        );
+        let shown = row(j.marks[k], j.residuals[k], figures[k], j.boundary[k]);
+        rows[ROW_SIZE * k..ROW_SIZE * (k + 1)].copy_from_slice(&shown);
     }
 }

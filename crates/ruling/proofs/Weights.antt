@@ -28,7 +28,6 @@ use Rattle.sheet_file.specs.declared.Settings.{Settings}
 use Rattle.sheet_file.proofs.Words.{bytes-join}
 use Rattle.points.specs.Records.{points_in}
 use Rattle.ruling.specs.Ruling.{Ruling, refused, accepted, refusals_of, ruling_of}
-use Rattle.ruling.specs.Sheet.{points_by}
 use Rattle.ruling.specs.Header.{points_end, Headed}
 use Rattle.ruling.specs.Order.{records_in, Relisted}
 use Rattle.ruling.specs.Limit.{point_count, WeightsFit, short_sheet, zero_sheet}
@@ -305,7 +304,8 @@ abbrev pub without_strengths : List ℕ → Layout → List (List ℕ)
 without_strengths file f = map (take 20) (records_in file f)
 
 abbrev strength_in : Ruling → ℕ
-strength_in x = (get_or (points_by x) 0 nowhere).strength
+strength_in (refused k) = 0
+strength_in (accepted s ps) = (get_or ps 0 nowhere).strength
 
 pub strengths-needed : ((file other : List ℕ) (f : Layout) → Bytes file → framing_of file ≡ Some f → Headed file other f → Permᴰ (without_strengths file f) (without_strengths other f)
     → (room : ℕ) → ruling_of file room ≡ ruling_of other room) → ⊥

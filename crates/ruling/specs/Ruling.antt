@@ -1,7 +1,7 @@
 -- The ruling on a list of points with settings, and on a file and the length of a result buffer: refused with a number, or accepted with the
 -- settings and the points in cell order. Assumes nothing.
 use Rattle.std.specs.Prelude.{Bool, List, [], ◌∷◌, ◌++◌, ℕ, ◌*◌}
-use Rattle.refusals.specs.First.{Refusal, ruled, applies_in}
+use Rattle.refusals.specs.First.{Condition, ruled, applies_in}
 use Rattle.view.specs.View.{max_points}
 use Rattle.cells.specs.Points.{Point}
 use Rattle.sheet_file.specs.Frame.{framing_of, layout_of}
@@ -29,7 +29,7 @@ unfolding header_refusals ruling_for
 ruling_of file room = ruled refused (ruling_for (settings_of file (layout_of file)) (points_of file)) (header_refusals file room (framing_of file))
 
 -- the refusals of a file and a buffer in one list, by which it is ruled so (`in-one-list`): those of its header, then those of its points
-unfoldable pub refusals_of : List ℕ → ℕ → List Refusal
+unfoldable pub refusals_of : List ℕ → ℕ → List Condition
 unfolding header_refusals point_refusals
 refusals_of file room = header_refusals file room (framing_of file) ++ point_refusals (settings_of file (layout_of file)).score_frac (points_of file)
 

@@ -1,31 +1,22 @@
--- The ruling as the code hands it back: the settings and the table of the points, or the number of a refusal and no points.
--- Assumes nothing.
-use Rattle.std.specs.Prelude.{◌≡◌, List, [], ℕ, length, None}
-use Rattle.folds.specs.Arith.{zero_f}
+-- The ruling as the code hands it back: the settings and the table of the points, or a refusal. Assumes nothing.
+use Rattle.std.specs.Prelude.{◌≡◌, List, ℕ, length, Result, Ok, Err}
+use Rattle.refusals.specs.Number.{refusal_number}
+use Rattle.refusals.specs.declared.Refusal.{Refusal}
 use Rattle.cells.specs.Points.{Point}
-use Rattle.sheet_file.specs.Refusals.{defaults_for}
-use Rattle.sheet_file.specs.declared.Fraction.TheVariants.{Missing}
 use Rattle.sheet_file.specs.declared.Settings.{Settings}
 use Rattle.points.specs.Table.{Tabled}
 use Rattle.ruling.specs.Ruling.{Ruling, refused, accepted}
 use Rattle.ruling.specs.declared.Sheet.{Sheet}
 
--- the number of a ruling; 0 is none
-abbrev pub number_by : Ruling → ℕ
-number_by (refused k) = k
-number_by (accepted s ps) = 0
+-- the sheet has these settings and these points, which are in cell order
+pub record SheetOf (s : Settings) (ps : List Point) (r : Sheet) : Type 0 where
+  pub settings-are : r.settings ≡ s
+  pub count-is : r.count ≡ length ps
+  pub table_is : Tabled ps r.table
 
--- the settings; of a refused file, the defaults for cell size 0
-abbrev pub settings_by : Ruling → Settings
-settings_by (refused k) = defaults_for zero_f None Missing
-settings_by (accepted s ps) = s
-
--- the points in cell order; of a refused file, none
-abbrev pub points_by : Ruling → List Point
-points_by (refused k) = []
-points_by (accepted s ps) = ps
-
-pub record Ruled (x : Ruling) (r : Sheet) : Type 0 where
-  pub settings-are : r.settings ≡ settings_by x
-  pub count-is : r.count ≡ length (points_by x)
-  pub table_is : Tabled (number_by x) (points_by x) r.table
+-- a ruling that refuses is the refusal of its number, and one that accepts the sheet of its points
+abbrev pub Ruled : Ruling → Result Sheet Refusal → Type 0
+Ruled (refused k) (Ok r) = ⊥
+Ruled (refused k) (Err e) = k ≡ refusal_number e
+Ruled (accepted s ps) (Ok r) = SheetOf s ps r
+Ruled (accepted s ps) (Err e) = ⊥

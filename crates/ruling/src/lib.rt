@@ -1,14 +1,13 @@
-// The ruling on a sheet file: the number of a refusal, or the settings and the points in cell order.
+// The ruling on a sheet file: a refusal, or the settings and the points in cell order.
 #![tactic(auto)]
 
-ghost use Rattle.points.specs.Records.{points_in, PointsFit};
-ghost use Rattle.points.specs.Table.{Tabled};
-ghost use Rattle.ruling.specs.Ruling.{refused, ruling_for, ruling_of, rows_size};
+ghost use Rattle.std.specs.Prelude.{◌≡◌};
+ghost use Rattle.ruling.specs.Ruling.{ruling_of, rows_size};
 ghost use Rattle.ruling.specs.Sheet.{Ruled};
-ghost use Rattle.std.specs.Prelude.{◌≡◌, []};
 
 use points::Table;
-use sheet_file::{Fraction, Header, Reading, Settings};
+use refusals::Refusal;
+use sheet_file::Settings;
 use view::MAX_POINTS;
 
 // A result buffer of this size has room for the rows of every sheet.
@@ -21,7 +20,7 @@ pub fn rows_size() -> usize
     ROWS_SIZE
 }
 
-// The settings, how many points there are, and the points in cell order. The number of a refusal is the table's; it is 0 for none.
+// The settings, how many points there are, and the points in cell order.
 #[derive(Drop)]
 pub struct Sheet {
     pub settings: Settings,
@@ -29,42 +28,16 @@ pub struct Sheet {
     pub table: Table,
 }
 
-fn refused_with(table: Table) -> Sheet
-    requires { Tabled table.number [] table }
-    ensures { Ruled (refused table.number) result }
-{
-    Sheet {
-        settings: Settings::new(0.0, None, Fraction::Missing),
-        count: 0,
-        table,
-    }
-}
-
-fn read_points(file: &[u8], h: Header) -> Sheet
-    requires { PointsFit file.now h.layout }
-    ensures { Ruled (ruling_for h.settings (points_in file.now h.layout)) result }
-{
-    let layout = h.layout;
-    let n = layout.count;
-    let settings = h.settings;
-    let fraction = settings.score_frac;
-    let table = points::read(file, layout, fraction);
-    if table.number == 0 {
-        return Sheet {
-            settings,
-            count: n,
-            table,
-        };
-    }
-    refused_with(table)
-}
-
 // The ruling on any bytes; `room` is the length of the result buffer.
-pub fn read(file: &[u8], room: usize) -> Sheet
+pub fn read(file: &[u8], room: usize) -> Result<Sheet, Refusal>
     ensures { Ruled (ruling_of file.now room) result }
 {
-    match sheet_file::read(file, room) {
-        Reading::Refused(k) => refused_with(points::refused(k)),
-        Reading::Accepted(h) => read_points(file, h),
-    }
+    let header = sheet_file::read(file, room)?;
+    let settings = header.settings;
+    let layout = header.layout;
+    Ok(Sheet {
+        settings,
+        count: layout.count,
+        table: points::read(file, layout, settings.score_frac)?,
+    })
 }

@@ -5,7 +5,7 @@ use mathlib.Core.List.{List, [], ◌∷◌, ◌++◌, Option-to_list}
 use Rattle.std.proofs.Math.Option.{Option, none, some}
 use Rattle.folds.specs.Among.{any_in}
 use Rattle.folds.specs.Lists.{list_of, over}
-use Rattle.refusals.specs.First.{Refusal, ruled}
+use Rattle.refusals.specs.First.{Condition, ruled}
 use Rattle.view.specs.View.{max_points}
 use Rattle.marks.specs.Filters.{filter_count, validate, orientation, wrong, leaf, component}
 use Rattle.runs.specs.declared.Run.{Run}
@@ -44,7 +44,7 @@ unfoldable pub full : Run → Bool
 full r = leb most_sheets r.sheets || any_in (leb sum_limit) r.new_sums
 
 -- "The run's call alone refuses with 11, before reading the file, any sheet if .."
-unfoldable pub run_refusals : Run → List Refusal
+unfoldable pub run_refusals : Run → List Condition
 unfolding full
 run_refusals r = (11, full r) ∷ []
 

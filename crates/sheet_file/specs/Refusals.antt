@@ -1,10 +1,10 @@
 -- The settings of a sheet file, the conditions of the numbers 1, 12 and 2 to 5, and what is read of a file and the length of a result buffer.
 -- Assumes nothing.
-use Rattle.std.specs.Prelude.{◌≡◌, Bool, true, false, cond, not, ◌&&◌, ◌||◌, List, [], ◌∷◌, ℕ, ◌+◌, ◌*◌, ◌≤◌, eqb, ltb, length, Float, Option, Some, None, is_some, is_none}
+use Rattle.std.specs.Prelude.{◌≡◌, Bool, true, false, cond, not, ◌&&◌, ◌||◌, List, [], ◌∷◌, ℕ, ◌+◌, ◌*◌, ◌≤◌, eqb, ltb, length, Float, Option, Some, None, is_some, is_none, Result, Ok, Err}
 use Rattle.folds.specs.Arith.{f32}
 use Rattle.folds.specs.Among.{any_in}
 use Rattle.view.specs.View.{max_points}
-use Rattle.refusals.specs.First.{Refusal, ruled}
+use Rattle.refusals.specs.First.{Condition, ruled}
 use Rattle.sheet_file.specs.Bytes.{byte_at, le16, le32}
 use Rattle.sheet_file.specs.Limit.{outside}
 use Rattle.sheet_file.specs.Frame.{framing_of, layout_in, weights_of, gate_start, Held}
@@ -14,8 +14,6 @@ use Rattle.sheet_file.specs.declared.Fraction.{Fraction}
 use Rattle.sheet_file.specs.declared.Fraction.TheVariants.{Missing, Outside, Given}
 use Rattle.sheet_file.specs.declared.Settings.{Settings}
 use Rattle.sheet_file.specs.declared.Header.{Header}
-use Rattle.sheet_file.specs.declared.Reading.{Reading}
-use Rattle.sheet_file.specs.declared.Reading.TheVariants.{Refused, Accepted}
 
 -- the f32 in the four bytes from a position on
 abbrev pub float_at : List ℕ → ℕ → Float
@@ -132,20 +130,10 @@ pub record GateHeld (file : List ℕ) (at : ℕ) : Type 0 where
   pub fits : at + 17 ≤ length file
   pub inside : any_in outside (gate_floats file at) ≡ false
 
-pub record FloatsHeld (file : List ℕ) (f : Layout) : Type 0 where
-  pub held : Held file f
-  pub inside : bad_float file f ≡ false
-  pub fitting : misfit f ≡ false
-
--- the data of a tag 4 that fits are within the file
-pub record WeightsHeld (file : List ℕ) (f : Layout) : Type 0 where
-  pub held : Held file f
-  pub fitting : misfit f ≡ false
-
 -- ---- what is read
 
 -- the refusals of a file that is framed so, before its points are looked at, in their order
-unfoldable pub header_refusals : List ℕ → ℕ → Option Layout → List Refusal
+unfoldable pub header_refusals : List ℕ → ℕ → Option Layout → List Condition
 header_refusals file room x =
     let f = layout_in x in
     (1, misframing x)
@@ -159,11 +147,11 @@ header_refusals file room x =
 abbrev pub header_of : List ℕ → Layout → Header
 header_of file f = record { settings = settings_of file f; layout = f }
 
--- "A call returns the first number that applies"
-unfoldable pub reading_in : List ℕ → ℕ → Option Layout → Reading
+-- "A call returns the first number that applies", or what is read
+unfoldable pub reading_in : List ℕ → ℕ → Option Layout → Result Header ℕ
 unfolding header_refusals
-reading_in file room x = ruled Refused (Accepted (header_of file (layout_in x))) (header_refusals file room x)
+reading_in file room x = ruled Err (Ok (header_of file (layout_in x))) (header_refusals file room x)
 
-unfoldable pub reading_of : List ℕ → ℕ → Reading
+unfoldable pub reading_of : List ℕ → ℕ → Result Header ℕ
 unfolding reading_in
 reading_of file room = reading_in file room (framing_of file)

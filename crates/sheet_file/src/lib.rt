@@ -4,12 +4,14 @@
 ghost use Rattle.std.specs.Prelude.{◌≡◌, true, false, ◌+◌, ◌*◌, ◌≤◌, ◌<◌, length, IfSome, IsTrue};
 ghost use Rattle.folds.specs.Among.{any_in};
 ghost use Rattle.folds.specs.Arith.{f32};
+ghost use Rattle.refusals.specs.Number.{numbered};
 ghost use Rattle.sheet_file.specs.Bytes.{le16, le32};
 ghost use Rattle.sheet_file.specs.Grammar.{longest};
 ghost use Rattle.sheet_file.specs.Limit.{outside};
 ghost use Rattle.sheet_file.specs.Frame.{field_len, field_at, end_from, strengths_from, points_from, gate_from, framing_of, gate_start, Held};
-ghost use Rattle.sheet_file.specs.Refusals.{float_at, defaults_for, settings_in, gate_in, edge_shape_of, fraction_of, settings_of, misfit, no_flag, bad_flag, settings_floats, gate_floats, bad_float, FloatHeld, SettingsHeld, GateHeld, FloatsHeld, WeightsHeld, reading_in, reading_of};
+ghost use Rattle.sheet_file.specs.Refusals.{float_at, defaults_for, settings_in, gate_in, edge_shape_of, fraction_of, settings_of, misfit, no_flag, bad_flag, settings_floats, gate_floats, bad_float, FloatHeld, SettingsHeld, GateHeld, reading_in, reading_of};
 
+use refusals::Refusal;
 use view::MAX_POINTS;
 
 // The most bytes of data of a field: its length is a two-byte number.
@@ -275,37 +277,10 @@ pub struct Header {
     pub layout: Layout,
 }
 
-#[derive(Clone, Copy)]
-pub enum Reading {
-    Refused(u8),
-    Accepted(Header),
-}
-
 fn is_no_flag(b: u8) -> bool
     ensures { result ≡ no_flag b }
 {
     1 < b
-}
-
-// Whether the step flag or a switch is neither 0 nor 1.
-#[tactic(auto, unfolding(crate::specs::Refusals::bad_flag))]
-fn has_bad_flag(file: &[u8], f: Layout) -> bool
-    requires { Held file.now f }
-    ensures { result ≡ bad_flag file.now f }
-{
-    f.full && (is_no_flag(file[17]) || is_no_flag(file[22]) || is_no_flag(file[23]))
-}
-
-// Whether a float of tag 1 is outside the limit.
-fn settings_outside(file: &[u8], f: Layout) -> bool
-    requires { Held file.now f }
-    ensures { result ≡ any_in outside (settings_floats file.now f.full) }
-{
-    let cell = is_outside(file, 3);
-    if f.full {
-        return cell | is_outside(file, 7) | is_outside(file, 13) | is_outside(file, 18);
-    }
-    cell
 }
 
 // Whether a float of tag 2, whose data begin at `at`, is outside the limit.
@@ -326,14 +301,6 @@ fn gate_start(full: bool) -> usize
     if full { 27 } else { 10 }
 }
 
-#[tactic(auto, unfolding(crate::specs::Refusals::bad_float))]
-fn has_bad_float(file: &[u8], f: Layout) -> bool
-    requires { Held file.now f }
-    ensures { result ≡ bad_float file.now f }
-{
-    settings_outside(file, f) || f.gated && gate_outside(file, gate_start(f.full))
-}
-
 // The edge-shape gate in the data of tag 2 from `at` on.
 #[tactic(auto, unfolding(crate::specs::Refusals::gate_in))]
 fn gate_in(file: &[u8], at: usize) -> EdgeShapeParams
@@ -346,31 +313,6 @@ fn gate_in(file: &[u8], at: usize) -> EdgeShapeParams
         continuation_length_ratio_max: float_at(file, at + 5),
         cell_opposite_cos_min: float_at(file, at + 9),
         cell_opposite_length_ratio_max: float_at(file, at + 13),
-    }
-}
-
-#[tactic(auto, unfolding(crate::specs::Refusals::edge_shape_of))]
-fn edge_shape_of(file: &[u8], f: Layout) -> Option<EdgeShapeParams>
-    requires { FloatsHeld file.now f }
-    ensures { result ≡ edge_shape_of file.now f }
-{
-    if f.gated {
-        Some(gate_in(file, gate_start(f.full)))
-    } else {
-        None
-    }
-}
-
-// The fraction in the first four bytes of tag 4's data.
-#[tactic(auto, unfolding(crate::specs::Refusals::fraction_of))]
-fn fraction_of(file: &[u8], f: Layout) -> Fraction
-    requires { WeightsHeld file.now f }
-    ensures { result ≡ fraction_of file.now f }
-{
-    match f.weights {
-        Some(w) if is_outside(file, w.at) => Fraction::Outside,
-        Some(w) => Fraction::Given(float_at(file, w.at)),
-        None => Fraction::Missing,
     }
 }
 
@@ -394,19 +336,6 @@ fn settings_in(file: &[u8], gate: Option<EdgeShapeParams>, fraction: Fraction) -
     }
 }
 
-#[tactic(auto, unfolding(crate::specs::Refusals::settings_of))]
-fn settings_of(file: &[u8], f: Layout) -> Settings
-    requires { FloatsHeld file.now f }
-    ensures { result ≡ settings_of file.now f }
-{
-    let gate = edge_shape_of(file, f);
-    let fraction = fraction_of(file, f);
-    if f.full {
-        return settings_in(file, gate, fraction);
-    }
-    Settings::new(float_at(file, 3), gate, fraction)
-}
-
 // Whether tag 4 is not 4 bytes plus 4 per point.
 fn is_misfit(f: Layout) -> bool
     requires { 20 * f.count < 0x1_0000_0000_0000_0000 }
@@ -415,40 +344,119 @@ fn is_misfit(f: Layout) -> bool
     f.weights.is_some_and(|w| w.len != 4 + 4 * f.count)
 }
 
-// Refusals 12 and 2 to 5 of a file with this layout.
-#[tactic(auto, unfolding(crate::specs::Refusals::reading_in))]
-fn read_framed(file: &[u8], room: usize, f: Layout) -> Reading
-    requires { Held file.now f }
-    ensures { result ≡ reading_in file.now room (Some f) }
-{
-    if is_misfit(f) {
-        return Reading::Refused(12);
-    }
-    if MAX_POINTS < f.count {
-        return Reading::Refused(2);
-    }
-    if room < 28 * f.count {
-        return Reading::Refused(3);
-    }
-    if has_bad_flag(file, f) {
-        return Reading::Refused(4);
-    }
-    if has_bad_float(file, f) {
-        return Reading::Refused(5);
-    }
-    Reading::Accepted(Header {
-        settings: settings_of(file, f),
-        layout: f,
-    })
+// A file whose fields stand so: the data of each are within its bytes.
+#[derive(Clone, Copy)]
+struct Framed<'a> {
+    file: &'a [u8],
+    layout: Layout,
+    ghost held: { Held file.now layout },
 }
 
-// The settings of a file and where its fields stand, or one of the numbers 1, 12 and 2 to 5; `room` is the length of the result buffer.
+impl Framed<'_> {
+    // Whether the step flag or a switch is neither 0 nor 1.
+    #[tactic(auto, unfolding(crate::specs::Refusals::bad_flag))]
+    fn has_bad_flag(&self) -> bool
+        ensures { result ≡ bad_flag self.now.file.now self.now.layout }
+    {
+        let file = self.file;
+        self.layout.full && (is_no_flag(file[17]) || is_no_flag(file[22]) || is_no_flag(file[23]))
+    }
+
+    // Whether a float of tag 1 is outside the limit.
+    fn settings_outside(&self) -> bool
+        ensures { result ≡ any_in outside (settings_floats self.now.file.now self.now.layout.full) }
+    {
+        let file = self.file;
+        let cell = is_outside(file, 3);
+        if self.layout.full {
+            return cell | is_outside(file, 7) | is_outside(file, 13) | is_outside(file, 18);
+        }
+        cell
+    }
+
+    // Whether a float of tag 1 or 2 is outside the limit.
+    #[tactic(auto, unfolding(crate::specs::Refusals::bad_float))]
+    fn has_bad_float(&self) -> bool
+        ensures { result ≡ bad_float self.now.file.now self.now.layout }
+    {
+        let f = self.layout;
+        self.settings_outside() || f.gated && gate_outside(self.file, gate_start(f.full))
+    }
+
+    #[tactic(auto, unfolding(crate::specs::Refusals::edge_shape_of))]
+    fn edge_shape(&self) -> Option<EdgeShapeParams>
+        requires { bad_float self.now.file.now self.now.layout ≡ false }
+        ensures { result ≡ edge_shape_of self.now.file.now self.now.layout }
+    {
+        let f = self.layout;
+        if f.gated {
+            Some(gate_in(self.file, gate_start(f.full)))
+        } else {
+            None
+        }
+    }
+
+    // The fraction in the first four bytes of tag 4's data.
+    #[tactic(auto, unfolding(crate::specs::Refusals::fraction_of))]
+    fn fraction(&self) -> Fraction
+        requires { misfit self.now.layout ≡ false }
+        ensures { result ≡ fraction_of self.now.file.now self.now.layout }
+    {
+        match self.layout.weights {
+            Some(w) if is_outside(self.file, w.at) => Fraction::Outside,
+            Some(w) => Fraction::Given(float_at(self.file, w.at)),
+            None => Fraction::Missing,
+        }
+    }
+
+    #[tactic(auto, unfolding(crate::specs::Refusals::settings_of))]
+    fn settings(&self) -> Settings
+        requires { (bad_float self.now.file.now self.now.layout ≡ false) × (misfit self.now.layout ≡ false) }
+        ensures { result ≡ settings_of self.now.file.now self.now.layout }
+    {
+        let gate = self.edge_shape();
+        let fraction = self.fraction();
+        if self.layout.full {
+            return settings_in(self.file, gate, fraction);
+        }
+        Settings::new(float_at(self.file, 3), gate, fraction)
+    }
+
+    // Refusals 12 and 2 to 5.
+    #[tactic(auto, unfolding(crate::specs::Refusals::reading_in))]
+    fn read(&self, room: usize) -> Result<Header, Refusal>
+        ensures { numbered result ≡ reading_in self.now.file.now room (Some self.now.layout) }
+    {
+        let f = self.layout;
+        if is_misfit(f) {
+            return Err(Refusal::StrengthsLength);
+        }
+        if MAX_POINTS < f.count {
+            return Err(Refusal::TooManyPoints);
+        }
+        if room < 28 * f.count {
+            return Err(Refusal::ShortBuffer);
+        }
+        if self.has_bad_flag() {
+            return Err(Refusal::BadSwitch);
+        }
+        if self.has_bad_float() {
+            return Err(Refusal::BadSetting);
+        }
+        Ok(Header {
+            settings: self.settings(),
+            layout: f,
+        })
+    }
+}
+
+// The settings of a file and where its fields stand, or one of the refusals 1, 12 and 2 to 5; `room` is the length of the result buffer.
 #[tactic(auto, unfolding(crate::specs::Refusals::reading_of))]
-pub fn read(file: &[u8], room: usize) -> Reading
-    ensures { result ≡ reading_of file.now room }
+pub fn read(file: &[u8], room: usize) -> Result<Header, Refusal>
+    ensures { numbered result ≡ reading_of file.now room }
 {
     match frame(file) {
-        Some(f) => read_framed(file, room, f),
-        None => Reading::Refused(1),
+        Some(layout) => Framed { file, layout }.read(room),
+        None => Err(Refusal::Misframed),
     }
 }

@@ -3,26 +3,29 @@
 // must write was made by `harness vectors sheet_file`.
 #![tactic(auto)]
 
+use ruling::Sheet;
 use sheet_file::Fraction;
 use std::io::Read;
-use view::{Floats, MAX_POINTS, Words};
+use view::MAX_POINTS;
 
 // The longest file: tag 3 and tag 4 with 65,535 bytes of data each, and all else.
 const LONGEST: usize = 131200;
 
 fn mixed(h: u64, v: u32) -> u64 {
-    std::num::wrapping_add_u64(h << 5 | h >> 59, v as u64)
+    h.rotate_left(5).wrapping_add(u64::from(v))
 }
 
 // The points in cell order, each with its strength, which is 0 without tag 4.
-fn digest(keys: &Words, idx: &Words, x: &Floats, y: &Floats, strength: &Floats, n: usize) -> u64 {
+fn digest(sheet: &Sheet) -> u64 {
+    let table = &sheet.table;
     let mut h: u64 = 0;
-    for k in 0..MAX_POINTS {
-        if k < n {
-            h = mixed(mixed(h, keys[k]), idx[k]);
-            h = mixed(mixed(h, float::to_bits(x[k])), float::to_bits(y[k]));
-            h = mixed(h, float::to_bits(strength[k]));
-        }
+    for k in 0..sheet.count.min(MAX_POINTS) {
+        h = mixed(mixed(h, table.keys[k]), table.idx[k]);
+        h = mixed(
+            mixed(h, float::to_bits(table.x[k])),
+            float::to_bits(table.y[k]),
+        );
+        h = mixed(h, float::to_bits(table.strength[k]));
     }
     h
 }
@@ -37,20 +40,17 @@ fn with_fraction(h: u64, fraction: Fraction) -> u64 {
 }
 
 fn write_line<R: Print>(rt: &R, file: &[u8], room: usize) {
-    let sheet = ruling::read(file, room);
-    let settings = sheet.settings;
-    let fraction = settings.score_frac;
-    let n = sheet.count;
-    let table = sheet.table;
-    let keys = table.keys;
-    let idx = table.idx;
-    let x = table.x;
-    let y = table.y;
-    let strength = table.strength;
-    let points = digest(&keys, &idx, &x, &y, &strength, n);
-    let number = table.number;
-    let all = with_fraction(points, fraction);
-    let _ = println!(rt; "{number} {n} {all:016x}");
+    match &ruling::read(file, room) {
+        Ok(sheet) => {
+            let n = sheet.count;
+            let all = with_fraction(digest(sheet), sheet.settings.score_frac);
+            let _ = println!(rt; "0 {n} {all:016x}");
+        }
+        Err(refusal) => {
+            let number = refusal.number();
+            let _ = println!(rt; "{number} 0 {:016x}", 0);
+        }
+    }
 }
 
 // Reads one case and writes its line; false where there is none.

@@ -1,5 +1,6 @@
 -- How large the numbers of an answer are, and when 3 is given, for every file and buffer. Assumes nothing.
-use Rattle.std.proofs.Common.{◌≡◌, ℕ, ◌*◌, ◌/◌, ◌<◌, ◌≤◌, Bool, true, false, cond, not, eqb, ltb, List, length, get_or, sym, refl, arith, ltb-false, ltb-true, lt-ltb}
+use Rattle.std.proofs.Common.{◌≡◌, ℕ, ◌*◌, ◌/◌, ◌<◌, ◌≤◌, Bool, true, false, cond, not, eqb, ltb, List, length, get_or, sym, refl, arith, ltb-false, ltb-true, lt-ltb, Ok, Err}
+use Rattle.refusals.proofs.Number.{err-no-ok}
 use Rattle.folds.specs.Among.{any_in}
 use Rattle.folds.proofs.Below.{both_ways, tally-le}
 use Rattle.view.specs.View.{max_points}
@@ -11,7 +12,6 @@ use Rattle.judging.specs.Judging.{judged_for}
 use Rattle.rows.specs.Rows.{row_size}
 use Rattle.sheet_fills.specs.Bytes.{fill_size, dropped_count}
 use Rattle.sheet_fills.specs.Answer.{as_rows, fill_ruling, fill_answer_by, fill_answer_of}
-use Rattle.sheet_fills.specs.declared.FillAnswer.TheVariants.{Refused, Filled}
 use Rattle.sheet_fills.specs.declared.FillCounts.{FillCounts}
 
 -- Of at most the most points of a sheet: the buffer is shorter than a row for each exactly where it is shorter than 20 bytes for each.
@@ -26,9 +26,6 @@ short-exactly room n m = both_ways (ltb (as_rows room) (row_size * n)) (ltb room
     from true e h = omega arith
     from false e h = absurd (omega (arith, ltb-false (room / fill_size) max_points e))
 
-pub other : {k : ℕ} {c : FillCounts} → Refused k ≡ Filled c → ⊥
-other e = let z : ◌≡◌ {A = ℕ} 0 1 = cc in omega arith
-
 -- no more fills than points, and no more points than the most of a sheet
 pub record Bounded (c : FillCounts) : Type 0 where
   pub fills : c.fills ≤ c.points
@@ -39,23 +36,23 @@ unfolding dropped_count
 dropped-few marks n = tally-le (λ (k : ℕ). not (eqb (get_or marks k 0) 0)) n
 
 module _ (file : List ℕ) (room : ℕ) where
-  pub fills-bounded : Bytes file → {c : FillCounts} → fill_answer_of file room ≡ Filled c → Bounded c
+  pub fills-bounded : Bytes file → {c : FillCounts} → fill_answer_of file room ≡ Ok c → Bounded c
   unfolding fill_answer_of
   fills-bounded b {c} e = go (fill_ruling file room) refl e
     where
-      go : (r : Ruling) → fill_ruling file room ≡ r → fill_answer_by r ≡ Filled c → Bounded c
-      go (refused k) q e = absurd (other e)
+      go : (r : Ruling) → fill_ruling file room ≡ r → fill_answer_by r ≡ Ok c → Bounded c
+      go (refused k) q e = absurd (err-no-ok e)
       go (accepted s ps) q e =
           let p : ◌≡◌ {A = FillCounts} (record { points = length ps; fills = dropped_count (judged_for s ps).marks (length ps) }) c = cc e in
           rw (← p) (record { fills = dropped-few (judged_for s ps).marks (length ps); points = (accepted-order file (as_rows room) s ps b q).few })
 
   -- the number of a refusal is one of the list
-  pub fills-listed : {k : ℕ} → fill_answer_of file room ≡ Refused k → any_in (eqb k) sheet_numbers ≡ true
+  pub fills-listed : {k : ℕ} → fill_answer_of file room ≡ Err k → any_in (eqb k) sheet_numbers ≡ true
   unfolding fill_answer_of
   fills-listed {k} e = go (fill_ruling file room) refl e
     where
-      go : (r : Ruling) → fill_ruling file room ≡ r → fill_answer_by r ≡ Refused k → any_in (eqb k) sheet_numbers ≡ true
+      go : (r : Ruling) → fill_ruling file room ≡ r → fill_answer_by r ≡ Err k → any_in (eqb k) sheet_numbers ≡ true
       go (refused j) q e =
           let p : j ≡ k = cc e in
           rw p at (is-given file (as_rows room) j q).listed
-      go (accepted s ps) q e = absurd (other (sym e))
+      go (accepted s ps) q e = absurd (err-no-ok (sym e))

@@ -15,15 +15,16 @@ use Rattle.drop_set.specs.Filters.{sides_of}
 use Rattle.judging.specs.Judging.{Arrays, judged_by, judged_for, fills_for}
 use Rattle.judging.proofs.Sheets.{AcceptedSheet, accepted-sheet, refused-sheet, sheet-arrays, sheet-judged, sheet-fills, sheet-few}
 use Rattle.kept.proofs.Cases.{rows_fit}
-use Rattle.std.specs.Prelude.{Result, Ok}
+use Rattle.std.specs.Prelude.{Result, Ok, Err}
+use Rattle.refusals.specs.Number.{refusal_number}
+use Rattle.refusals.specs.declared.Refusal.{Refusal}
 use Rattle.text.specs.Answer.{Shows}
 use Rattle.text.specs.declared.NoRoom.{NoRoom}
 use Rattle.sheet_file.specs.declared.Settings.{Settings}
 use Rattle.cells.specs.Points.{Point}
 use Rattle.sheet_fills.specs.Bytes.{fill_size, fills_bytes, dropped_count}
 use Rattle.sheet_fills.specs.Answer.{as_rows, fill_ruling, fill_answer_of, fills_after}
-use Rattle.sheet_fills.specs.declared.FillAnswer.{FillAnswer}
-use Rattle.sheet_fills.specs.declared.FillAnswer.TheVariants.{Refused, Filled}
+use Rattle.sheet_fills.specs.declared.FillCounts.{FillCounts}
 use Rattle.sheet_fills.proofs.Laws.{bytes-long, bytes-few, fits_whole}
 
 -- room for the rows is room for the fills
@@ -34,29 +35,30 @@ room-for-fills room n h m = go (ltb (room / fill_size) max_points) refl h
     go true e h = omega arith
     go false e h = omega (arith, ltb-false (room / fill_size) max_points e)
 
-module _ (file buffer : List ℕ) (bytes : Bytes file) (r : Sheet) (h : Ruled (fill_ruling file (length buffer)) r) where
+-- a sheet that was read of an accepted file
+module _ (file buffer : List ℕ) (bytes : Bytes file) (r : Sheet) (h : Ruled (fill_ruling file (length buffer)) (Ok r)) where
   abbrev room : ℕ
   room = as_rows (length buffer)
 
-  abbrev of : r.table.number ≡ 0 → AcceptedSheet file room r
-  of z = accepted-sheet file room r h z
+  abbrev o : AcceptedSheet file room r
+  o = accepted-sheet file room r h
 
-  pub arrays : r.table.number ≡ 0 → Arrays r.count r.table.keys r.table.x r.table.y r.table.strength
-  arrays z = sheet-arrays file room r bytes (of z)
+  pub arrays : Arrays r.count r.table.keys r.table.x r.table.y r.table.strength
+  arrays = sheet-arrays file room r bytes o
 
-  pub few : r.table.number ≡ 0 → r.count ≤ max_points
-  few z = sheet-few file room r bytes (of z)
+  pub few : r.count ≤ max_points
+  few = sheet-few file room r bytes o
 
   -- with the table of ranks, the judged sheet and its fills
-  module _ (z : r.table.number ≡ 0) {ranks : List ℕ} (f : ranks ≡ ranks_of r.count r.table.keys r.table.idx) {j : Judged} {fills : List Prediction}
+  module _ {ranks : List ℕ} (f : ranks ≡ ranks_of r.count r.table.keys r.table.idx) {j : Judged} {fills : List Prediction}
       (e : j ≡ judged_by r.settings r.count r.table.keys r.table.idx r.table.x r.table.y r.table.strength)
       (g : fills ≡ fills_of (view_at r.count ranks r.table.x r.table.y) (sides_of r.settings) j.marks)
       {after : List ℕ} {w : Result ℕ NoRoom} (t : Shows (fills_bytes (cells_at r.table.keys) j.marks fills r.count) buffer after w) where
     abbrev points : List Point
-    points = (of z).points
+    points = o.points
 
     abbrev settings : Settings
-    settings = (of z).settings
+    settings = o.settings
 
     -- the bytes, over the cells
     abbrev whole : List ℕ
@@ -64,7 +66,6 @@ module _ (file buffer : List ℕ) (bytes : Bytes file) (r : Sheet) (h : Ruled (f
 
     same : fills_bytes (cells_at r.table.keys) j.marks fills r.count ≡ whole
     same =
-        let o = of z in
         let judged : j ≡ judged_for settings points = e ∙ sheet-judged file room r bytes o in
         let filled : fills ≡ fills_for settings points = g ∙ sheet-fills file room r bytes o f (ap (λ (x : Judged). x.marks) judged) in
         let cells : cells_at r.table.keys ≡ cells_of points = ap cells_at o.sheet.table_is.keys-are ∙ cells_are points (accepted-order file room settings points bytes o.ruled).inside in
@@ -76,21 +77,20 @@ module _ (file buffer : List ℕ) (bytes : Bytes file) (r : Sheet) (h : Ruled (f
     -- there is room for them
     pub fitted : (w ≡ Ok (length whole)) × (after ≡ whole ++ drop (length whole) buffer)
     fitted =
-        let o = of z in
         let size = bytes-few (cells_of points) (judged_for settings points).marks (fills_for settings points) (length points) in
         let fit = room-for-fills (length buffer) (length points) (rows_fit file room settings points o.ruled) (accepted-order file room settings points bytes o.ruled).few in
         fits_whole (rw same at t) (omega (arith, size, fit))
 
-    pub done : {size : ℕ} → w ≡ Ok size → (◌≡◌ {A = FillAnswer} (Filled (record { points = r.count; fills = size / fill_size })) (fill_answer_of file (length buffer))) × (after ≡ fills_after file buffer)
+    pub done : {size : ℕ} → w ≡ Ok size → (◌≡◌ {A = Result FillCounts ℕ} (Ok (record { points = r.count; fills = size / fill_size })) (fill_answer_of file (length buffer))) × (after ≡ fills_after file buffer)
     unfolding fill_answer_of fills_after
     done {size} y =
-        let o = of z in
         let long = bytes-long (cells_of points) (judged_for settings points).marks (fills_for settings points) (length points) in
         let u : ◌≡◌ {A = Result ℕ NoRoom} (Ok size) (Ok (length whole)) = sym y ∙ fitted.0 in
         let n : size ≡ length whole = cc u in
         let count : size / fill_size ≡ dropped_count (judged_for settings points).marks (length points) = omega (arith, n, long) in
-        rw o.ruled (ap (λ (n : ℕ). Filled (record { points = n; fills = size / fill_size })) o.sheet.count-is ∙ ap (λ (c : ℕ). Filled (record { points = length points; fills = c })) count, fitted.1)
+        rw o.ruled (ap (λ (n : ℕ). Ok (record { points = n; fills = size / fill_size })) o.sheet.count-is ∙ ap (λ (c : ℕ). Ok (record { points = length points; fills = c })) count, fitted.1)
 
-  pub turned : (r.table.number ≡ 0 → ⊥) → (◌≡◌ {A = FillAnswer} (Refused r.table.number) (fill_answer_of file (length buffer))) × (buffer ≡ fills_after file buffer)
-  unfolding fill_answer_of fills_after
-  turned f = rw (refused-sheet file room r h f) (refl, refl)
+-- a refusal
+pub turned : (file buffer : List ℕ) (d : Refusal) → Ruled (fill_ruling file (length buffer)) (Err d) → (Err (refusal_number d) ≡ fill_answer_of file (length buffer)) × (buffer ≡ fills_after file buffer)
+unfolding fill_answer_of fills_after
+turned file buffer d h = rw (refused-sheet file (as_rows (length buffer)) d h) (refl, refl)

@@ -1,13 +1,12 @@
 -- What the call for the fills answers and what it leaves in the lent buffer, for any bytes and any buffer. Assumes nothing.
-use Rattle.std.specs.Prelude.{ℕ, ◌*◌, ◌/◌, cond, List, [], ◌++◌, length, drop, nat_lt}
+use Rattle.std.specs.Prelude.{ℕ, ◌*◌, ◌/◌, cond, List, [], ◌++◌, length, drop, nat_lt, Result, Ok, Err}
 use Rattle.view.specs.View.{max_points}
 use Rattle.cells.specs.Cell.{cells_of}
 use Rattle.ruling.specs.Ruling.{Ruling, refused, accepted, ruling_of, rows_size}
 use Rattle.judging.specs.Judging.{judged_for, fills_for}
 use Rattle.rows.specs.Rows.{row_size}
 use Rattle.sheet_fills.specs.Bytes.{fill_size, fills_bytes, dropped_count}
-use Rattle.sheet_fills.specs.declared.FillAnswer.{FillAnswer}
-use Rattle.sheet_fills.specs.declared.FillAnswer.TheVariants.{Refused, Filled}
+use Rattle.sheet_fills.specs.declared.FillCounts.{FillCounts}
 
 -- A buffer too small is refused with 3, in the order of a sheet's numbers: a buffer counts as one with room for as many rows as it has room for
 -- fills. The most points of a sheet are enough.
@@ -18,9 +17,12 @@ abbrev pub fill_ruling : List ℕ → ℕ → Ruling
 fill_ruling file room = ruling_of file (as_rows room)
 
 -- the refusal number, or how many points there are and how many are dropped
+abbrev pub FillAnswer : Type 0
+FillAnswer = Result FillCounts ℕ
+
 abbrev pub fill_answer_by : Ruling → FillAnswer
-fill_answer_by (refused k) = Refused k
-fill_answer_by (accepted s ps) = Filled (record { points = length ps; fills = dropped_count (judged_for s ps).marks (length ps) })
+fill_answer_by (refused k) = Err k
+fill_answer_by (accepted s ps) = Ok (record { points = length ps; fills = dropped_count (judged_for s ps).marks (length ps) })
 
 -- the fills of an accepted sheet
 abbrev pub bytes_of : Ruling → List ℕ

@@ -2,7 +2,8 @@
 // specs/Bytes.antt and specs/Answer.antt.
 #![tactic(auto)]
 
-ghost use Rattle.std.specs.Prelude.{◌≡◌, ◌≤◌, ◌++◌, length, pos, ◌-ℤ◌};
+ghost use Rattle.std.specs.Prelude.{◌≡◌, ◌≤◌, ◌++◌, length, pos, ◌-ℤ◌, Ok};
+ghost use Rattle.refusals.specs.Number.{numbered};
 ghost use Rattle.view.specs.View.{max_points, view_at};
 ghost use Rattle.cells.specs.Points.{bias};
 ghost use Rattle.cells.specs.Cell.{cell_of_key, cells_at};
@@ -16,10 +17,12 @@ ghost use Rattle.sheet_fills.specs.Bytes.{signed_bytes, prediction_bytes, bytes_
 ghost use Rattle.sheet_fills.specs.Answer.{as_rows, fill_ruling, fill_answer_of, fills_after};
 
 use edge_shape::NO_FIGURES;
+use judging::Columns;
 use predict::{Fills, PredictedPosition};
+use refusals::Refusal;
 use ruling::{ROWS_SIZE, Sheet};
 use text::{NoRoom, Writer};
-use view::{MAX_POINTS, Marks, RANKS_SIZE, Ranks, Words};
+use view::{Lattice, MAX_POINTS, Marks, Positions, RANKS_SIZE, Ranks};
 
 // The bytes of a fill.
 pub const FILL_SIZE: usize = 20;
@@ -28,12 +31,6 @@ pub const FILL_SIZE: usize = 20;
 pub struct FillCounts {
     pub points: usize,
     pub fills: usize,
-}
-
-#[derive(Clone, Copy)]
-pub enum FillAnswer {
-    Refused(u8),
-    Filled(FillCounts),
 }
 
 // ---- the bytes of a fill
@@ -60,7 +57,7 @@ fn put_prediction(w: &mut Writer, p: Option<PredictedPosition>)
         None => put_numbers(w, 0, 0, 0),
         Some(p) => put_numbers(
             w,
-            p.n_axis_pairs as u32,
+            u32::from(p.n_axis_pairs),
             float::to_bits(p.x),
             float::to_bits(p.y),
         ),
@@ -79,21 +76,15 @@ fn put_fill(w: &mut Writer, key: u32, marks: u8, fill: Option<PredictedPosition>
     put_prediction(w, fill);
 }
 
-// The fills of n points in cell order, from the start of the buffer: how many bytes they are.
+// The fills of a sheet's points in cell order, from the start of the buffer: how many bytes they are.
 #[inline(never)]
-fn put_fills(
-    n: usize,
-    keys: &Words,
-    marks: &Marks,
-    fills: Fills,
-    out: &mut [u8],
-) -> Result<usize, NoRoom>
-    requires { n ≤ max_points }
-    ensures { Shows (fills_bytes (cells_at keys.now) marks.now fills n) out.old out.new result }
+fn put_fills(sheet: &Sheet, marks: &Marks, fills: &Fills, out: &mut [u8]) -> Result<usize, NoRoom>
+    requires { sheet.now.count ≤ max_points }
+    ensures { Shows (fills_bytes (cells_at sheet.now.table.keys) marks.now fills.now sheet.now.count) out.old out.new result }
 {
     let mut w = Writer::new(out);
-    for k in 0..n {
-        put_fill(&mut w, keys[k], marks[k], fills[k]);
+    for k in 0..sheet.count {
+        put_fill(&mut w, sheet.table.keys[k], marks[k], fills[k]);
     }
     w.answer()
 }
@@ -104,8 +95,16 @@ fn write_fills(sheet: &Sheet, ranks: &Ranks, marks: &Marks, out: &mut [u8]) -> R
     requires { sheet.now.count ≤ max_points }
     ensures { Shows (fills_bytes (cells_at sheet.now.table.keys) marks.now (fills_of (view_at sheet.now.count ranks.now sheet.now.table.x sheet.now.table.y) (sides_of sheet.now.settings) marks.now) sheet.now.count) out.old out.new result }
 {
-    let fills = judging::fills(sheet, ranks, marks);
-    put_fills(sheet.count, &sheet.table.keys, marks, fills, out)
+    let lattice = Lattice {
+        ranks,
+        count: sheet.count,
+    };
+    let seen = Positions {
+        x: &sheet.table.x,
+        y: &sheet.table.y,
+    };
+    let fills = judging::fills(&lattice, &seen, marks);
+    put_fills(sheet, marks, &fills, out)
 }
 
 // ---- the call
@@ -121,36 +120,43 @@ fn as_rows(room: usize) -> usize
     ROWS_SIZE
 }
 
-// Writes the fills of a sheet that was read of a file; or gives the number of a refusal, and writes nothing.
+// Writes the fills of a sheet that was read of a file, and gives the counts.
 #[inline(never)]
-fn fill_read(file: &[u8], sheet: Sheet, out: &mut [u8]) -> FillAnswer
-    requires { Ruled (fill_ruling file.now (length out.old)) sheet }
-    ensures answer { result ≡ fill_answer_of file.now (length out.old) }
+fn fill_read(file: &[u8], sheet: &Sheet, out: &mut [u8]) -> FillCounts
+    requires { Ruled (fill_ruling file.now (length out.old)) (Ok sheet.now) }
+    ensures counts { Ok result ≡ fill_answer_of file.now (length out.old) }
     ensures fills { out.new ≡ fills_after file.now out.old }
 {
-    let n = sheet.count;
-    let number = sheet.table.number;
-    if number == 0 {
-        let mut figures = [NO_FIGURES; MAX_POINTS];
-        let mut ranks = [0u16; RANKS_SIZE];
-        let j = judging::judge_sheet(&sheet, &mut ranks, &mut figures);
-        let marks = j.marks;
-        let Ok(size) = write_fills(&sheet, &ranks, &marks, out) else {
-            unreachable!()
-        };
-        return FillAnswer::Filled(FillCounts {
-            points: n,
-            fills: size / FILL_SIZE,
-        });
+    let mut figures = [NO_FIGURES; MAX_POINTS];
+    let mut ranks = [0u16; RANKS_SIZE];
+    let points = Columns {
+        settings: sheet.settings,
+        count: sheet.count,
+        keys: &sheet.table.keys,
+        idx: &sheet.table.idx,
+        x: &sheet.table.x,
+        y: &sheet.table.y,
+        strength: &sheet.table.strength,
+    };
+    let j = judging::judge_sheet(&points, &mut ranks, &mut figures);
+    let marks = j.marks;
+    let Ok(size) = write_fills(sheet, &ranks, &marks, out) else {
+        unreachable!()
+    };
+    FillCounts {
+        points: sheet.count,
+        fills: size / FILL_SIZE,
     }
-    FillAnswer::Refused(number)
 }
 
-// The call: the positions for the dropped points of a sheet file, 20 bytes each, in cell order, and the counts; or the number of a refusal.
-pub fn fill_sheet(file: &[u8], out: &mut [u8]) -> FillAnswer
-    ensures answer { result ≡ fill_answer_of file.now (length out.old) }
+// The call: writes the positions for the dropped points of a sheet file, 20 bytes each, in cell order, and gives the counts; or a refusal, and
+// writes nothing.
+pub fn fill_sheet(file: &[u8], out: &mut [u8]) -> Result<FillCounts, Refusal>
+    ensures answer { numbered result ≡ fill_answer_of file.now (length out.old) }
     ensures fills { out.new ≡ fills_after file.now out.old }
 {
-    let sheet = ruling::read(file, as_rows(out.len()));
-    fill_read(file, sheet, out)
+    match &ruling::read(file, as_rows(out.len())) {
+        Ok(sheet) => Ok(fill_read(file, sheet, out)),
+        Err(refusal) => Err(*refusal),
+    }
 }

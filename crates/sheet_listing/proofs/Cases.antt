@@ -3,6 +3,9 @@ use mathlib.Core.Path.{◌≡◌, sym, ap, ◌∙◌}
 use mathlib.Core.List.{List}
 use Prim.Native.Nat.{ℕ, ◌≤◌}
 use lib.ListN.{length}
+use Rattle.std.proofs.Common.{Ok, Err}
+use Rattle.refusals.specs.Number.{refusal_number}
+use Rattle.refusals.specs.declared.Refusal.{Refusal}
 use Rattle.view.specs.View.{max_points, view_at}
 use Rattle.cells.specs.Points.{indices_of}
 use Rattle.cells.specs.Cell.{Cell, cells_at, cells_of}
@@ -24,23 +27,23 @@ use Rattle.listing.specs.Listing.{listing_of}
 use Rattle.sheet_listing.specs.Text.{text_by, text_of}
 use Rattle.sheet_listing.proofs.Laws.{text-is}
 
-module _ (file : List ℕ) (bytes : Bytes file) (r : Sheet) (h : Ruled (ruling_of file rows_size) r) where
-  abbrev of : r.table.number ≡ 0 → AcceptedSheet file rows_size r
-  of z = accepted-sheet file rows_size r h z
+-- a sheet that was read of an accepted file
+module _ (file : List ℕ) (bytes : Bytes file) (r : Sheet) (h : Ruled (ruling_of file rows_size) (Ok r)) where
+  abbrev o : AcceptedSheet file rows_size r
+  o = accepted-sheet file rows_size r h
 
-  pub arrays : r.table.number ≡ 0 → Arrays r.count r.table.keys r.table.x r.table.y r.table.strength
-  arrays z = sheet-arrays file rows_size r bytes (of z)
+  pub arrays : Arrays r.count r.table.keys r.table.x r.table.y r.table.strength
+  arrays = sheet-arrays file rows_size r bytes o
 
-  pub few : r.table.number ≡ 0 → r.count ≤ max_points
-  few z = sheet-few file rows_size r bytes (of z)
+  pub few : r.count ≤ max_points
+  few = sheet-few file rows_size r bytes o
 
   -- with the table of ranks
-  module _ (z : r.table.number ≡ 0) {ranks : List ℕ} (f : ranks ≡ ranks_of r.count r.table.keys r.table.idx) where
+  module _ {ranks : List ℕ} (f : ranks ≡ ranks_of r.count r.table.keys r.table.idx) where
     pub listed : {j : Judged} {fills : List Prediction} → j ≡ judged_by r.settings r.count r.table.keys r.table.idx r.table.x r.table.y r.table.strength
         → fills ≡ fills_of (view_at r.count ranks r.table.x r.table.y) (sides_of r.settings) j.marks
         → listing_of r.count (cells_at r.table.keys) r.table.idx j fills ≡ text_of file
     listed {j} {fills} e g =
-        let o = of z in
         let ps = o.points in
         let s = o.settings in
         let t = o.sheet.table_is in
@@ -53,5 +56,6 @@ module _ (file : List ℕ) (bytes : Bytes file) (r : Sheet) (h : Ruled (ruling_o
         ∙ ap (listing_of (length ps) (cells_of ps) (indices_of ps) (judged_for s ps)) filled
         ∙ sym (text-is file ∙ ap text_by o.ruled)
 
-  pub turned : (r.table.number ≡ 0 → ⊥) → refusal_of r.table.number ≡ text_of file
-  turned f = sym (text-is file ∙ ap text_by (refused-sheet file rows_size r h f))
+-- a refusal
+pub turned : (file : List ℕ) (d : Refusal) → Ruled (ruling_of file rows_size) (Err d) → refusal_of (refusal_number d) ≡ text_of file
+turned file d h = sym (text-is file ∙ ap text_by (refused-sheet file rows_size d h))

@@ -5,32 +5,46 @@ ghost use Rattle.text.specs.Answer.{Shows};
 ghost use Rattle.sheet_listing.specs.Text.{text_of};
 
 use edge_shape::NO_FIGURES;
+use judging::Columns;
+use listing::Points;
 use ruling::ROWS_SIZE;
 use text::NoRoom;
-use view::{MAX_POINTS, RANKS_SIZE};
+use view::{Lattice, MAX_POINTS, Positions, RANKS_SIZE};
 
 // Writes the listing of a sheet file, or `refused` and the number.
 pub fn list_sheet(file: &[u8], out: &mut [u8]) -> Result<usize, NoRoom>
     ensures { Shows (text_of file.now) out.old out.new result }
 {
-    let sheet = ruling::read(file, ROWS_SIZE);
-    let n = sheet.count;
-    let number = sheet.table.number;
-    if number == 0 {
-        let mut figures = [NO_FIGURES; MAX_POINTS];
-        let mut ranks = [0u16; RANKS_SIZE];
-        let j = judging::judge_sheet(&sheet, &mut ranks, &mut figures);
-        let marks = j.marks;
-        let fills = judging::fills(&sheet, &ranks, &marks);
-        return listing::write_listing(
-            n,
-            &sheet.table.keys,
-            &sheet.table.idx,
-            j,
-            fills,
-            &figures,
-            out,
-        );
+    match &ruling::read(file, ROWS_SIZE) {
+        Ok(sheet) => {
+            let mut figures = [NO_FIGURES; MAX_POINTS];
+            let mut ranks = [0u16; RANKS_SIZE];
+            let columns = Columns {
+                settings: sheet.settings,
+                count: sheet.count,
+                keys: &sheet.table.keys,
+                idx: &sheet.table.idx,
+                x: &sheet.table.x,
+                y: &sheet.table.y,
+                strength: &sheet.table.strength,
+            };
+            let j = judging::judge_sheet(&columns, &mut ranks, &mut figures);
+            let lattice = Lattice {
+                ranks: &ranks,
+                count: sheet.count,
+            };
+            let seen = Positions {
+                x: &sheet.table.x,
+                y: &sheet.table.y,
+            };
+            let fills = judging::fills(&lattice, &seen, &j.marks);
+            let points = Points {
+                keys: columns.keys,
+                idx: columns.idx,
+                count: sheet.count,
+            };
+            listing::write_listing(&points, &j, &fills, |k| figures[k].reason, out)
+        }
+        Err(refusal) => text::write_refusal(refusal.number(), out),
     }
-    text::write_refusal(number, out)
 }

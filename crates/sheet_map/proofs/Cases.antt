@@ -4,6 +4,9 @@ use mathlib.Core.Bool.{Bool, true, false, cond}
 use mathlib.Core.List.{List}
 use Prim.Native.Nat.{ℕ}
 use lib.ListN.{length}
+use Rattle.std.proofs.Common.{Ok, Err}
+use Rattle.refusals.specs.Number.{refusal_number}
+use Rattle.refusals.specs.declared.Refusal.{Refusal}
 use Rattle.cells.specs.Points.{Point}
 use Rattle.cells.specs.Cell.{Cell, cells_at, cells_of}
 use Rattle.cells.proofs.Keys.{cells_are}
@@ -29,23 +32,24 @@ choice false k s ps = refl
 abbrev shown : ℕ → (ℕ → Cell) → List ℕ → List ℕ
 shown n cell marks = cond (too_wide n cell) (refusal_of 10) (map_of n cell marks)
 
-module _ (file : List ℕ) (bytes : Bytes file) (r : Sheet) (h : Ruled (ruling_of file rows_size) r) where
-  pub turned : (r.table.number ≡ 0 → ⊥) → refusal_of r.table.number ≡ map_text_of file
-  turned f = sym (text-is file ∙ ap map_by (older-first file r.table.number (refused-sheet file rows_size r h f)))
+-- a sheet that was read of an accepted file
+module _ (file : List ℕ) (bytes : Bytes file) (r : Sheet) (h : Ruled (ruling_of file rows_size) (Ok r)) where
+  abbrev o : AcceptedSheet file rows_size r
+  o = accepted-sheet file rows_size r h
 
-  module _ (z : r.table.number ≡ 0) where
-    abbrev o : AcceptedSheet file rows_size r
-    o = accepted-sheet file rows_size r h z
+  pub ready : Arrays r.count r.table.keys r.table.x r.table.y r.table.strength
+  ready = sheet-arrays file rows_size r bytes o
 
-    pub ready : Arrays r.count r.table.keys r.table.x r.table.y r.table.strength
-    ready = sheet-arrays file rows_size r bytes o
+  cells : cells_at r.table.keys ≡ cells_of o.points
+  cells = ap cells_at o.sheet.table_is.keys-are ∙ cells_are o.points (accepted-order file rows_size o.settings o.points bytes o.ruled).inside
 
-    cells : cells_at r.table.keys ≡ cells_of o.points
-    cells = ap cells_at o.sheet.table_is.keys-are ∙ cells_are o.points (accepted-order file rows_size o.settings o.points bytes o.ruled).inside
+  pub drawn : drawn_by r.settings r.count r.table.keys r.table.idx r.table.x r.table.y r.table.strength ≡ map_text_of file
+  drawn =
+      ap (λ x. shown r.count (cells_at r.table.keys) x.marks) (sheet-judged file rows_size r bytes o)
+      ∙ ap (λ (n : ℕ). shown n (cells_at r.table.keys) (judged_for o.settings o.points).marks) o.sheet.count-is
+      ∙ ap (λ (cell : ℕ → Cell). shown (length o.points) cell (judged_for o.settings o.points).marks) cells
+      ∙ sym (text-is file ∙ ap map_by (drawn-or-ten file o.settings o.points o.ruled) ∙ choice (too_wide (length o.points) (cells_of o.points)) 10 o.settings o.points)
 
-    pub drawn : drawn_by r.settings r.count r.table.keys r.table.idx r.table.x r.table.y r.table.strength ≡ map_text_of file
-    drawn =
-        ap (λ x. shown r.count (cells_at r.table.keys) x.marks) (sheet-judged file rows_size r bytes o)
-        ∙ ap (λ (n : ℕ). shown n (cells_at r.table.keys) (judged_for o.settings o.points).marks) o.sheet.count-is
-        ∙ ap (λ (cell : ℕ → Cell). shown (length o.points) cell (judged_for o.settings o.points).marks) cells
-        ∙ sym (text-is file ∙ ap map_by (drawn-or-ten file o.settings o.points o.ruled) ∙ choice (too_wide (length o.points) (cells_of o.points)) 10 o.settings o.points)
+-- a refusal
+pub turned : (file : List ℕ) (d : Refusal) → Ruled (ruling_of file rows_size) (Err d) → refusal_of (refusal_number d) ≡ map_text_of file
+turned file d h = sym (text-is file ∙ ap map_by (older-first file (refusal_number d) (refused-sheet file rows_size d h)))

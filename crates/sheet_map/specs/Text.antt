@@ -1,6 +1,6 @@
 -- "A map on one page": what the program `map` prints of any bytes. Assumes nothing.
 use Rattle.std.specs.Prelude.{List, [], ◌∷◌, ℕ, length}
-use Rattle.refusals.specs.First.{Refusal, ruled}
+use Rattle.refusals.specs.First.{Condition, ruled}
 use Rattle.cells.specs.Points.{Point}
 use Rattle.cells.specs.Cell.{cells_of}
 use Rattle.ruling.specs.Ruling.{Ruling, refused, accepted, ruling_of, rows_size}
@@ -9,7 +9,7 @@ use Rattle.text.specs.Text.{refusal_of}
 use Rattle.map_lines.specs.Map.{too_wide, map_of}
 
 -- "It refuses with 10, after all older checks, points that span more than 72 values of u or 60 of v."
-unfoldable pub map_refusals : List Point → List Refusal
+unfoldable pub map_refusals : List Point → List Condition
 map_refusals ps = (10, too_wide (length ps) (cells_of ps)) ∷ []
 
 -- the ruling on a sheet that is to be drawn: that on the sheet, and then the map's own

@@ -3,57 +3,29 @@
 // rows, fills, bytes after either, listing or map differ from the record, and at the end how many files there were and how many differ.
 #![tactic(auto)]
 
+ghost use Rattle.std.specs.Prelude.{◌^◌, ◌<◌};
+
 use listing::LISTING_SIZE;
 use map_lines::MAP_SIZE;
 use recorded::{LONGEST, ROOM, RecordedAnswer, RecordedFills};
 use std::io::Read;
+use text::NoRoom;
 
-// The call answers as recorded, and leaves the expected bytes in the buffer and beyond it.
-fn is_kept(
+// The text that `write` writes of the file is the recorded one, which is read.
+fn is_written<const SIZE: usize, R: Read, W: Fn(&[u8], &mut [u8]) -> Result<usize, NoRoom>>(
+    input: &mut R,
     file: &[u8],
-    room: usize,
-    answer: RecordedAnswer,
-    rows: &mut [u8],
-    expected: &[u8],
-) -> bool {
-    recorded::fill(rows);
-    if rows.len() < room {
-        return false;
-    }
-    let came = kept::keep(file, &mut rows[..room]);
-    recorded::is_recorded(came, answer) & check::same(rows, expected)
-}
-
-fn is_listed<R: Read>(input: &mut R, file: &[u8], size: usize) -> bool {
-    let mut listing = [0u8; LISTING_SIZE];
-    let mut out = [0u8; LISTING_SIZE];
-    let read = recorded::read_part(input, &mut listing, size);
-    let written = sheet_listing::list_sheet(file, &mut out);
-    read & recorded::is_text(written, &out, &listing, size)
-}
-
-fn is_drawn<R: Read>(input: &mut R, file: &[u8], size: usize) -> bool {
-    let mut map = [0u8; MAP_SIZE];
-    let mut out = [0u8; MAP_SIZE];
-    let read = recorded::read_part(input, &mut map, size);
-    let written = sheet_map::draw_sheet(file, &mut out);
-    read & recorded::is_text(written, &out, &map, size)
-}
-
-// The call for the fills answers as recorded, and leaves the expected bytes in the buffer and beyond it.
-fn is_filled(
-    file: &[u8],
-    room: usize,
-    answer: RecordedFills,
-    fills: &mut [u8],
-    expected: &[u8],
-) -> bool {
-    recorded::fill(fills);
-    if fills.len() < room {
-        return false;
-    }
-    let came = sheet_fills::fill_sheet(file, &mut fills[..room]);
-    recorded::is_filled(came, answer) & check::same(fills, expected)
+    size: usize,
+    write: W,
+) -> bool
+    requires small { SIZE < 2 ^ 63 }
+    requires callable { W.IsAlwaysCallable write }
+{
+    let mut expected = [0u8; SIZE];
+    let mut out = [0u8; SIZE];
+    let read = recorded::read_part(input, &mut expected, size);
+    let written = write(file, &mut out);
+    read & recorded::is_text(written, &out, &expected, size)
 }
 
 // Reads what is recorded of the file, after the numbers, and replays it.
@@ -69,11 +41,19 @@ fn agrees<R: Read>(
     let mut came = [0u8; ROOM];
     let mut expected = [0u8; ROOM];
     let rows_read = recorded::read_entries(input, &mut expected, 28, answer.points);
-    let kept = is_kept(file, room, answer, &mut came, &expected);
-    let listed = is_listed(input, file, listing_size);
-    let drawn = is_drawn(input, file, map_size);
+    let kept = recorded::leaves(&mut came, room, &expected, |rows| {
+        let came = kept::keep(file, rows).map_err(|refusal| refusal.number());
+        recorded::is_recorded(came, answer)
+    });
+    let list = sheet_listing::list_sheet;
+    let listed = is_written::<LISTING_SIZE, R, _>(input, file, listing_size, list);
+    let draw = sheet_map::draw_sheet;
+    let drawn = is_written::<MAP_SIZE, R, _>(input, file, map_size, draw);
     let fills_read = recorded::read_entries(input, &mut expected, 20, fills.fills);
-    let filled = is_filled(file, room, fills, &mut came, &expected);
+    let filled = recorded::leaves(&mut came, room, &expected, |out| {
+        let came = sheet_fills::fill_sheet(file, out).map_err(|refusal| refusal.number());
+        recorded::is_filled(came, fills)
+    });
     rows_read & kept & listed & drawn & fills_read & filled
 }
 
@@ -101,11 +81,5 @@ fn replay<R: Read>(input: &mut R) -> bool {
 }
 
 fn main(rt: HostRuntime) {
-    let mut input = rt.stdin();
-    let count = recorded::read_number(&mut input);
-    let mut differ: usize = 0;
-    for i in 0..count {
-        differ += recorded::print_case(&rt, i + 1, replay(&mut input));
-    }
-    recorded::print_counts(&rt, count, differ);
+    recorded::replay_all(&rt, &mut rt.stdin(), |input| replay(input));
 }

@@ -1,6 +1,6 @@
 -- The sheet of five points in document 01, and a row of three with strengths, each from the bytes of its file to the text that is printed, by
 -- computation. Assumes nothing.
-use Rattle.std.specs.Prelude.{◌≡◌, refl, Bool, true, List, [], ◌∷◌, ◌++◌, ℕ, replicate}
+use Rattle.std.specs.Prelude.{◌≡◌, refl, Bool, true, List, [], ◌∷◌, ◌++◌, ℕ, replicate, Ok, Err}
 use Rattle.sheet_file.specs.Bytes.{le16, le32}
 use Rattle.sheet_file.specs.Frame.{field_at, points_from, gate_from, framing_of}
 use Rattle.sheet_file.specs.Refusals.{edge_shape_of, fraction_of, settings_of, bad_flag, bad_float}
@@ -8,12 +8,10 @@ use Rattle.points.specs.Records.{points_in}
 use Rattle.ruling.specs.Ruling.{ruling_of}
 use Rattle.rows.specs.Rows.{row_byte}
 use Rattle.kept.specs.Answer.{answer_of, rows_after}
-use Rattle.kept.specs.declared.Answer.TheVariants.{Accepted}
 use Rattle.stars.specs.Stars.{rules-compute}
 use Rattle.text.specs.Text.{bytes}
 use Rattle.sheet_listing.specs.Text.{text_of}
 use Rattle.sheet_fills.specs.Answer.{fill_answer_of, fills_after}
-use Rattle.sheet_fills.specs.declared.FillAnswer.TheVariants.{Refused, Filled}
 
 -- "length-4 settings with cell size 100; points in this order: cell (5,5) index 14 at (500,500); (0,0) 10 at (0,0); (1,0) 11 at (100,0);
 -- (0,1) 12 at (0,100); (1,1) 13 at (100,100)"
@@ -34,7 +32,7 @@ unfolding ruling_of framing_of gate_from points_from field_at le16 le32 bad_flag
 file-computes = true
 
 -- the call's answer, with a buffer of 28 bytes a point
-pub answered : answer_of file 140 ≡ Accepted (record { points = 5; components = 2; rounds = 0 })
+pub answered : answer_of file 140 ≡ Ok (record { points = 5; components = 2; rounds = 0 })
 unfolding answer_of file-computes rules-compute
 answered = refl
 
@@ -53,7 +51,7 @@ unfolding rows_after row_byte file-computes rules-compute
 rows_left = refl
 
 -- the fills that the call for them leaves in a buffer of 20 bytes a point: (5,5) is dropped and has no pair
-pub fills-answered : (fill_answer_of file 100 ≡ Filled (record { points = 5; fills = 1 })) × (fill_answer_of file 99 ≡ Refused 3)
+pub fills-answered : (fill_answer_of file 100 ≡ Ok (record { points = 5; fills = 1 })) × (fill_answer_of file 99 ≡ Err 3)
 unfolding fill_answer_of file-computes rules-compute
 fills-answered = (refl, refl)
 
@@ -77,7 +75,7 @@ row_file =
     ∷ []
 
 -- the call's answer: two rounds, the first two go one after the other
-pub row-answered : answer_of row_file 84 ≡ Accepted (record { points = 3; components = 1; rounds = 2 })
+pub row-answered : answer_of row_file 84 ≡ Ok (record { points = 3; components = 1; rounds = 2 })
 unfolding answer_of file-computes rules-compute
 row-answered = refl
 

@@ -1,6 +1,6 @@
 -- "The starred sheets go into one proved table about the rules": each by computation of the definitions. The two starred lines about f32
 -- alone are in `float`, sheets with strengths in WeakEnds.antt. Assumes nothing.
-use Rattle.std.specs.Prelude.{◌≡◌, refl, Bool, true, List, [], ◌∷◌, ℕ, length, get_or, None}
+use Rattle.std.specs.Prelude.{◌≡◌, refl, Bool, true, List, [], ◌∷◌, ℕ, length, get_or, None, is_some}
 use Rattle.folds.specs.Arith.{f32}
 use Rattle.folds.specs.Lists.{All, list_of}
 use Rattle.folds.specs.Marked.{bit}
@@ -12,9 +12,8 @@ use Rattle.grid.specs.Views.{view_of}
 use Rattle.sheet_file.specs.declared.Settings.{Settings}
 use Rattle.sheet_file.specs.declared.Fraction.TheVariants.{Missing}
 use Rattle.sheet_file.specs.Refusals.{defaults_for}
-use Rattle.local_h.specs.declared.Residual.TheVariants.{NoFit}
 use Rattle.local_h.specs.Residual.{residuals-compute}
-use Rattle.residuals.specs.ByIndex.{has_value, last_fit, index_residual, residuals_of, index_flags}
+use Rattle.residuals.specs.ByIndex.{last_fit, index_residual, residuals_of, index_flags}
 use Rattle.lines.specs.Flags.{flag_count}
 use Rattle.step.specs.Step.{step_at, scale_at}
 use Rattle.step.specs.Deviation.{deviates}
@@ -59,7 +58,7 @@ said_of settings ps =
       rounds = j.rounds;
       flags = list_of (length ps) (λ (k : ℕ). get_or flags (w.by_idx k) 0);
       votes = list_of (length ps) (vote_at w);
-      residuals = list_of (length ps) (λ (k : ℕ). bit (has_value (get_or j.residuals k NoFit)));
+      residuals = list_of (length ps) (λ (k : ℕ). bit (is_some (get_or j.residuals k None)));
       marks = list_of (length ps) (λ (k : ℕ). get_or j.marks k 0);
       tally = j.tally;
     }

@@ -39,6 +39,7 @@ unfolding lt of_bits
 kept_step (Some s) = cond (lt zero s && finite s) s zero
 kept_step None = zero
 
+-- the local step of rank m: the mean of the steps along u and along v, where it is finite and positive, else 0
 unfoldable pub local_step : View → ℕ → Float
 unfolding axis_step mean_step kept_step
 local_step w m = kept_step (mean_step (axis_step w prev_u next_u m) (axis_step w prev_v next_v m))

@@ -1,7 +1,7 @@
 // The local step of each index, its scale, and the steps that lie too far from their median.
 #![tactic(auto)]
 
-ghost use Rattle.std.specs.Prelude.{◌≡◌, true, ◌&&◌, ℕ, ◌≤◌, ◌<◌, get_or};
+ghost use Rattle.std.specs.Prelude.{◌≡◌, List, Float, true, ◌&&◌, ℕ, ◌<◌, get_or};
 ghost use Rattle.std.specs.Float.{nan};
 ghost use Rattle.std.specs.Float.Ieee.{lt};
 ghost use Rattle.std.specs.Float.Ieee.Scale.{finite};
@@ -11,39 +11,39 @@ ghost use Rattle.folds.specs.Column.{column};
 ghost use Rattle.folds.specs.Marked.{bit};
 ghost use Rattle.offsets.specs.Offsets.{is_near};
 ghost use Rattle.view.specs.View.{max_points, view_at};
-ghost use Rattle.view.specs.Seen.{view_in};
+ghost use Rattle.view.specs.Seen.{seen_in};
 ghost use Rattle.step.specs.Step.{spacing, axis_step, mean_step, kept_step, local_step, step_at, scale_at};
 ghost use Rattle.step.specs.Deviation.{is_step_outside, deviates};
 
 use float::Distance;
+use median::Numbers;
 use offsets::Offset;
-use view::{Floats, Lattice, MAX_POINTS, Marks, View};
+use view::{Floats, Lattice, MAX_POINTS, Marks, Positions, SheetLattice};
 
 // The distance from rank p to rank q.
-fn spacing(x: &Floats, y: &Floats, p: usize, q: usize) -> Distance
+pub fn spacing(seen: &Positions, p: usize, q: usize) -> Distance
     requires { (p < max_points) × (q < max_points) }
-    ensures { result ≡ spacing (λ (k : ℕ). get_or x.now k nan) (λ (k : ℕ). get_or y.now k nan) p q }
+    ensures { result ≡ spacing (λ (k : ℕ). get_or seen.now.x.now k nan) (λ (k : ℕ). get_or seen.now.y.now k nan) p q }
 {
-    float::norm(x[q] - x[p], y[q] - y[p])
+    float::norm(seen.x[q] - seen.x[p], seen.y[q] - seen.y[p])
 }
 
 // The step of rank m along the axis with the neighbours at the two offsets, or none. Half a distance and a mean of two are no roots, so
 // that a step has no remainder.
 fn axis_step(
     lattice: &Lattice,
-    x: &Floats,
-    y: &Floats,
+    seen: &Positions,
     m: usize,
     before: Offset,
     after: Offset,
 ) -> Option<f32>
     requires { (m < max_points) × (is_near before ≡ true) × (is_near after ≡ true) }
-    ensures { result ≡ axis_step (view_at lattice.now.count lattice.now.ranks.now x.now y.now) before after m }
+    ensures { result ≡ axis_step (seen_in lattice.now seen.now) before after m }
 {
     match (lattice.neighbour(m, before), lattice.neighbour(m, after)) {
-        (Some(l), Some(r)) => Some(spacing(x, y, l, r).value * 0.5),
-        (Some(l), None) => Some(spacing(x, y, l, m).value),
-        (None, Some(r)) => Some(spacing(x, y, m, r).value),
+        (Some(l), Some(r)) => Some(spacing(seen, l, r).value * 0.5),
+        (Some(l), None) => Some(spacing(seen, l, m).value),
+        (None, Some(r)) => Some(spacing(seen, m, r).value),
         (None, None) => None,
     }
 }
@@ -74,22 +74,22 @@ fn kept_step(a: Option<f32>) -> f32
     if is_positive(s) { s } else { 0.0 }
 }
 
-fn local_step(lattice: &Lattice, x: &Floats, y: &Floats, m: usize) -> f32
+fn local_step(lattice: &Lattice, seen: &Positions, m: usize) -> f32
     requires { m < max_points }
-    ensures { result ≡ local_step (view_at lattice.now.count lattice.now.ranks.now x.now y.now) m }
+    ensures { result ≡ local_step (seen_in lattice.now seen.now) m }
 {
-    let u = axis_step(lattice, x, y, m, offsets::PREV_U, offsets::NEXT_U);
-    let v = axis_step(lattice, x, y, m, offsets::PREV_V, offsets::NEXT_V);
+    let u = axis_step(lattice, seen, m, offsets::PREV_U, offsets::NEXT_U);
+    let v = axis_step(lattice, seen, m, offsets::PREV_V, offsets::NEXT_V);
     kept_step(mean_step(u, v))
 }
 
 // The step at place m, or 0.
-fn step_at(lattice: &Lattice, x: &Floats, y: &Floats, aware: bool, m: usize) -> f32
+fn step_at(lattice: &Lattice, seen: &Positions, aware: bool, m: usize) -> f32
     requires { m < max_points }
-    ensures { result ≡ step_at (view_at lattice.now.count lattice.now.ranks.now x.now y.now) aware m }
+    ensures { result ≡ step_at (seen_in lattice.now seen.now) aware m }
 {
     if aware && lattice.index(m) == m {
-        local_step(lattice, x, y, m)
+        local_step(lattice, seen, m)
     } else {
         0.0
     }
@@ -97,41 +97,40 @@ fn step_at(lattice: &Lattice, x: &Floats, y: &Floats, aware: bool, m: usize) -> 
 
 // The step of each index, at the last of its ranks; 0 where there is none, and everywhere without the step flag.
 #[inline(never)]
-pub fn steps(lattice: &Lattice, x: &Floats, y: &Floats, aware: bool) -> Floats
-    ensures { result ≡ column max_points nan lattice.now.count (step_at (view_at lattice.now.count lattice.now.ranks.now x.now y.now) aware) }
+pub fn steps(lattice: &Lattice, seen: &Positions, aware: bool) -> Floats
+    ensures { result ≡ column max_points nan lattice.now.count (step_at (seen_in lattice.now seen.now) aware) }
 {
     view::filled(f32::NAN, lattice.count, |m| {
-        step_at(lattice, x, y, aware, m)
+        step_at(lattice, seen, aware, m)
     })
 }
 
 // The scale of rank k's index, from the steps of the indices.
-fn scale_at(view: &View, steps: &Floats, size: f32, k: usize) -> f32
-    requires { k < view.now.lattice.count }
-    ensures { result ≡ scale_at (view_in view.now) (λ (m : ℕ). get_or steps.now m nan) size k }
+fn scale_at(sheet: &SheetLattice, steps: &Floats, size: f32, k: usize) -> f32
+    requires { k < sheet.now.lattice.count }
+    ensures { (xs ys : List Float) → result ≡ scale_at (view_at sheet.now.lattice.count sheet.now.lattice.ranks.now xs ys) (λ (m : ℕ). get_or steps.now m nan) size k }
 {
-    let s = steps[view.lattice.index(k)];
+    let s = steps[sheet.lattice.index(k)];
     if 0.0 < s { s } else { size }
 }
 
 // The scale of each rank's index; `size` is the cell size.
 #[inline(never)]
-pub fn scales(view: &View, steps: &Floats, size: f32) -> Floats
-    ensures { result ≡ column max_points nan view.now.lattice.count (scale_at (view_in view.now) (λ (m : ℕ). get_or steps.now m nan) size) }
+pub fn scales(sheet: &SheetLattice, steps: &Floats, size: f32) -> Floats
+    ensures { (xs ys : List Float) → result ≡ column max_points nan sheet.now.lattice.count (scale_at (view_at sheet.now.lattice.count sheet.now.lattice.ranks.now xs ys) (λ (m : ℕ). get_or steps.now m nan) size) }
 {
-    view::filled(f32::NAN, view.lattice.count, |k| {
-        scale_at(view, steps, size, k)
+    view::filled(f32::NAN, sheet.lattice.count, |k| {
+        scale_at(sheet, steps, size, k)
     })
 }
 
 // How many steps there are.
-fn how_many(steps: &Floats, n: usize) -> usize
-    requires { n ≤ max_points }
-    ensures { result ≡ tally (λ (k : ℕ). lt zero (get_or steps.now k nan)) n }
+fn how_many(steps: &Numbers) -> usize
+    ensures { result ≡ tally (λ (k : ℕ). lt zero (get_or steps.now.values.now k nan)) steps.now.count }
 {
     let mut c: usize = 0;
-    for i in 0..n {
-        if 0.0 < steps[i] {
+    for i in 0..steps.count {
+        if 0.0 < steps.values[i] {
             c += 1;
         }
     }
@@ -145,22 +144,21 @@ fn is_outside(median: f32, t: f32, s: f32) -> bool
 }
 
 // 1 for each step outside the limits, else 0.
-fn mark_outside(steps: &Floats, n: usize, median: f32, t: f32) -> Marks
-    requires { n ≤ max_points }
-    ensures { result ≡ column max_points 0 n (λ (m : ℕ). bit (lt zero (get_or steps.now m nan) && is_step_outside median t (get_or steps.now m nan))) }
+fn mark_outside(steps: &Numbers, median: f32, t: f32) -> Marks
+    ensures { result ≡ column max_points 0 steps.now.count (λ (m : ℕ). bit (lt zero (get_or steps.now.values.now m nan) && is_step_outside median t (get_or steps.now.values.now m nan))) }
 {
-    view::filled(0, n, |m| {
-        u8::from(0.0 < steps[m] && is_outside(median, t, steps[m]))
+    view::filled(0, steps.count, |m| {
+        let s = steps.values[m];
+        u8::from(0.0 < s && is_outside(median, t, s))
     })
 }
 
 // 1 for each index whose step lies too far from the median of all steps, at its place, else 0. A threshold of 0 or less marks none.
-pub fn deviations(steps: &Floats, n: usize, t: f32) -> Marks
-    requires { n ≤ max_points }
-    ensures { result ≡ column max_points 0 n (λ (m : ℕ). bit (deviates (λ (k : ℕ). get_or steps.now k nan) n t m)) }
+pub fn deviations(steps: &Numbers, t: f32) -> Marks
+    ensures { result ≡ column max_points 0 steps.now.count (λ (m : ℕ). bit (deviates (λ (k : ℕ). get_or steps.now.values.now k nan) steps.now.count t m)) }
 {
-    if 0.0 < t && how_many(steps, n) >= 3 {
-        return mark_outside(steps, n, median::middle(steps, n), t);
+    if 0.0 < t && how_many(steps) >= 3 {
+        return mark_outside(steps, median::middle(steps), t);
     }
     [0; MAX_POINTS]
 }

@@ -14,7 +14,7 @@ use Rattle.cells.specs.Cell.{Cell}
 use Rattle.local_h.specs.Order.{offset_at}
 use Rattle.local_h.specs.Base.{member_at, on_line, is_other, places_of, has_four}
 use Rattle.local_h.specs.Residual.{residual_at}
-use Rattle.local_h.specs.declared.Residual.TheVariants.{NoFit}
+use Rattle.std.specs.Prelude.{None}
 use Rattle.local_h.proofs.Bases.{base-four, other-rank}
 use Rattle.local_h.proofs.Ordered.{entry-near}
 use Rattle.straight_row.specs.Row.{Row}
@@ -42,6 +42,6 @@ module _ (w : View) (r : Row w) (k : ℕ) (h : k < w.count) where
       (row_line (offset_at (places_of w k).a) (offset_at (places_of w k).b) (offset_at (places_of w k).d) along-a along-b (other-along (places_of w k).d o.within o.four)))
       ∙ o.off-line))
 
-  pub no-residual : (cell : ℕ → Cell) → residual_at w cell k ≡ NoFit
+  pub no-residual : (cell : ℕ → Cell) → residual_at w cell k ≡ None
   unfolding residual_at
   no-residual cell = rw no-four

@@ -14,8 +14,8 @@ pub struct NoRoom;
 // past the buffer's end, tells.
 #[derive(Drop)]
 pub struct Writer<'a> {
-    out: &'a mut [u8],
-    at: usize,
+    pub out: &'a mut [u8],
+    pub at: usize,
 }
 
 impl<'a> Writer<'a> {

@@ -31,6 +31,7 @@ abbrev pub gate_boundary : Option EdgeShapeParams → View → (ℕ → Cell) �
 gate_boundary None w cell = column max_points 0 w.count (λ (k : ℕ). 0)
 gate_boundary (Some g) w cell = boundary_of w (places square_sides) cell
 
+-- there is a gate: "Absent means no edge-shape gate."
 abbrev pub is_gated : Option EdgeShapeParams → Bool
 is_gated None = false
 is_gated (Some g) = true
@@ -49,6 +50,7 @@ module _ (s : Settings) (w : View) where
   unfoldable pub steps_of : List Float
   steps_of = column max_points nan w.count (step_at w s.use_step_aware)
 
+  -- the step at place m
   abbrev pub index_step : ℕ → Float
   index_step m = get_or steps_of m nan
 
@@ -56,6 +58,7 @@ module _ (s : Settings) (w : View) where
   unfoldable pub scales_of : List Float
   scales_of = column max_points nan w.count (scale_at w index_step s.cell_size)
 
+  -- the scale of rank k's index
   abbrev pub index_scale : ℕ → Float
   index_scale k = get_or scales_of k nan
 
@@ -67,6 +70,7 @@ module _ (s : Settings) (w : View) where
   unfoldable pub deviations_of : List ℕ
   deviations_of = column max_points 0 w.count (λ (m : ℕ). bit (deviates index_step w.count s.step_deviation_thresh_rel m))
 
+  -- the edge figures of each rank's index, by the settings' gate
   unfoldable pub figures_of : List Figures
   figures_of = gate_figures s.edge_shape w
 
@@ -79,6 +83,7 @@ module _ (s : Settings) (w : View) where
     abbrev pub evidence_of : Evidence
     evidence_of = evidence_by flags_of residual_flags_of.over residual_flags_of.high deviations_of
 
+    -- whether each rank's index lies on the boundary of its patch's box, where there is a gate
     unfoldable pub boundary_in : List ℕ
     boundary_in = gate_boundary s.edge_shape w cell
 
@@ -86,5 +91,6 @@ module _ (s : Settings) (w : View) where
     unfoldable pub validate_mark : ℕ → Bool
     validate_mark k = is_marked w evidence_of (w.by_idx k) || has_reason figures_of k
 
+    -- 1 at each rank whose index has the mark, else 0
     unfoldable pub validate_marks : List ℕ
     validate_marks = column max_points 0 w.count (λ (k : ℕ). bit (validate_mark k))

@@ -1,7 +1,7 @@
 // The validate mark of each index, its residual and its edge figures: rules 1 to 5 over lines, residuals, steps and edge shapes.
 #![tactic(auto)]
 
-ghost use Rattle.std.specs.Prelude.{◌≡◌, ◌||◌, ℕ, ◌≤◌, get_or};
+ghost use Rattle.std.specs.Prelude.{◌≡◌, ◌||◌, ℕ, get_or};
 ghost use Rattle.folds.specs.Column.{column};
 ghost use Rattle.folds.specs.Marked.{bit};
 ghost use Rattle.marks.specs.Marks.{is_set};
@@ -21,8 +21,9 @@ use edges::EdgeTable;
 use judged::Measured;
 use judged::figures::FigureColumn;
 use local_h::ResidualColumn;
+use median::Numbers;
 use sheet_file::{EdgeShapeParams, Settings};
-use view::{MAX_POINTS, Marks, View, Words};
+use view::{Lattice, MAX_POINTS, Marks, View, Words};
 
 // Rules 1 to 4: the mark of each rank's index, and its residual, in the place of what stood in the column.
 #[inline(never)]
@@ -30,18 +31,22 @@ fn by_rules(s: Settings, view: &View, keys: &Words, residuals: &mut ResidualColu
     ensures marks { result ≡ blame_marks (view_in view.now) (evidence_of s (view_in view.now) (cells_at keys.now)) }
     ensures residuals { residuals.new ≡ residuals_of (view_in view.now) (cells_at keys.now) }
 {
-    let steps = step::steps(&view.lattice, view.x, view.y, s.use_step_aware);
-    let scales = step::scales(view, &steps, s.cell_size);
+    let steps = step::steps(&view.lattice, &view.positions(), s.use_step_aware);
+    let scales = step::scales(&view.sheet(), &steps, s.cell_size);
     let flags = lines::line_flags(view, &scales, s.line_tol_rel, s.line_min_members);
     let r = residuals::index_residuals(view, keys, &scales, s.local_h_tol_rel, residuals);
-    let deviates = step::deviations(&steps, view.lattice.count, s.step_deviation_thresh_rel);
+    let index_steps = Numbers {
+        values: &steps,
+        count: view.lattice.count,
+    };
+    let deviates = step::deviations(&index_steps, s.step_deviation_thresh_rel);
     let evidence = Evidence {
         flags: &flags,
         over: &r.over,
         high: &r.high,
         deviates: &deviates,
     };
-    blame::marks(view, &evidence)
+    blame::marks(&view.sheet(), &evidence)
 }
 
 // The edge figures of each rank's index, into an empty array; none without a gate.
@@ -62,16 +67,15 @@ fn boundary_by(gate: Option<EdgeShapeParams>, view: &View, keys: &Words) -> Mark
 {
     match gate {
         None => [0; MAX_POINTS],
-        Some(_) => patches::boxes::boundary(view, keys, &patches::square_sides()),
+        Some(_) => patches::boxes::boundary(&view.sheet(), keys, &patches::square_sides()),
     }
 }
 
 // Rule 5, beside the others.
-fn with_reasons(mark: &Marks, figures: &FigureColumn, n: usize) -> Marks
-    requires { n ≤ max_points }
-    ensures { result ≡ column max_points 0 n (λ (k : ℕ). bit (is_set mark.now k || is_reason (get_or figures.now k no_figures).reason)) }
+fn with_reasons(lattice: &Lattice, mark: &Marks, figures: &FigureColumn) -> Marks
+    ensures { result ≡ column max_points 0 lattice.now.count (λ (k : ℕ). bit (is_set mark.now k || is_reason (get_or figures.now k no_figures).reason)) }
 {
-    view::filled(0, n, |k| {
+    view::filled(0, lattice.count, |k| {
         u8::from(mark[k] == 1 || figures[k].reason.is_some())
     })
 }
@@ -92,7 +96,7 @@ pub fn validate(
 {
     let ruled = by_rules(s, view, keys, residuals);
     Measured {
-        marks: with_reasons(&ruled, figures, view.lattice.count),
+        marks: with_reasons(&view.lattice, &ruled, figures),
         boundary: boundary_by(s.edge_shape, view, keys),
     }
 }

@@ -2,13 +2,18 @@
 use Rattle.std.specs.Prelude.{ℕ, cond, ltb, [], Option, Some, None}
 use Rattle.view.specs.View.{View, view_at}
 use Rattle.view.specs.declared.lattice.Lattice.{Lattice}
+use Rattle.view.specs.declared.lattice.Positions.{Positions}
 use Rattle.view.specs.declared.lattice.View.{View as Held}
 
 -- the view of a table of ranks, with no positions
 abbrev pub lattice_in : Lattice → View
 lattice_in l = view_at l.count l.ranks.now [] []
 
--- and with the positions
+-- and with positions
+abbrev pub seen_in : Lattice → Positions → View
+seen_in l p = view_at l.count l.ranks.now p.x.now p.y.now
+
+-- the view of both in one
 abbrev pub view_in : Held → View
 view_in v = view_at v.lattice.count v.lattice.ranks.now v.x.now v.y.now
 

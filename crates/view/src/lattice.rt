@@ -4,6 +4,13 @@ ghost use Rattle.view.specs.View.{max_points, Ranked};
 
 use crate::{Floats, Ranks};
 
+// Where each point is seen.
+#[derive(Clone, Copy)]
+pub struct Positions<'a> {
+    pub x: &'a Floats,
+    pub y: &'a Floats,
+}
+
 // The table of ranks of so many points.
 #[derive(Clone, Copy)]
 pub struct Lattice<'a> {
@@ -12,7 +19,14 @@ pub struct Lattice<'a> {
     ghost few: { count ≤ max_points },
 }
 
-// A table of ranks whose rows, columns and places of indices are ranks, and where each point is seen.
+// A table of ranks whose rows, columns and places of indices are ranks.
+#[derive(Clone, Copy)]
+pub struct SheetLattice<'a> {
+    pub lattice: Lattice<'a>,
+    ghost ranked: { Ranked lattice.count lattice.ranks.now },
+}
+
+// Such a table, and where each point is seen.
 #[derive(Clone, Copy)]
 pub struct View<'a> {
     pub lattice: Lattice<'a>,

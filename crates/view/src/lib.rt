@@ -1,16 +1,16 @@
 // What the filters see of a sheet, as arrays: the most points, the table of ranks and what is read of it. See specs/View.antt.
 #![tactic(auto)]
 
-ghost use Rattle.std.specs.Prelude.{◌≡◌, true, ℕ, ◌+◌, ◌*◌, ◌≤◌, ◌<◌, get_or, ltb, IfSome};
+ghost use Rattle.std.specs.Prelude.{◌≡◌, true, [], ℕ, ◌+◌, ◌*◌, ◌≤◌, ◌<◌, get_or, ltb, IfSome};
 ghost use Rattle.folds.specs.Column.{column, overlaid};
 ghost use Rattle.folds.specs.Marked.{bit};
-ghost use Rattle.offsets.specs.Offsets.{is_near};
-ghost use Rattle.view.specs.View.{max_points, ranks_size, rank_at, degree_at};
-ghost use Rattle.view.specs.Seen.{lattice_in, view_in, below};
+ghost use Rattle.offsets.specs.Offsets.{is_near, place_of};
+ghost use Rattle.view.specs.View.{max_points, ranks_size, rows_at, columns_at, indices_at, view_at, rank_at, degree_at};
+ghost use Rattle.view.specs.Seen.{lattice_in, below};
 
 mod lattice;
 
-pub use lattice::{Lattice, View};
+pub use lattice::{Lattice, Positions, SheetLattice, View};
 use offsets::Offset;
 
 // Every array with an entry for each point has this length.
@@ -62,6 +62,65 @@ pub fn filled<T: Copy, F: Fn(usize) -> T>(rest: T, n: usize, f: F) -> [T; MAX_PO
     out
 }
 
+// What the table has at place d of the 25 round rank k: the rank there, or a number that is no rank.
+pub fn rank_at_place(ranks: &Ranks, k: usize, d: usize) -> usize
+    requires { (k < max_points) × (d < 25) }
+    ensures { result ≡ get_or ranks.now (25 * k + d) 0 }
+{
+    usize::from(ranks[25 * k + d])
+}
+
+// What it has at offset o from rank k.
+pub fn rank_at(ranks: &Ranks, k: usize, o: Offset) -> usize
+    requires { (k < max_points) × (is_near o ≡ true) }
+    ensures { result ≡ get_or ranks.now (25 * k + place_of o) 0 }
+{
+    rank_at_place(ranks, k, offsets::place(o))
+}
+
+// The first rank of rank k's row.
+pub fn row_of(ranks: &Ranks, k: usize) -> usize
+    requires { k < max_points }
+    ensures { result ≡ get_or ranks.now (rows_at + k) 0 }
+{
+    usize::from(ranks[ROWS_AT + k])
+}
+
+// The first rank of rank k's column.
+pub fn column_of(ranks: &Ranks, k: usize) -> usize
+    requires { k < max_points }
+    ensures { result ≡ get_or ranks.now (columns_at + k) 0 }
+{
+    usize::from(ranks[COLUMNS_AT + k])
+}
+
+// The last rank with rank k's index, which is the place of the index.
+pub fn index_of(ranks: &Ranks, k: usize) -> usize
+    requires { k < max_points }
+    ensures { result ≡ get_or ranks.now (indices_at + k) 0 }
+{
+    usize::from(ranks[INDICES_AT + k])
+}
+
+// 1 if there is one of n points at offset o from rank k, else 0.
+fn there(ranks: &Ranks, n: usize, k: usize, o: Offset) -> u8
+    requires { (k < max_points) × (is_near o ≡ true) }
+    ensures { (result ≡ bit (ltb (get_or ranks.now (25 * k + place_of o) 0) n)) × (result ≤ 1) }
+{
+    u8::from(rank_at(ranks, k, o) < n)
+}
+
+// How many of the four cells that share an edge with rank k's hold one of n points.
+pub fn degree_at(ranks: &Ranks, n: usize, k: usize) -> u8
+    requires { k < max_points }
+    ensures { result ≡ degree_at (view_at n ranks.now [] []) k }
+{
+    there(ranks, n, k, offsets::NEXT_U)
+        + there(ranks, n, k, offsets::NEXT_V)
+        + there(ranks, n, k, offsets::PREV_U)
+        + there(ranks, n, k, offsets::PREV_V)
+}
+
 impl Lattice<'_> {
     // The rank at place d of the 25 round rank k, if there is a point.
     pub fn at_place(&self, k: usize, d: usize) -> Option<usize>
@@ -69,7 +128,7 @@ impl Lattice<'_> {
         ensures value { result ≡ below self.now.count (get_or self.now.ranks.now (25 * k + d) 0) }
         ensures inside { IfSome result (λ j. j < self.now.count) }
     {
-        let j = usize::from(self.ranks[25 * k + d]);
+        let j = rank_at_place(self.ranks, k, d);
         if j < self.count { Some(j) } else { None }
     }
 
@@ -87,7 +146,7 @@ impl Lattice<'_> {
         requires { k < max_points }
         ensures { result ≡ (lattice_in self.now).row k }
     {
-        usize::from(self.ranks[ROWS_AT + k])
+        row_of(self.ranks, k)
     }
 
     // The first rank of rank k's column.
@@ -95,7 +154,7 @@ impl Lattice<'_> {
         requires { k < max_points }
         ensures { result ≡ (lattice_in self.now).column k }
     {
-        usize::from(self.ranks[COLUMNS_AT + k])
+        column_of(self.ranks, k)
     }
 
     // The last rank with rank k's index, which is the place of the index.
@@ -103,15 +162,7 @@ impl Lattice<'_> {
         requires { k < max_points }
         ensures { result ≡ (lattice_in self.now).by_idx k }
     {
-        usize::from(self.ranks[INDICES_AT + k])
-    }
-
-    // 1 if there is a point at offset o from rank k, else 0.
-    fn there(&self, k: usize, o: Offset) -> u8
-        requires { (k < max_points) × (is_near o ≡ true) }
-        ensures { (result ≡ bit (ltb (rank_at (lattice_in self.now) k o) self.now.count)) × (result ≤ 1) }
-    {
-        u8::from(self.neighbour(k, o).is_some())
+        index_of(self.ranks, k)
     }
 
     // How many of the four cells that share an edge with rank k's hold a point.
@@ -119,20 +170,39 @@ impl Lattice<'_> {
         requires { k < max_points }
         ensures { result ≡ degree_at (lattice_in self.now) k }
     {
-        self.there(k, offsets::NEXT_U)
-            + self.there(k, offsets::NEXT_V)
-            + self.there(k, offsets::PREV_U)
-            + self.there(k, offsets::PREV_V)
+        degree_at(self.ranks, self.count, k)
     }
 }
 
-impl View<'_> {
+impl SheetLattice<'_> {
     // Writes at each rank what is held at the place of its index.
     pub fn spread<T: Copy>(&self, held: &[T; MAX_POINTS], out: &mut [T; MAX_POINTS])
-        ensures { (d : T) → out.new ≡ overlaid self.now.lattice.count (λ k. get_or held.now ((view_in self.now).by_idx k) d) out.old }
+        ensures { (d : T) → out.new ≡ overlaid self.now.lattice.count (λ k. get_or held.now ((lattice_in self.now.lattice).by_idx k) d) out.old }
     {
         for k in 0..self.lattice.count {
             out[k] = held[self.lattice.index(k)];
+        }
+    }
+}
+
+impl<'a> View<'a> {
+    // The view's table of ranks, without the positions.
+    pub fn sheet(&self) -> SheetLattice<'a>
+        ensures { result.lattice ≡ self.now.lattice }
+    {
+        SheetLattice {
+            lattice: self.lattice,
+        }
+    }
+
+    // Where each point of the view is seen, without the table.
+    pub fn positions(&self) -> Positions<'a>
+        ensures x { result.x ≡ self.now.x }
+        ensures y { result.y ≡ self.now.y }
+    {
+        Positions {
+            x: self.x,
+            y: self.y,
         }
     }
 }

@@ -1,7 +1,7 @@
 -- Where the fields of a written file are found: where they were put. Assumes nothing.
-use Rattle.std.specs.Prelude.{Some, is_some}
+use Rattle.std.specs.Prelude.{Option, Some, None, is_some, unwrap_or}
 use mathlib.Core.Path.{◌≡◌, refl, ap, ◌∙◌}
-use mathlib.Core.Bool.{Bool, true, false}
+use mathlib.Core.Bool.{Bool, true, false, cond}
 use mathlib.Core.Logic.{◌⊎◌, inl, inr}
 use mathlib.Core.List.{List, [], ◌++◌}
 use Prim.Native.Nat.{ℕ, ◌+◌, ◌*◌}
@@ -14,7 +14,8 @@ use Rattle.sheet_file.specs.Bytes.{byte_at, le16, little_endian}
 use Rattle.sheet_file.specs.Frame.{framing_of, layout_of, weights_of}
 use Rattle.sheet_file.specs.Grammar.{field, absent, present, WellFramed}
 use Rattle.sheet_file.specs.declared.Layout.{Layout}
-use Rattle.sheet_file.proofs.Fields.{weights-there, is_framed, field_in, StrengthsAt, strengths-there, strengths-absent, GateAt, gate-there, gate-absent, Fields, full-settings, short-settings, fields-of, PointsAt, points-in}
+use Rattle.sheet_file.specs.declared.Weights.{Weights}
+use Rattle.sheet_file.proofs.Fields.{is_framed, field_in, StrengthsAt, strengths-there, strengths-absent, GateAt, gate-there, gate-absent, Fields, full-settings, short-settings, fields-of, PointsAt, points-in}
 use Rattle.sheet_file.proofs.Grammar.{well-framed, points-counted}
 use Rattle.written_file.specs.File.{points_bytes, strength_bytes, weights, weighed_file}
 use Rattle.written_file.proofs.Parts.{records-length, strengths-length}
@@ -33,10 +34,15 @@ layout_for settings ps = record {
   weights = Some (record { at = length settings + 6 + 20 * length ps + 3; len = 4 + 4 * length ps });
 }
 
-same_layout : (f : Layout) {full gated : Bool} {points count at n : ℕ} → f.full ≡ full → f.gated ≡ gated → f.points ≡ points → f.count ≡ count → is_some f.weights ≡ true
+weights-are : (x : Option Weights) → x ≡ cond (is_some x) (Some (unwrap_or x (record { at = 0; len = 0 }))) None
+weights-are None = refl
+weights-are (Some w) = refl
+
+-- a layout is given by its fields, with tag 4 or without
+same_layout : (f : Layout) {full gated weighed : Bool} {points count at n : ℕ} → f.full ≡ full → f.gated ≡ gated → f.points ≡ points → f.count ≡ count → is_some f.weights ≡ weighed
     → (weights_of f).at ≡ at → (weights_of f).len ≡ n
-    → f ≡ record { full = full; gated = gated; points = points; count = count; weights = Some (record { at = at; len = n }) }
-same_layout f a b c d e g h = rw (← a, ← b, ← c, ← d, ← g, ← h, ← weights-there f e)
+    → f ≡ record { full = full; gated = gated; points = points; count = count; weights = cond weighed (Some (record { at = at; len = n })) None }
+same_layout f a b c d e g h = rw (← a, ← b, ← c, ← d, ← e, ← g, ← h, ← weights-are f.weights)
 
 module _ (settings : List ℕ) (fraction : ℕ) (ps : List Point) where
   abbrev file : List ℕ

@@ -3,11 +3,12 @@ use mathlib.Core.Path.{◌≡◌, refl, sym, ap, ◌∙◌}
 use mathlib.Core.Bool.{Bool, true, false, cond, not, ◌&&◌, ◌||◌, false≢true}
 use mathlib.Core.List.{List}
 use Prim.Native.Nat.{ℕ, ◌+◌, ◌/◌, ◌≤◌, ◌<◌}
+use Rattle.std.specs.Prelude.{Option}
 use Prim.{Dec, yes, no}
 use native.Mathlib.Decide.{dec_lt}
 use native.Mathlib.Omega.{arith}
 use lib.Dec.{T, ltb, leb, eqb}
-use borrow.Author.Tests.{leb-true, lt-ltb, le-ltb, ne_eqb}
+use borrow.Author.Tests.{leb-true, ltb-true, lt-ltb, le-ltb, ne_eqb}
 use lib.ListN.{length, get_or}
 use lib.Ieee.{Float, nan, lt, of_bits}
 use lib.Ieee.Positive.{positive as positive-float}
@@ -33,7 +34,7 @@ use Rattle.edges.specs.declared.StoredEdge.{StoredEdge}
 use Rattle.offsets.specs.declared.axis.Axis.{Axis}
 use Rattle.offsets.specs.Axes.{forward}
 use Rattle.wrong_label_filters.specs.Judged.{positive_edge, in_window, window_lens, sheet_lens, window_x, window_y, overlong, off_axis, fails, end_of_failing, edge_mark}
-use Rattle.wrong_label_filters.specs.Windows.{edge_along, is_under, window_to, with_edge_at, positive_lens, failing_ends}
+use Rattle.wrong_label_filters.specs.Windows.{edge_along, is_under, window_to, with_edge_at, positive_lens, sheet_limit_of, Asked, failing_ends}
 use Rattle.wrong_label_filters.specs.declared.judged_edges.Window.{Window}
 
 cond-ext : (b : Bool) {x x' y y' : Bool} → (b ≡ true → x ≡ x') → y ≡ y' → cond b x y ≡ cond b x' y'
@@ -132,6 +133,14 @@ module _ (w : View) (E : ℕ → StoredEdge) where
         (λ h. ap (λ r. r || off_axis (sum_x 25) (sum_y 25) (E k).ux (E k).uy) (local h))
         (ap (λ r. leb 8 (tally (positive_edge w E) w.count) && r) (over-is global_overlong_ratio (sheet_lens w E) (E k).len ∙ ap (λ l. lt (global_overlong_ratio ⊗ median_of l) (E k).len) sheet-is))))
 
+-- the verdict on rank k's edge along an axis, which is e, with the window v
+pub verdict-is : (w : View) (axis : Axis) (k : ℕ) {total : ℕ} {limit : Option Float} {e : StoredEdge} {v : Window} → Asked w axis k total limit → e ≡ edge_along w axis k
+    → v ≡ window_to w (edge_along w axis) k e.len 25 → fails w (edge_along w axis) k
+    ≡ lt zero_f e.len && cond (leb 5 v.count) (ltb (v.count / 2) v.under || off_axis v.sx v.sy e.ux e.uy) (leb 8 total && lt (sheet_limit_of (edge_along w axis) w.count) e.len)
+verdict-is w axis k {total} {limit} {e} {v} a p q =
+    fails_by w (edge_along w axis) k e.len v total (ap (λ d. d.len) p) q a.total-is
+    ∙ rw (← ap (λ d. d.ux) p, ← ap (λ d. d.uy) p) refl
+
 -- the positive lengths, read from a column
 pub column-lens : (E : ℕ → StoredEdge) (n : ℕ) (l : List Float) → l ≡ column max_points nan n (λ (k : ℕ). (E k).len) → positives l n ≡ positive_lens E n
 unfolding positives
@@ -185,6 +194,13 @@ module _ (w v : View) (E F : ℕ → StoredEdge) (k l : ℕ) (a : Alike w v E F 
   pub local-verdict : leb 5 (length (window_lens v F l)) ≡ true → fails w E k ≡ fails v F l
   local-verdict h = fails-is w E k ∙ rw (same-lens, same-x, same-y, h, a.own-edge) (sym (fails-is v F l ∙ rw h))
 
+-- edges that agree below the count have the same verdicts
+same-fails : (w : View) (E F : ℕ → StoredEdge) → ((k : ℕ) → k < w.count → E k ≡ F k) → (k : ℕ) → k < w.count → fails w E k ≡ fails w F k
+same-fails w E F same k l =
+    same-verdict w w E F k k
+    (record { own-edge = same k l; there = λ o h. refl; edges = λ o h p. same (rank_at w k o) (ltb-true (rank_at w k o) w.count p) })
+    (sheet-is w E ∙ listed-ext (positive_edge w E) (positive_edge w F) (λ i. (E i).len) (λ i. (F i).len) w.count (λ i g. rw (same i g)) (λ i g p. ap (λ e. e.len) (same i g)) ∙ sym (sheet-is w F))
+
 -- ---- the marks of a direction
 
 module _ (w : View) (o : Offset) where
@@ -212,10 +228,10 @@ module _ (w : View) (o : Offset) where
   unfolding end_of_failing
   ends_is m = refl
 
-  ends-are : (m : ℕ) → some (λ k. failing_ends w o (fails w (stored_at w o)) k m) w.count ≡ end_of_failing w (stored_at w o) o m
-  ends-are m =
-      some-ext (λ k. failing_ends w o (fails w (stored_at w o)) k m) (λ k. (eqb k m || eqb (rank_at w k o) m) && fails w (stored_at w o) k) w.count
-      (λ k l. turn (present w k o) (fails w (stored_at w o) k) (eqb k m || eqb (rank_at w k o) m) (two-ends k))
+  ends-are : (E : ℕ → StoredEdge) → ((k : ℕ) → k < w.count → E k ≡ stored_at w o k) → (m : ℕ) → some (λ k. failing_ends w o (fails w E) k m) w.count ≡ end_of_failing w (stored_at w o) o m
+  ends-are E same m =
+      some-ext (λ k. failing_ends w o (fails w E) k m) (λ k. (eqb k m || eqb (rank_at w k o) m) && fails w (stored_at w o) k) w.count
+      (λ k l. rw (same-fails w E (stored_at w o) same k l) (turn (present w k o) (fails w (stored_at w o) k) (eqb k m || eqb (rank_at w k o) m) (two-ends k)))
       ∙ sym (ends_is m)
 
   -- nothing from the count on is marked
@@ -236,5 +252,5 @@ module _ (w : View) (axis : Axis) where
   marks-are r = marked-as (λ (m : ℕ). some (λ (k : ℕ). hits k m) w.count) (λ (m : ℕ). ltb m w.count && edge_mark w (forward axis) m) (λ m l. go m (dec_lt m w.count)) r
     where
       go : (m : ℕ) → Dec (m < w.count) → some (λ (k : ℕ). hits k m) w.count ≡ ltb m w.count && edge_mark w (forward axis) m
-      go m (yes l) = rw (lt-ltb m w.count l) (ends-are w (forward axis) m)
+      go m (yes l) = rw (lt-ltb m w.count l) (ends-are w (forward axis) (edge_along w axis) (λ k g. refl) m)
       go m (no l) = rw (le-ltb m w.count (omega (arith, l))) (ends-past w (forward axis) (fails w (edge_along w axis)) m (omega (arith, l)))

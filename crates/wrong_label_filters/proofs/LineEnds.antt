@@ -7,7 +7,7 @@ use native.Mathlib.Omega.{arith}
 use native.Mathlib.Decide.{ℕ_discrete, dec_lt}
 use Prim.{Dec, yes, no}
 use lib.Dec.{eqb, ltb, leb}
-use borrow.Author.Tests.{lt-ltb, le-ltb, eq-eqb, ne_eqb}
+use borrow.Author.Tests.{lt-ltb, le-ltb, lt-leb, le-leb, eq-eqb, ne_eqb}
 use lib.ListN.{get_or, set, replicate, length-set, length-replicate}
 use lib.Seq.{get_or-set_same, get_or-set_other}
 use lib.Ieee.{Float}
@@ -22,6 +22,9 @@ use Rattle.offsets.specs.declared.Offset.{Offset}
 use Rattle.offsets.specs.declared.axis.Axis.TheVariants.{AlongU, AlongV}
 use Rattle.offsets.specs.Offsets.{next_u, prev_u, next_v, prev_v}
 use Rattle.view.specs.View.{View, view_at, max_points, rank_at, degree_at}
+use Rattle.std.specs.Prelude.{Option, None, Some}
+use Rattle.view.specs.Seen.{lattice_in, view_in, below}
+use Rattle.view.specs.declared.lattice.View.{View as Held}
 use Rattle.marks.proofs.Guards.{guard, past}
 use Rattle.wrong_label_filters.specs.Frontier.{kink, kink_at, last_in_line, end_mark, frontier_mark}
 use Rattle.wrong_label_filters.specs.Lasts.{line_mark, Lasts}
@@ -41,6 +44,47 @@ module _ (w : View) where
       → kink_at w inward k ≡ ltb a w.count && (ltb b w.count && (ltb c w.count && (leb (degree_at w k) 2 && kink (between k a) (between a b) (between b c))))
   unfolding kink_at
   kink-is inward k a b c p q r = rw (p, q, r)
+
+-- the ranks of a kink one after the other, as the code looks for them
+abbrev if_there : Option ℕ → (ℕ → Bool) → Bool
+if_there None f = false
+if_there (Some k) f = f k
+
+next : (n r : ℕ) (b : Bool) (f : ℕ → Bool) → b ≡ f r → ltb r n && b ≡ if_there (below n r) f
+next n r b f e = go (ltb r n)
+  where
+    go : (t : Bool) → t && b ≡ if_there (cond t (Some r) None) f
+    go true = e
+    go false = refl
+
+few-sides : (d : ℕ) (b : Bool) → leb d 2 && b ≡ cond (ltb 2 d) false b
+few-sides d b = go (dec_lt 2 d)
+  where
+    go : Dec (2 < d) → leb d 2 && b ≡ cond (ltb 2 d) false b
+    go (yes h) = rw (lt-ltb 2 d h, lt-leb d 2 h)
+    go (no h) = rw (le-ltb 2 d (omega (arith, h)), le-leb d 2 (omega (arith, h)))
+
+module _ (v : Held) where
+  abbrev from : ℕ → Offset → (ℕ → Bool) → Bool
+  from k o f = if_there (below v.lattice.count (rank_at (view_in v) k o)) f
+
+  -- a kink by its four ranks
+  abbrev kink_by : ℕ → ℕ → ℕ → ℕ → Bool
+  kink_by k a b c = cond (ltb 2 (degree_at (lattice_in v.lattice) k)) false (kink (between (view_in v) k a) (between (view_in v) a b) (between (view_in v) b c))
+
+  pub kink_steps : (inward : Offset) (k : ℕ) → kink_at (view_in v) inward k ≡ from k inward (λ a. from a inward (λ b. from b inward (kink_by k a b)))
+  kink_steps inward k =
+      let w = view_in v in
+      let n = v.lattice.count in
+      let a = rank_at w k inward in
+      let b = rank_at w a inward in
+      let c = rank_at w b inward in
+      let x = leb (degree_at w k) 2 && kink (between w k a) (between w a b) (between w b c) in
+      kink-is w inward k a b c refl refl refl
+      ∙ next n a (ltb b n && (ltb c n && x)) (λ d. from d inward (λ e. from e inward (kink_by k d e)))
+      (next n b (ltb c n && x) (λ e. from e inward (kink_by k a e))
+      (next n c x (kink_by k a b)
+      (rw (degree-same n v.lattice.ranks.now v.x.now v.y.now k) (few-sides (degree_at (lattice_in v.lattice) k) (kink (between w k a) (between w a b) (between w b c))))))
 
 -- ---- the ends that a loop marks
 

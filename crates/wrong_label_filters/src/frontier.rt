@@ -1,11 +1,7 @@
 // Ends of rows and columns whose spacing has a kink.
-ghost use Rattle.std.specs.Prelude.{◌≡◌, true, not, ◌&&◌, ◌||◌, ℕ, ◌≤◌, ◌<◌, eqb, ltb, get_or};
-ghost use Rattle.std.specs.Float.{nan};
-ghost use Rattle.folds.specs.Arith.{◌⊖◌};
+ghost use Rattle.std.specs.Prelude.{◌≡◌, true, not, ◌&&◌, ◌||◌, ℕ, ◌<◌, eqb, ltb};
 ghost use Rattle.folds.specs.Marked.{Marked};
-ghost use Rattle.float.specs.Remainder.{length_of};
 ghost use Rattle.offsets.specs.Offsets.{is_near};
-ghost use Rattle.view.specs.View.{max_points};
 ghost use Rattle.view.specs.Seen.{view_in};
 ghost use Rattle.wrong_label_filters.specs.Frontier.{kink, kink_at, frontier_mark};
 ghost use Rattle.wrong_label_filters.specs.Lasts.{line_start, line_mark, Lasts};
@@ -13,16 +9,9 @@ ghost use Rattle.wrong_label_filters.specs.Lasts.{line_start, line_mark, Lasts};
 use float::Distance;
 use float::constants::FRONTIER_TOLERANCE;
 use offsets::{Axis, Offset};
-use view::{MAX_POINTS, Marks, Places, View};
+use view::{MAX_POINTS, Marks, Places, Positions, View};
 
-// The distance from rank a to rank b.
-fn rank_distance(view: &View, a: usize, b: usize) -> Distance
-    requires { (a < max_points) × (b < max_points) }
-    ensures { result ≡ length_of ((view_in view.now).x b ⊖ (view_in view.now).x a) ((view_in view.now).y b ⊖ (view_in view.now).y a) }
-{
-    float::norm(view.x[b] - view.x[a], view.y[b] - view.y[a])
-}
-
+#[tactic(auto, unfolding(crate::specs::Frontier::kink))]
 fn has_kink(e0: Distance, e1: Distance, e2: Distance) -> bool
     ensures { result ≡ kink e0.value e1.value e2.value }
 {
@@ -33,6 +22,7 @@ fn has_kink(e0: Distance, e1: Distance, e2: Distance) -> bool
 }
 
 // Whether four cells follow each other inward from rank k, with a kink there.
+#[tactic(auto, using(crate::proofs::LineEnds::kink_steps), unfolding(step::specs::Step::spacing))]
 fn kink_at(view: &View, inward: Offset, k: usize) -> bool
     requires { (is_near inward ≡ true) × (k < view.now.lattice.count) }
     ensures { result ≡ kink_at (view_in view.now) inward k }
@@ -50,10 +40,14 @@ fn kink_at(view: &View, inward: Offset, k: usize) -> bool
     if 2 < lattice.degree(k) {
         return false;
     }
+    let seen = Positions {
+        x: view.x,
+        y: view.y,
+    };
     has_kink(
-        rank_distance(view, k, a),
-        rank_distance(view, a, b),
-        rank_distance(view, b, c),
+        step::spacing(&seen, k, a),
+        step::spacing(&seen, a, b),
+        step::spacing(&seen, b, c),
     )
 }
 

@@ -14,6 +14,7 @@ ghost use Rattle.wrong_label_filters.specs.Windows.{edge_along, with_edge, with_
 
 use edges::{EdgeTable, StoredEdge};
 use float::constants::{GLOBAL_OVERLONG_RATIO, OVERLONG_RATIO};
+use median::Numbers;
 use offsets::{Axis, OWN};
 use view::{Floats, Marks};
 
@@ -81,6 +82,7 @@ fn window_at(table: &EdgeTable, axis: Axis, k: usize, own: f32) -> Window
     v
 }
 
+#[tactic(auto, unfolding(crate::specs::Judged::off_axis))]
 fn off_axis(sx: f32, sy: f32, e: StoredEdge) -> bool
     ensures { result ≡ off_axis sx sy e.ux e.uy }
 {
@@ -121,8 +123,11 @@ fn sheet_limit(limit: Option<f32>, table: &EdgeTable, axis: Axis) -> f32
     match limit {
         Some(known) => known,
         None => {
-            GLOBAL_OVERLONG_RATIO
-                * median::middle(&lengths_of(table, axis), table.view.lattice.count)
+            let lengths = Numbers {
+                values: &lengths_of(table, axis),
+                count: table.view.lattice.count,
+            };
+            GLOBAL_OVERLONG_RATIO * median::middle(&lengths)
         }
     }
 }

@@ -24,7 +24,7 @@ pub fn topological_wrong_label_drops(table: &EdgeTable, cell: f32) -> Marks
     let mut mark = [0u8; MAX_POINTS];
     judged_edges::mark_failing(table, Axis::AlongU, &mut mark);
     judged_edges::mark_failing(table, Axis::AlongV, &mut mark);
-    close_pairs::mark_close(view.x, view.y, cell, view.lattice.count, &mut mark);
+    close_pairs::mark_close(&view.positions(), cell, view.lattice.count, &mut mark);
     frontier::mark_frontier(view, &mut mark);
-    marks::by_index(view, &mark)
+    marks::by_index(&view.sheet(), &mark)
 }

@@ -1,15 +1,15 @@
-use Rattle.std.proofs.Common.{rules, refl, ◌≡◌, ℕ, get_or, arith}
+use Rattle.std.proofs.Common.{rules, refl, ◌≡◌, [], ℕ, get_or, arith}
 use Rattle.std.specs.Prelude.{None}
 use Rattle.folds.specs.Lists.{over}
 use Rattle.folds.proofs.Lists.{over-more}
-use Rattle.view.specs.Seen.{view_in}
+use Rattle.view.specs.Seen.{lattice_in}
 use Rattle.blame.specs.Marks.{place_in}
 use Rattle.blame.proofs.Blamed.{members-there, blamed-by, place-inside}
 use Rattle.blame.proofs.blame.Goals as goal
 
 pub worse-worst-requires-clause-member : goal.worse-worst-requires-clause-member
 worse-worst-requires-clause-member c =
-    let v = c.args.view.now in members-there (view_in v) c.args.k (c.pick_local_h_base-base.ensures v.x.now v.y.now) c.loop-p.p-index
+    let v = c.args.sheet.now in members-there (lattice_in v.lattice) c.args.k (c.pick_local_h_base-base.ensures [] []) c.loop-p.p-index
 
 pub loop-p-init : goal.loop-p-init
 unfolding over
@@ -21,9 +21,9 @@ loop-p-preserved c =
 
 pub returns : goal.returns
 returns c =
-    let v = c.args.view.now in
+    let v = c.args.sheet.now in
     let at : c.map.result ≡ place_in c.loop-p.worst = search rules in
     record {
-      value = blamed-by (view_in v) (λ (m : ℕ). get_or c.args.flags.now m 0) c.args.k c.loop-p.p-index (c.pick_local_h_base-base.ensures v.x.now v.y.now) (omega arith) c.loop-p.invariant.0 at;
+      value = blamed-by (lattice_in v.lattice) (λ (m : ℕ). get_or c.args.flags.now m 0) c.args.k c.loop-p.p-index (c.pick_local_h_base-base.ensures [] []) (omega arith) c.loop-p.invariant.0 at;
       inside = rw at (place-inside v.lattice.count c.loop-p.worst c.loop-p.invariant.1);
     }

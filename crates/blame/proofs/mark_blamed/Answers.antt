@@ -4,7 +4,7 @@ use Rattle.blame.proofs.Blamed.{blames-one, not-visited}
 use Rattle.blame.proofs.mark_blamed.Goals as goal
 
 pub set-requires : goal.set-requires
-set-requires c = IfSome_then c.blame.result c.blame.ensures.inside (λ m h. omega (arith, h, c.args.view.now.lattice.few))
+set-requires c = IfSome_then c.blame.result c.blame.ensures.inside (λ m h. omega (arith, h, c.args.sheet.now.lattice.few))
 
 pub returns-then-is_visited : goal.returns-then-is_visited
 returns-then-is_visited c = blames-one _ _ _ (sym c.is_visited.ensures ∙ c.if-is_visited.true) c.blame.ensures.value c.set.ensures

@@ -23,13 +23,13 @@ pub returns-then-limit : goal.returns-then-limit
 unfolding limit_of
 returns-then-limit c =
     let g = c.args in
-    λ ranks. marked-as _ _ (λ m l. swept _ g.x.now g.y.now g.n c.requires.0 c.order_of-order.ensures c.requires.2 ranks g.cell m c.if-cell.true) c.mark_all.ensures
+    λ ranks. marked-as _ _ (λ m l. swept _ g.seen.now.x.now g.seen.now.y.now g.n c.requires.0 c.order_of-order.ensures c.requires.2 ranks g.cell m c.if-cell.true) c.mark_all.ensures
 
 pub returns-else-limit : goal.returns-else-limit
 unfolding limit_of
 returns-else-limit c =
     let g = c.args in
-    λ ranks. marked-none _ _ (λ m. rw (nothing-close (view_at g.n ranks g.x.now g.y.now) g.cell m c.if-limit.false) (and-false (ltb m g.n)))
+    λ ranks. marked-none _ _ (λ m. rw (nothing-close (view_at g.n ranks g.seen.now.x.now g.seen.now.y.now) g.cell m c.if-limit.false) (and-false (ltb m g.n)))
 
 pub returns-else-cell : goal.returns-else-cell
 unfolding close_mark

@@ -1,7 +1,6 @@
 use Rattle.std.proofs.Common.{◌≡◌, List, ℕ}
 use Rattle.offsets.specs.Offsets.{places}
-use Rattle.view.specs.View.{View}
-use Rattle.view.specs.Seen.{view_in}
+use Rattle.view.specs.View.{View, view_at}
 use Rattle.marks.specs.Marks.{index_marks}
 use Rattle.patches.specs.Patches.{patch_labels}
 use Rattle.components.specs.Components.{patch_count, winner_of, others_by, others_of, filter_of}
@@ -18,7 +17,7 @@ unfolding filter_of others_of
 composed w sides dropped l o m win c e f g h i = cc
 
 pub returns : goal.returns
-returns c =
+returns c xs ys =
     let a = c.args in
-    let w = view_in a.view.now in
-    composed w (places a.sides.now) a.dropped.now _ _ _ _ _ (c.labels.ensures a.view.now.x.now a.view.now.y.now) c.winner.ensures c.others-outside.ensures c.by_index.ensures c.patches.ensures
+    let w = view_at a.sheet.now.lattice.count a.sheet.now.lattice.ranks.now xs ys in
+    composed w (places a.sides.now) a.dropped.now _ _ _ _ _ (c.labels.ensures xs ys) c.winner.ensures c.others-outside.ensures (c.by_index.ensures xs ys) c.patches.ensures

@@ -1,10 +1,9 @@
-use Rattle.view.specs.Seen.{view_in}
+use Rattle.view.specs.View.{view_at}
 use Rattle.drop_set.proofs.Laws.{patched-is}
 use Rattle.drop_set.proofs.drop_patches.Goals as goal
 
 pub returns : goal.returns
-returns c =
+returns c xs ys =
     let a = c.args in
-    let v = a.view.now in
-    patched-is a.s (view_in v) a.strength.now a.marks.now c.leaf_marks-peeled.ensures c.marked_by-left.ensures c.component_marks-filter.ensures c.marked_by-all.ensures
-    (c.tally.ensures v.x.now v.y.now)
+    patched-is a.s (view_at a.sheet.now.lattice.count a.sheet.now.lattice.ranks.now xs ys) a.strength.now a.marks.now (c.leaf_marks-peeled.ensures xs ys) c.marked_by-left.ensures (c.component_marks-filter.ensures xs ys) c.marked_by-all.ensures
+    (c.tally.ensures xs ys)

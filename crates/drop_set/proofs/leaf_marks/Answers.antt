@@ -1,5 +1,5 @@
 use Rattle.std.proofs.Common.{ap, ◌∙◌}
-use Rattle.view.specs.Seen.{view_in}
+use Rattle.view.specs.View.{view_at}
 use Rattle.patches.proofs.Lattices.{square-near, square-paired}
 use Rattle.drop_set.proofs.Laws.{unpeeled, peeled-by}
 use Rattle.drop_set.proofs.leaf_marks.Goals as goal
@@ -8,16 +8,16 @@ pub weak_leaf_peel-requires : goal.weak_leaf_peel-requires
 weak_leaf_peel-requires c = rw c.square_sides.ensures (square-near, square-paired, c.requires.mirrored)
 
 pub returns-in-Missing : goal.returns-in-Missing
-returns-in-Missing c =
+returns-in-Missing c xs ys =
     let a = c.args in
-    c.no_leaves.ensures ∙ unpeeled a.s (view_in a.view.now) a.strength.now a.marks.now (rw c.in-Missing.is) a.view.now.lattice.few
+    c.no_leaves.ensures ∙ unpeeled a.s (view_at a.sheet.now.lattice.count a.sheet.now.lattice.ranks.now xs ys) a.strength.now a.marks.now (rw c.in-Missing.is) a.sheet.now.lattice.few
 
 pub returns-in-Outside : goal.returns-in-Outside
-returns-in-Outside c =
+returns-in-Outside c xs ys =
     let a = c.args in
-    c.no_leaves-in-Outside.ensures ∙ unpeeled a.s (view_in a.view.now) a.strength.now a.marks.now (rw c.in-Outside.is) a.view.now.lattice.few
+    c.no_leaves-in-Outside.ensures ∙ unpeeled a.s (view_at a.sheet.now.lattice.count a.sheet.now.lattice.ranks.now xs ys) a.strength.now a.marks.now (rw c.in-Outside.is) a.sheet.now.lattice.few
 
 pub returns-in-Given : goal.returns-in-Given
-returns-in-Given c =
+returns-in-Given c xs ys =
     let a = c.args in
-    peeled-by a.s (view_in a.view.now) a.strength.now a.marks.now c.in-Given.is c.square_sides.ensures c.weak_marks-weak.ensures c.weak_leaf_peel.ensures
+    peeled-by a.s (view_at a.sheet.now.lattice.count a.sheet.now.lattice.ranks.now xs ys) a.strength.now a.marks.now c.in-Given.is c.square_sides.ensures c.weak_marks-weak.ensures (c.weak_leaf_peel.ensures xs ys)

@@ -1,8 +1,13 @@
-use Rattle.view.specs.View.{View}
+use Rattle.std.proofs.Common.{ap}
+use lib.ListN.{replicate}
+use Rattle.view.specs.View.{View, max_points}
 use Rattle.view.specs.Seen.{view_in}
 use Rattle.cells.specs.Cell.{cells_at}
 use Rattle.drop_set.proofs.Laws.{marks-of, reasons-read, points-are, measured-is, figures-are}
 use Rattle.drop_set.proofs.measure.Goals as goal
+
+pub fill-requires : goal.fill-requires
+fill-requires c = (ap (replicate max_points) c.no_edge-along_u.ensures, ap (replicate max_points) c.no_edge-along_v.ensures)
 
 pub validate-j-requires : goal.validate-j-requires
 validate-j-requires c = record { cells = c.requires.0.cells; reasons = reasons-read c.args.s (view_in c.args.view.now) c.edge_figures.ensures }

@@ -1,13 +1,13 @@
-use Rattle.view.specs.View.{view_at}
+use Rattle.view.specs.Seen.{seen_in}
 use Rattle.edges.proofs.Laws.{edge_none, edge_to}
 use Rattle.edges.proofs.edge_at.Goals as goal
 
 pub returns-in_default : goal.returns-in_default
 returns-in_default c =
     let a = c.args in
-    edge_none (view_at a.lattice.now.count a.lattice.now.ranks.now a.x.now a.y.now) _ a.k (rw (← c.forward.ensures.0) c.in_default.ensures.value)
+    edge_none (seen_in a.lattice.now a.seen.now) _ a.k (rw (← c.forward.ensures.0) c.in_default.ensures.value)
 
 pub returns : goal.returns
 returns c =
     let a = c.args in
-    edge_to (view_at a.lattice.now.count a.lattice.now.ranks.now a.x.now a.y.now) _ a.k (rw (← c.forward.ensures.0) c.in-Some.ensures.value) c.norm-len.ensures
+    edge_to (seen_in a.lattice.now a.seen.now) _ a.k (rw (← c.forward.ensures.0) c.in-Some.ensures.value) c.norm-len.ensures

@@ -5,5 +5,4 @@ use Rattle.grid.proofs.fill.Goals as goal
 pub returns : goal.returns
 unfolding ranks_of
 returns c =
-    let pre = c.requires in
-    blocks-filled _ _ _ _ _ _ _ _ _ pre.0.few pre.1 c.fill_near.ensures c.fill_rows.ensures c.fill_columns.ensures c.fill_indices.ensures
+    blocks-filled _ _ _ _ _ _ _ _ _ c.args.points.now.keyed.few c.requires c.fill_near.ensures c.fill_rows.ensures c.fill_columns.ensures c.fill_indices.ensures

@@ -1,8 +1,10 @@
-use mathlib.Core.Path.{ap}
-use Rattle.kept.specs.Answer.{kept_of}
-use Rattle.kept.specs.declared.Kept.{Kept}
+use Rattle.std.proofs.Common.{◌∙◌}
+use Rattle.kept.proofs.Cases.{handed-on, answer-from}
 use Rattle.kept.proofs.keep.Goals as goal
 
+pub returns-in_err-keep_counted-clause-answer : goal.returns-in_err-keep_counted-clause-answer
+returns-in_err-keep_counted-clause-answer c =
+    handed-on _ _ c.from_residual.ensures.1 ∙ answer-from c.args.file.now _ c.in_err-keep_counted.ensures.kept
+
 pub returns-clause-answer : goal.returns-clause-answer
-unfolding kept_of
-returns-clause-answer c = ap (λ (x : Kept). x.answer) c.keep_counted-k.ensures.answer
+returns-clause-answer c = answer-from c.args.file.now _ c.in_ok-keep_counted.ensures.kept

@@ -8,4 +8,4 @@ use Prim.Native.Nat.{ℕ}
 use Rattle.lines.proofs.centre.Given as goal
 
 abbrev pub invariant-loop-j : goal.invariant-loop-j
-invariant-loop-j l = (l.cx ≡ over (λ (s : Float) (j : ℕ). s ⊕ value_at l.x j) zero_f (take l.j-index l.members)) × (l.cy ≡ over (λ (s : Float) (j : ℕ). s ⊕ value_at l.y j) zero_f (take l.j-index l.members))
+invariant-loop-j l = (l.cx ≡ over (λ (s : Float) (j : ℕ). s ⊕ value_at l.seen.x.now j) zero_f (take l.j-index l.members)) × (l.cy ≡ over (λ (s : Float) (j : ℕ). s ⊕ value_at l.seen.y.now j) zero_f (take l.j-index l.members))

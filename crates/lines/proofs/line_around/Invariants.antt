@@ -5,5 +5,5 @@ use Rattle.lines.proofs.line_around.Given as goal
 
 abbrev pub invariant-loop-j : goal.invariant-loop-j
 invariant-loop-j l =
-    let seen = take l.j-index l.members in
-    (l.sxx ≡ moment_of (value_at l.x) l.v.x (value_at l.x) l.v.x seen) × (l.sxy ≡ moment_of (value_at l.x) l.v.x (value_at l.y) l.v.y seen) × (l.syy ≡ moment_of (value_at l.y) l.v.y (value_at l.y) l.v.y seen)
+    let met = take l.j-index l.members in
+    (l.sxx ≡ moment_of (value_at l.seen.x.now) l.v.x (value_at l.seen.x.now) l.v.x met) × (l.sxy ≡ moment_of (value_at l.seen.x.now) l.v.x (value_at l.seen.y.now) l.v.y met) × (l.syy ≡ moment_of (value_at l.seen.y.now) l.v.y (value_at l.seen.y.now) l.v.y met)

@@ -26,5 +26,6 @@ returns c =
     let v = c.args.view.now in
     let w = view_in v in
     line-counts w.by_idx max_points w.count v.lattice.few v.ranked.indices (record { x = w.x; y = w.y; scale = value_at c.args.scale.now; tolerance = c.args.tolerance }) c.args.minimum w.row w.column
-    (c.flagged-rows.ensures w.row (record { is = λ k r h p. search rules; inside = v.ranked.rows })) (c.flagged-columns.ensures w.column (record { is = λ k r h p. search rules; inside = v.ranked.columns }))
+    (rw (c.positions.ensures.x, c.positions.ensures.y) at (c.flagged-rows.ensures w.row (record { is = λ k r h p. search rules; inside = v.ranked.rows })))
+    (rw (c.positions.ensures.x, c.positions.ensures.y) at (c.flagged-columns.ensures w.column (record { is = λ k r h p. search rules; inside = v.ranked.columns })))
     c.count.ensures c.count-2.ensures

@@ -7,7 +7,7 @@ use Prim.Native.Nat.{ℕ, ◌≤◌, ◌<◌, ◌-◌}
 use Rattle.lines.proofs.members.Given as goal
 
 abbrev pub invariant-loop-k : goal.invariant-loop-k
-invariant-loop-k l = (l.k ≤ l.n) × (l.c ≤ l.k) × ((p : ℕ → Bool) → Linked p l.n l.nexts → first p 0 l.n ≡ l.from → Gathered p l.k l.out l.c × (l.k < l.n → p l.k ≡ true))
+invariant-loop-k l = (l.k ≤ l.lattice.count) × (l.c ≤ l.k) × ((p : ℕ → Bool) → Linked p l.lattice.count l.nexts → first p 0 l.lattice.count ≡ l.from → Gathered p l.k l.out l.c × (l.k < l.lattice.count → p l.k ≡ true))
 
 abbrev pub decreases-loop-k : goal.decreases-loop-k
-decreases-loop-k l = l.n - l.k
+decreases-loop-k l = l.lattice.count - l.k

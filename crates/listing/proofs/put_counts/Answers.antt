@@ -1,4 +1,4 @@
-use Rattle.std.proofs.Common.{◌≡◌, ◌∙◌, ap, ◌++◌, get_or, rules}
+use Rattle.std.proofs.Common.{◌≡◌, ◌∙◌, ◌++◌, get_or, rules}
 use Rattle.text.specs.Text.{bytes}
 use Rattle.marks.specs.Filters.{filter_at}
 use Rattle.marks.specs.Places.{place, all_filters}

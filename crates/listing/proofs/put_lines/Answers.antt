@@ -11,13 +11,16 @@ abbrev line : List ℕ → List ℕ → Judged → ℕ → List ℕ
 line keys idx j k = line_of (cells_at keys k) (get_or idx k 0) (shown_at j k)
 
 pub loop-k-init : goal.loop-k-init
-loop-k-init c = let a = c.args in stored-start (line a.keys.now a.idx.now (judged_from a.j a.figures.now))
+loop-k-init g c figures post =
+    let a = c.args in stored-start (line a.points.now.keys.now a.points.now.idx.now (judged_from a.j.now figures))
 
 pub loop-k-preserved : goal.loop-k-preserved
 unfolding shown_at judged_from
-loop-k-preserved c =
+loop-k-preserved g c figures post =
     let a = c.args in
-    stored_more (line a.keys.now a.idx.now (judged_from a.j a.figures.now)) c.loop-k.invariant (rw c.reason_number-number.ensures at c.put_line.ensures)
+    let e = post c.loop-k.k c.reason.result (omega arith) c.reason.ensures in
+    stored_more (line a.points.now.keys.now a.points.now.idx.now (judged_from a.j.now figures)) (c.loop-k.invariant figures post) (rw e at c.put_line.ensures)
 
 pub returns : goal.returns
-returns c = let e : c.loop-k.k ≡ c.args.n = omega arith in rw e at c.loop-k.invariant
+returns g c figures post =
+    let e : c.loop-k.k ≡ c.args.points.now.count = omega arith in rw e at (c.loop-k.invariant figures post)

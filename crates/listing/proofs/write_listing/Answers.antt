@@ -6,6 +6,6 @@ use Rattle.listing.proofs.write_listing.Goals as goal
 
 pub returns : goal.returns
 unfolding listing_of judged_from
-returns c =
+returns g c figures post =
     shows c.new-w.ensures
-    (stored-then (stored-then (stored-then c.put_head.ensures c.put_lines.ensures) c.put_tally.ensures) c.put_fills.ensures) c.answer.ensures (search rules)
+    (stored-then (stored-then (stored-then c.put_head.ensures (c.put_lines.ensures figures post)) c.put_tally.ensures) c.put_fills.ensures) c.answer.ensures (search rules)

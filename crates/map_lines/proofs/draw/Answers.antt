@@ -1,5 +1,6 @@
 use native.Mathlib.Omega.{arith}
 use lib.IntN.{pos, ◌-ℤ◌}
+use lib.ListN.{length}
 use Rattle.cells.specs.Points.{bias}
 use Rattle.cells.specs.Cell.{cells_at}
 use Rattle.map_lines.proofs.Drawing.{drawn-none, drawn-more}
@@ -14,4 +15,4 @@ loop-k-preserved c =
     let a = c.args in
     let k = c.loop-k.k in
     rw (c.v_part.ensures, c.u_part.ensures)
-    (drawn-more a.keys.now a.marks.now a.n k a.u a.v c.character.result c.loop-k.page c.requires.1 (omega arith) c.character.ensures c.loop-k.invariant)
+    (drawn-more a.keys.now a.marks.now (length a.keys.now) k a.u a.v c.character.result c.loop-k.page c.requires.1 (omega arith) c.character.ensures c.loop-k.invariant)

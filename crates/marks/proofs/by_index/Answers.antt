@@ -9,9 +9,9 @@ use Rattle.marks.proofs.by_index.Goals as goal
 
 pub returns : goal.returns
 unfolding index_marks
-returns c =
-    let w = lattice_in c.args.view.now.lattice in
+returns c xs ys =
+    let w = lattice_in c.args.sheet.now.lattice in
     let held : ℕ → ℕ = λ m. bit (place_has w c.args.mark.now m) in
     spread-column 0 w.count _ _ (c.spread.ensures 0) (λ k h.
-    let below : w.by_idx k < w.count = c.args.view.now.ranked.indices k h in
+    let below : w.by_idx k < w.count = c.args.sheet.now.ranked.indices k h in
     rw (c.at_index-held.ensures, column-at max_points 0 w.count held (w.by_idx k) below))

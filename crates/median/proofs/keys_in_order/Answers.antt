@@ -6,4 +6,4 @@ pub returns : goal.returns
 returns c =
     let g = c.args in
     let k = c.keys-a.ensures in
-    record { is = sorted-keys (key_at g.v.now) g.n _ _ k.is c.sort.ensures; numbers = k.numbers }
+    record { is = sorted-keys (key_at g.v.now.values.now) g.v.now.count _ _ k.is (rw c.sort.ensures); numbers = k.numbers }

@@ -22,8 +22,8 @@ use Rattle.median.proofs.middle.Goals as goal
 pub returns-then-c-eq0 : goal.returns-then-c-eq0
 unfolding positives
 returns-then-c-eq0 c =
-    let v = c.args.v.now in
-    let n = c.args.n in
+    let v = c.args.v.now.values.now in
+    let n = c.args.v.now.count in
     nan-is ∙ sym (no-median (positives v n) (listed-length (positive_at v) (λ k. get_or v k nan) n ∙ sym c.pack-c.ensures.packed.count ∙ c.if-c-eq0.true))
 
 -- after the sort

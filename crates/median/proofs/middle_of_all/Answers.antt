@@ -8,17 +8,17 @@ use Prim.Native.Nat.{◌/◌}
 use mathlib.Core.Path.{sym, ◌∙◌}
 use Rattle.median.proofs.middle_of_all.Goals as goal
 
-pub returns-then-n-eq0 : goal.returns-then-n-eq0
-returns-then-n-eq0 c =
-    nan-is ∙ sym (no-median _ (length-list _ _ ∙ c.if-n-eq0.true))
+pub returns-then-v-eq0 : goal.returns-then-v-eq0
+returns-then-v-eq0 c =
+    nan-is ∙ sym (no-median _ (length-list _ _ ∙ c.if-v-eq0.true))
 
 pub bounds-v-a : goal.bounds-v-a
 bounds-v-a c =
     let g = c.args in
-    omega (arith, key-in-order c.keys_in_order-a.ensures (g.n / 2) (omega arith), placed_below (key_at g.v.now) g.n (omega arith) (g.n / 2) (omega arith))
+    omega (arith, key-in-order c.keys_in_order-a.ensures (g.v.now.count / 2) (omega arith), placed_below (key_at g.v.now.values.now) g.v.now.count (omega arith) (g.v.now.count / 2) (omega arith))
 
 pub returns : goal.returns
 returns c =
     let g = c.args in
     let k = c.keys_in_order-a.ensures in
-    rw (key-in-order k (g.n / 2) (omega arith)) (median-at g.v.now g.n (omega arith) k.numbers (omega arith))
+    rw (key-in-order k (g.v.now.count / 2) (omega arith)) (median-at g.v.now.values.now g.v.now.count (omega arith) k.numbers (omega arith))

@@ -8,10 +8,10 @@ pub loop-k-init : goal.loop-k-init
 loop-k-init c = packed_none _ _ c.told-a
 
 pub put-c-requires : goal.put-c-requires
-put-c-requires c = omega (arith, c.loop-k.invariant.count, tally-le (positive_at c.args.v.now) c.loop-k.k)
+put-c-requires c = omega (arith, c.loop-k.invariant.count, tally-le (positive_at c.args.v.now.values.now) c.loop-k.k)
 
 pub loop-k-preserved : goal.loop-k-preserved
-loop-k-preserved c = packed_more c.args.v.now c.loop-k.k c.loop-k.invariant c.put-c.ensures
+loop-k-preserved c = packed_more c.args.v.now.values.now c.loop-k.k c.loop-k.invariant c.put-c.ensures
 
 pub returns-clause-few : goal.returns-clause-few
-returns-clause-few c = omega (arith, c.loop-k.invariant.count, tally-le (positive_at c.args.v.now) c.loop-k.k)
+returns-clause-few c = omega (arith, c.loop-k.invariant.count, tally-le (positive_at c.args.v.now.values.now) c.loop-k.k)

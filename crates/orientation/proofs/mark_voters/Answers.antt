@@ -1,17 +1,16 @@
-use Rattle.std.proofs.Common.{eq-eqb, ne_eqb, lt-ltb, refl}
+use Rattle.std.proofs.Common.{lt-ltb, refl}
 use Rattle.folds.proofs.Marked.{marked-none, marked-as, marked-then}
 use Rattle.marks.proofs.Guards.{at-below}
 use Rattle.orientation.specs.Voters.{voters}
 use Rattle.orientation.proofs.mark_voters.Goals as goal
 
-pub returns-then-vote-k : goal.returns-then-vote-k
+pub returns-then-is_of : goal.returns-then-is_of
 unfolding voters
-returns-then-vote-k c =
+returns-then-is_of c =
     marked-as _ _
-    (λ m l. rw (c.neighbour.ensures.value, at-below, c.neighbour-then-vote-k.ensures.value, at-below, eq-eqb _ _ c.if-vote-k.true, lt-ltb _ _ c.requires) refl)
-    (marked-then _ _ (marked-then _ _ c.set.ensures c.set-then-vote-k.ensures) c.set-then-vote-k-2.ensures)
+    (λ m l. rw (c.neighbour.ensures.value, at-below, c.neighbour-then-is_of.ensures.value, at-below, ← c.is_of.ensures, c.if-is_of.true, lt-ltb _ _ c.requires) refl)
+    (marked-then _ _ (marked-then _ _ c.set.ensures c.set-then-is_of.ensures) c.set-then-is_of-2.ensures)
 
-pub returns-else-vote-k : goal.returns-else-vote-k
+pub returns-else-is_of : goal.returns-else-is_of
 unfolding voters
-returns-else-vote-k c =
-    marked-none _ _ (λ m. rw (ne_eqb _ _ c.if-vote-k.false))
+returns-else-is_of c = marked-none _ _ (λ m. rw (← c.is_of.ensures, c.if-is_of.false))

@@ -11,10 +11,10 @@ scan-requires c = whole-first c.new-gone.ensures.marks
 pub loop-from-init : goal.loop-from-init
 loop-from-init c =
     let a = c.args in
-    let v = c.new-links.result.view in
+    let v = c.new-links.result.sheet in
     let s = places c.new-links.result.sides.now in
-    let e : Sheet v.lattice.count v.lattice.ranks.now s = rw (c.new-links.ensures.view, c.new-links.ensures.sides) (record { ranked = a.view.now.ranked; placed = near-places a.sides.now c.requires.0; pairs = c.requires.1; mirror = c.requires.2 }) in
-    (e, ready-first _ _ _ _ _ e c.new-gone.ensures.marks (first_made _ _ _ _ _ e (rw c.new-links.ensures.view c.states-state.ensures)) (rw c.new-gone.ensures.none at c.scan.ensures))
+    let e : Sheet v.lattice.count v.lattice.ranks.now s = rw (c.new-links.ensures.sheet, c.new-links.ensures.sides) (record { ranked = a.sheet.now.ranked; placed = near-places a.sides.now c.requires.0; pairs = c.requires.1; mirror = c.requires.2 }) in
+    (e, ready-first _ _ _ _ _ e c.new-gone.ensures.marks (first_made _ _ _ _ _ e (rw c.new-links.ensures.sheet c.states-state.ensures)) (rw c.new-gone.ensures.none at c.scan.ensures))
 
 pub overflow_add-rounds : goal.overflow_add-rounds
 overflow_add-rounds c = omega (arith, c.loop-from.invariant.1.early, c.loop-from-test.true, queue-few c.loop-from.gone.queued)
@@ -31,8 +31,8 @@ loop-from-preserved c =
     )
 
 pub returns : goal.returns
-returns c =
+returns c xs ys =
     let v = c.loop-from.invariant in
     let l = c.new-links.result in
-    ready-done _ _ _ _ _ v.0 v.1 c.loop-from.gone.queued c.loop-from-test.false l.view.x.now l.view.y.now
-    ∙ rw (c.new-links.ensures.view, c.new-links.ensures.sides)
+    ready-done _ _ _ _ _ v.0 v.1 c.loop-from.gone.queued c.loop-from-test.false xs ys
+    ∙ rw (c.new-links.ensures.sheet, c.new-links.ensures.sides)

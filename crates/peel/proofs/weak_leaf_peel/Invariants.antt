@@ -6,8 +6,8 @@ use Rattle.peel.proofs.weak_leaf_peel.Given as goal
 
 abbrev pub invariant-loop-from : goal.invariant-loop-from
 invariant-loop-from l =
-    let n = l.links.view.lattice.count in
-    let ranks = l.links.view.lattice.ranks.now in
+    let n = l.links.sheet.lattice.count in
+    let ranks = l.links.sheet.lattice.ranks.now in
     let sides = places l.links.sides.now in
     Sheet n ranks sides × Ready n ranks sides l.dropped l.weak l.rounds l.from l.state l.gone.marks l.gone.queue l.gone.tail
 

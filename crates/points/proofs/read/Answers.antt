@@ -1,5 +1,6 @@
 use Rattle.std.proofs.Common.{◌≡◌, List, Bool, false, ◌||◌, refl, sym, ◌∙◌}
 use Rattle.folds.specs.Among.{any_in}
+use Rattle.refusals.specs.declared.Refusal.TheVariants.{BadCell, BadPosition, BadStrength, RepeatedCell, TwoPositions, TwoStrengths}
 use Rattle.refusals.proofs.Laws.{neither-holds}
 use Rattle.cells.specs.Points.{Point}
 use Rattle.sheet_file.specs.declared.Fraction.{Fraction}
@@ -15,19 +16,19 @@ in-limits x ps r l s h = neither-holds r (neither-holds l (neither-holds s h))
 
 pub returns-then-any_off_range : goal.returns-then-any_off_range
 unfolding point_refusals
-returns-then-any_off_range c = refused-by _ _ 6 (sym c.any_off_range.ensures ∙ c.if-any_off_range.true) refl c.refused.ensures
+returns-then-any_off_range c = refused-by _ _ BadCell (sym c.any_off_range.ensures ∙ c.if-any_off_range.true) refl
 
 pub returns-then-any_off_limit : goal.returns-then-any_off_limit
 unfolding point_refusals
 returns-then-any_off_limit c =
-    refused-by _ _ 7 (sym c.any_off_limit.ensures ∙ c.if-any_off_limit.true) (neither-holds (sym c.any_off_range.ensures ∙ c.if-any_off_range.false) refl) c.refused-then-any_off_limit.ensures
+    refused-by _ _ BadPosition (sym c.any_off_limit.ensures ∙ c.if-any_off_limit.true) (neither-holds (sym c.any_off_range.ensures ∙ c.if-any_off_range.false) refl)
 
 pub returns-then-any_off_strength : goal.returns-then-any_off_strength
 unfolding point_refusals
 returns-then-any_off_strength c =
     let r = sym c.any_off_range.ensures ∙ c.if-any_off_range.false in
     let l = sym c.any_off_limit.ensures ∙ c.if-any_off_limit.false in
-    refused-by _ _ 13 (sym c.any_off_strength.ensures ∙ c.if-any_off_strength.true) (neither-holds r (neither-holds l refl)) c.refused-then-any_off_strength.ensures
+    refused-by _ _ BadStrength (sym c.any_off_strength.ensures ∙ c.if-any_off_strength.true) (neither-holds r (neither-holds l refl))
 
 pub returns-then-any_same_cell : goal.returns-then-any_same_cell
 unfolding point_refusals
@@ -36,7 +37,7 @@ returns-then-any_same_cell c =
     let l = sym c.any_off_limit.ensures ∙ c.if-any_off_limit.false in
     let s = sym c.any_off_strength.ensures ∙ c.if-any_off_strength.false in
     let cells = same-cells _ _ (λ k. (c.type_inv.file k).fits) r ∙ sym (rw c.by_cell-by_cell.ensures.same at c.any_same_cell.ensures) in
-    refused-by _ _ 8 (cells ∙ c.if-any_same_cell.true) (in-limits _ _ r l s refl) c.refused-then-any_same_cell.ensures
+    refused-by _ _ RepeatedCell (cells ∙ c.if-any_same_cell.true) (in-limits _ _ r l s refl)
 
 pub returns-then-any_two_positions : goal.returns-then-any_two_positions
 unfolding point_refusals
@@ -46,7 +47,7 @@ returns-then-any_two_positions c =
     let s = sym c.any_off_strength.ensures ∙ c.if-any_off_strength.false in
     let cells = same-cells _ _ (λ k. (c.type_inv.file k).fits) r ∙ sym (rw c.by_cell-by_cell.ensures.same at c.any_same_cell.ensures) in
     let positions = sym (rw c.by_index-by_index.ensures.same at c.any_two_positions.ensures) in
-    refused-by _ _ 9 (positions ∙ c.if-any_two_positions.true) (in-limits _ _ r l s (neither-holds (cells ∙ c.if-any_same_cell.false) refl)) c.refused-then-any_two_positions.ensures
+    refused-by _ _ TwoPositions (positions ∙ c.if-any_two_positions.true) (in-limits _ _ r l s (neither-holds (cells ∙ c.if-any_same_cell.false) refl))
 
 pub returns-then-any_two_strengths : goal.returns-then-any_two_strengths
 unfolding point_refusals
@@ -57,8 +58,7 @@ returns-then-any_two_strengths c =
     let cells = same-cells _ _ (λ k. (c.type_inv.file k).fits) r ∙ sym (rw c.by_cell-by_cell.ensures.same at c.any_same_cell.ensures) in
     let positions = sym (rw c.by_index-by_index.ensures.same at c.any_two_positions.ensures) in
     let strengths = sym (rw c.by_index-by_index.ensures.same at c.any_two_strengths.ensures) in
-    refused-by _ _ 14 (strengths ∙ c.if-any_two_strengths.true) (in-limits _ _ r l s (neither-holds (cells ∙ c.if-any_same_cell.false) (neither-holds (positions ∙ c.if-any_two_positions.false) refl)))
-    c.refused-then-any_two_strengths.ensures
+    refused-by _ _ TwoStrengths (strengths ∙ c.if-any_two_strengths.true) (in-limits _ _ r l s (neither-holds (cells ∙ c.if-any_same_cell.false) (neither-holds (positions ∙ c.if-any_two_positions.false) refl)))
 
 pub returns : goal.returns
 unfolding point_refusals

@@ -2,16 +2,16 @@ use Rattle.std.proofs.Common.{◌≡◌, arith}
 use lib.ListN.{replicate, length-replicate}
 use Rattle.folds.proofs.Column.{fill_start, fill_more, filled}
 use Rattle.view.specs.View.{max_points}
-use Rattle.local_h.specs.declared.Residual.{Residual}
-use Rattle.local_h.specs.declared.Residual.TheVariants.{NoFit}
+use Rattle.float.specs.declared.Distance.{Distance}
+use Rattle.std.specs.Prelude.{Option, None}
 use Rattle.residuals.proofs.cell_residuals.Goals as goal
 
 pub loop-k-init : goal.loop-k-init
-loop-k-init c = fill_start (replicate max_points NoFit) NoFit _
+loop-k-init c = fill_start (replicate max_points None) None _
 
 pub loop-k-preserved : goal.loop-k-preserved
 loop-k-preserved c =
-    fill_more (replicate max_points NoFit) NoFit _ _ (omega (arith, length-replicate {A = Residual} max_points NoFit, c.args.view.now.lattice.few)) c.local_h_residual.ensures c.loop-k.invariant
+    fill_more (replicate max_points None) None _ _ (omega (arith, length-replicate {A = Option Distance} max_points None, c.args.view.now.lattice.few)) c.local_h_residual.ensures c.loop-k.invariant
 
 pub returns : goal.returns
 returns c =

@@ -4,8 +4,8 @@ use Rattle.cells.specs.Cell.{cells_at}
 use Rattle.view.specs.View.{max_points}
 use Rattle.view.specs.Seen.{view_in}
 use Rattle.local_h.specs.Residual.{residual_at}
-use Rattle.local_h.specs.declared.Residual.TheVariants.{NoFit}
+use Rattle.std.specs.Prelude.{None}
 use Rattle.residuals.proofs.cell_residuals.Given as goal
 
 abbrev pub invariant-loop-k : goal.invariant-loop-k
-invariant-loop-k l = Filling (replicate max_points NoFit) NoFit (residual_at (view_in l.view) (cells_at l.keys)) l.k l.values
+invariant-loop-k l = Filling (replicate max_points None) None (residual_at (view_in l.view) (cells_at l.keys)) l.k l.values

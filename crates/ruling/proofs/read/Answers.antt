@@ -1,12 +1,18 @@
-use Rattle.ruling.proofs.Parts.{in_parts, header-room}
-use mathlib.Core.Path.{sym}
+use Rattle.std.proofs.Common.{sym}
+use Rattle.points.proofs.Columns.{points-length}
+use Rattle.ruling.proofs.Parts.{in_parts, header-room, handed-on, header-refused, points-refused, points-accepted}
 use Rattle.ruling.proofs.read.Goals as goal
 
-pub read_points-requires : goal.read_points-requires
-read_points-requires c = header-room _ _ _ (sym c.in-Accepted.ensures)
+pub returns-in_err-header : goal.returns-in_err-header
+returns-in_err-header c = handed-on _ _ _ c.from_residual.ensures.1 (header-refused _ _ _ c.in_err-header.ensures)
 
-pub returns-in-Refused : goal.returns-in-Refused
-returns-in-Refused c = rw (← in_parts _ _, ← c.in-Refused.ensures, ← c.refused.ensures.number_is) c.refused_with.ensures
+pub read-requires-2 : goal.read-requires-2
+read-requires-2 c = header-room _ _ _ c.in_ok-header.ensures
 
-pub returns-in-Accepted : goal.returns-in-Accepted
-returns-in-Accepted c = rw (← in_parts _ _, ← c.in-Accepted.ensures) c.read_points.ensures
+pub returns-in_err-read : goal.returns-in_err-read
+returns-in_err-read c = handed-on _ _ _ c.from_residual-in_err-read.ensures.1 (rw (← in_parts _ _, ← c.in_ok-header.ensures) (points-refused _ _ _ c.in_err-read.ensures))
+
+pub returns : goal.returns
+returns c =
+    let few = (header-room _ _ _ c.in_ok-header.ensures).records.few in
+    rw (← in_parts _ _, ← c.in_ok-header.ensures) (points-accepted _ _ c.in_ok-read.ensures (sym (points-length _ _ few)))

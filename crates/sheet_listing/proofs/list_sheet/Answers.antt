@@ -1,26 +1,26 @@
-use mathlib.Core.Path.{refl}
+use Rattle.std.proofs.Common.{refl, rules}
 use Rattle.judged.specs.Judged.{judged_from}
 use Rattle.sheet_listing.proofs.Cases.{arrays, few, listed, turned}
 use Rattle.sheet_listing.proofs.list_sheet.Goals as goal
 
+pub invariant_of-columns : goal.invariant_of-columns
+invariant_of-columns c = record { arrays = arrays c.args.file.now (λ k. (c.type_inv.file k).fits) c.in-Ok.sheet (rw c.in-Ok.is at c.read.ensures) }
+
 pub judge_sheet-j-requires : goal.judge_sheet-j-requires
-judge_sheet-j-requires c = (
-  arrays c.args.file.now (λ k. (c.type_inv.file k).fits) c.read-sheet.result c.read-sheet.ensures c.if-number-eq0.true,
-  refl,
-  refl,
-)
+judge_sheet-j-requires c = (refl, refl)
 
-pub fills-fills-requires : goal.fills-fills-requires
-fills-fills-requires c = few c.args.file.now (λ k. (c.type_inv.file k).fits) c.read-sheet.result c.read-sheet.ensures c.if-number-eq0.true
+pub invariant_of-lattice : goal.invariant_of-lattice
+invariant_of-lattice c = record { few = few c.args.file.now (λ k. (c.type_inv.file k).fits) c.in-Ok.sheet (rw c.in-Ok.is at c.read.ensures) }
 
-pub write_listing-requires : goal.write_listing-requires
-write_listing-requires c = few c.args.file.now (λ k. (c.type_inv.file k).fits) c.read-sheet.result c.read-sheet.ensures c.if-number-eq0.true
+pub invariant_of-points : goal.invariant_of-points
+invariant_of-points c = record { few = few c.args.file.now (λ k. (c.type_inv.file k).fits) c.in-Ok.sheet (rw c.in-Ok.is at c.read.ensures) }
 
-pub returns-then-number-eq0 : goal.returns-then-number-eq0
+pub returns-in-Ok : goal.returns-in-Ok
 unfolding judged_from
-returns-then-number-eq0 c =
-    rw (listed c.args.file.now (λ k. (c.type_inv.file k).fits) c.read-sheet.result c.read-sheet.ensures c.if-number-eq0.true c.judge_sheet-j.ensures.ranks c.judge_sheet-j.ensures.judged c.fills-fills.ensures)
-    at c.write_listing.ensures
+returns-in-Ok c =
+    let r = c.in-Ok.sheet in
+    rw (listed c.args.file.now (λ k. (c.type_inv.file k).fits) r (rw c.in-Ok.is at c.read.ensures) c.judge_sheet-j.ensures.ranks c.judge_sheet-j.ensures.judged (c.fills-fills.ensures r.settings))
+    at (c.write_listing.ensures c.judge_sheet-j.new.figures (λ k r h p. search (rules, p)))
 
-pub returns : goal.returns
-returns c = rw (turned c.args.file.now (λ k. (c.type_inv.file k).fits) c.read-sheet.result c.read-sheet.ensures c.if-number-eq0.false) at c.write_refusal.ensures
+pub returns-in-Err : goal.returns-in-Err
+returns-in-Err c = rw (turned c.args.file.now c.in-Err.refusal (rw c.in-Err.is at c.read.ensures)) at (rw c.number.ensures at c.write_refusal.ensures)

@@ -5,10 +5,10 @@ use Rattle.step.proofs.deviations.Goals.{else-t-via-then-t+else-how_many-ge3, el
 
 pub returns-then-how_many-ge3 : goal.returns-then-how_many-ge3
 returns-then-how_many-ge3 c =
-    judged c.args.steps.now max_points c.args.n c.args.t c.requires c.if-t.true c.how_many.ensures c.if-how_many-ge3.true c.middle.ensures c.mark_outside.ensures
+    judged c.args.steps.now.values.now max_points c.args.steps.now.count c.args.t c.args.steps.now.few c.if-t.true c.how_many.ensures c.if-how_many-ge3.true c.middle.ensures c.mark_outside.ensures
 
 pub returns : goal.returns
 returns c = elim c.else-t.branch [
-  | else-t-via-then-t+else-how_many-ge3 w ↦ few-steps c.args.steps.now max_points c.args.n c.args.t c.requires w.how_many.ensures w.if-how_many-ge3.false
-  | else-t-via-else-t w ↦ no-threshold c.args.steps.now max_points c.args.n c.args.t c.requires w.if-t.false
+  | else-t-via-then-t+else-how_many-ge3 w ↦ few-steps c.args.steps.now.values.now max_points c.args.steps.now.count c.args.t c.args.steps.now.few w.how_many.ensures w.if-how_many-ge3.false
+  | else-t-via-else-t w ↦ no-threshold c.args.steps.now.values.now max_points c.args.steps.now.count c.args.t c.args.steps.now.few w.if-t.false
 ]

@@ -13,7 +13,7 @@ loop-i-init c = (omega arith, sym (tally-none _))
 
 pub loop-i-preserved : goal.loop-i-preserved
 loop-i-preserved c =
-    let more = tally-more (λ (k : ℕ). lt zero (get_or c.args.steps.now k nan)) c.loop-i.i in
+    let more = tally-more (λ (k : ℕ). lt zero (get_or c.args.steps.now.values.now k nan)) c.loop-i.i in
     elim c.if-steps-i.branch [
       | then-steps-i w ↦ (omega arith, rw (w.c-is, more, w.if-steps-i.true, ← c.loop-i.invariant.1))
       | else-steps-i w ↦ (omega arith, rw (w.c-is, more, w.if-steps-i.false) c.loop-i.invariant.1)

@@ -4,4 +4,4 @@ use Rattle.step.proofs.scales.Goals as goal
 
 pub returns : goal.returns
 unfolding of_bits
-returns c = c.filled.ensures _ (λ k r h p. search rules)
+returns c xs ys = c.filled.ensures _ (λ k r h p. search rules)

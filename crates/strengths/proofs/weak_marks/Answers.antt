@@ -10,5 +10,5 @@ use Rattle.strengths.proofs.weak_marks.Goals as goal
 pub returns : goal.returns
 returns c =
     let g = c.args in
-    c.filled.ensures (λ k. bit (lt (get_or g.strength.now k nan) (g.fraction ⊗ c.middle_of_all.result))) (λ k r h p. search rules)
-    ∙ weak-by g.n g.strength.now g.fraction _ c.middle_of_all.ensures
+    c.filled.ensures (λ k. bit (lt (get_or g.strength.now.values.now k nan) (g.fraction ⊗ c.middle_of_all.result))) (λ k r h p. search rules)
+    ∙ weak-by g.strength.now.count g.strength.now.values.now g.fraction _ c.middle_of_all.ensures

@@ -11,4 +11,4 @@ returns-in-None c =
 pub returns-in-Some : goal.returns-in-Some
 returns-in-Some c =
     let a = c.args in
-    on-boundary (view_in a.view.now) (cells_at a.keys.now) _ c.in-Some.is c.square_sides.ensures c.boundary.ensures
+    on-boundary (view_in a.view.now) (cells_at a.keys.now) _ c.in-Some.is c.square_sides.ensures (rw c.sheet.ensures at (c.boundary.ensures a.view.now.x.now a.view.now.y.now))

@@ -5,4 +5,4 @@ use Rattle.listing.proofs.fill.put_position.Goals as goal
 pub returns : goal.returns
 unfolding position_text
 returns c =
-    stored-then (stored-then (stored-then (stored-then c.decimal.ensures c.byte.ensures) (rw c.to_bits.ensures at c.hex.ensures)) c.byte-2.ensures) (rw c.to_bits-2.ensures at c.hex-2.ensures)
+    stored-then (stored-then (stored-then (stored-then (rw c.from.ensures at c.decimal.ensures) c.byte.ensures) (rw c.to_bits.ensures at c.hex.ensures)) c.byte-2.ensures) (rw c.to_bits-2.ensures at c.hex-2.ensures)

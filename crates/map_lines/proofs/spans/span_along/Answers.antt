@@ -1,12 +1,12 @@
 use mathlib.Core.Path.{◌≡◌, refl, sym, ap, ◌∙◌}
 use mathlib.Core.Bool.{cond}
-use mathlib.Core.List.{List}
-use Prim.Native.Nat.{ℕ, ◌+◌, ◌-◌, ◌^◌, ◌<◌}
+use mathlib.Core.List.{List, [], ◌∷◌}
+use Prim.Native.Nat.{ℕ, ◌+◌, ◌-◌, ◌^◌, ◌<◌, ◌≤◌}
 use native.Mathlib.Omega.{arith}
 use borrow.Author.Tests.{ne_eqb}
 use lib.Dec.{eqb}
 use lib.IntN.{ℤ, pos, neg_ℤ, ◌+ℤ◌}
-use lib.ListN.{get_or}
+use lib.ListN.{get_or, length}
 use Rattle.cells.specs.Points.{bias}
 use Rattle.cells.specs.Cell.{cells_at}
 use Rattle.map_lines.specs.Map.{smallest, span}
@@ -33,25 +33,35 @@ ended axis keys n a b count small h e =
     some : {k : ℕ} → k < n → count ≡ b - a + 1
     some l = e ∙ rw (ne_eqb n 0 (λ z. omega (arith, l, z)))
 
-pub loop-k-init : goal.loop-k-init
-loop-k-init c =
-    (c.coordinate-least.ensures.1, rw c.coordinate-least.ensures.0 (ends-start (λ (j : ℕ). part c.args.axis (get_or c.args.keys.now j 0))))
+-- no keys span nothing
+none : (axis : Axis) → Spans axis [] 0 (record { least = 0; count = 0 })
+none AlongU = ended AlongU [] 0 0 0 0 (omega arith) (ends-start (λ (j : ℕ). part AlongU (get_or [] j 0))) refl
+none AlongV = ended AlongV [] 0 0 0 0 (omega arith) (ends-start (λ (j : ℕ). part AlongV (get_or [] j 0))) refl
 
-pub loop-k-preserved : goal.loop-k-preserved
-loop-k-preserved c =
+nothing : (axis : Axis) (keys : List ℕ) → length keys ≤ 0 → Spans axis keys (length keys) (record { least = 0; count = 0 })
+nothing axis [] h = none axis
+nothing axis (key ∷ keys) h = absurd (omega arith)
+
+pub returns-in_default : goal.returns-in_default
+returns-in_default c = nothing c.args.axis c.args.keys.now (c.in_default.ensures.item.3)
+
+pub loop-key-init : goal.loop-key-init
+loop-key-init c =
+    let a = c.args in
+    let first : c.in-Some.first.now ≡ get_or a.keys.now 0 0 = c.in-Some.ensures.item.4 (omega arith) 0 in
+    (c.coordinate-least.ensures.1, rw (c.coordinate-least.ensures.0, first) (ends-start (λ (j : ℕ). part a.axis (get_or a.keys.now j 0))))
+
+pub loop-key-preserved : goal.loop-key-preserved
+loop-key-preserved c =
     let a = c.args in
     let p : ℕ → ℕ = λ j. part a.axis (get_or a.keys.now j 0) in
     let e = c.coordinate-c.ensures in
-    (omega (arith, c.max-most.ensures), rw (c.max-most.ensures, c.min-least.ensures, e.0) (ends_more p c.loop-k.k c.loop-k.least c.loop-k.most c.loop-k.invariant.1))
+    (omega (arith, c.max-most.ensures), rw (c.max-most.ensures, c.min-least.ensures, e.0) (ends_more p c.loop-key.key-index c.loop-key.least c.loop-key.most c.loop-key.invariant.1))
 
-pub returns-then-n-eq0 : goal.returns-then-n-eq0
-returns-then-n-eq0 c =
-    let a = c.args in
-    let n : c.loop-k.k ≡ a.n = omega arith in
-    ended a.axis a.keys.now a.n c.loop-k.least c.loop-k.most 0 c.loop-k.invariant.0 (rw n at c.loop-k.invariant.1) (rw c.if-n-eq0.true)
-
-pub returns-else-n-eq0 : goal.returns-else-n-eq0
-returns-else-n-eq0 c =
-    let a = c.args in
-    let n : c.loop-k.k ≡ a.n = omega arith in
-    ended a.axis a.keys.now a.n c.loop-k.least c.loop-k.most (c.loop-k.most - c.loop-k.least + 1) c.loop-k.invariant.0 (rw n at c.loop-k.invariant.1) (rw (ne_eqb a.n 0 c.if-n-eq0.false))
+pub returns : goal.returns
+returns c =
+    let keys = c.args.keys.now in
+    let f = c.in-Some.ensures.item in
+    let n : c.loop-key.key-index ≡ length keys = omega arith in
+    ended c.args.axis keys (length keys) c.loop-key.least c.loop-key.most (c.loop-key.most - c.loop-key.least + 1) c.loop-key.invariant.0 (rw n at c.loop-key.invariant.1)
+    (rw (ne_eqb (length keys) 0 (λ z. omega (arith, z, f.3))))

@@ -2,8 +2,7 @@ use Rattle.std.proofs.Common.{◌≡◌, refl, sym, ap, ◌∙◌, ◌&&◌, Lis
 use Rattle.folds.proofs.Lists.{past_end}
 use Rattle.folds.proofs.Column.{replicate-at}
 use Rattle.offsets.specs.Offsets.{places}
-use Rattle.view.specs.View.{max_points}
-use Rattle.view.specs.Seen.{view_in}
+use Rattle.view.specs.View.{max_points, view_at}
 use Rattle.cells.specs.Cell.{cells_at}
 use Rattle.patches.specs.Patches.{labels_of}
 use Rattle.patches.proofs.Agreeing.{labels-depend}
@@ -17,8 +16,8 @@ all_alike n near sides =
 
 pub returns : goal.returns
 unfolding boundary_of
-returns c =
+returns c xs ys =
     let a = c.args in
-    let w = view_in a.view.now in
-    c.boundary_among.ensures
+    let w = view_at a.sheet.now.lattice.count a.sheet.now.lattice.ranks.now xs ys in
+    c.boundary_among.ensures xs ys
     ∙ ap (λ (s : List ℕ). boundary_among w s (cells_at a.keys.now)) (c.labels-label.ensures [] [] ∙ all_alike w.count w.near (places a.sides.now))

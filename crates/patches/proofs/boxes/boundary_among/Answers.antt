@@ -1,6 +1,6 @@
 use Rattle.std.proofs.Common.{◌≡◌, ◌&&◌, ◌∙◌, ap, get_or, ltb, rules}
 use Rattle.folds.specs.Marked.{bit}
-use Rattle.view.specs.Seen.{view_in}
+use Rattle.view.specs.View.{view_at}
 use Rattle.patches.specs.Boxes.{boundary_among}
 use Rattle.patches.specs.Extents.{at_some_end}
 use Rattle.patches.proofs.Outermost.{boundary-is}
@@ -8,10 +8,10 @@ use Rattle.patches.proofs.boxes.boundary_among.Goals as goal
 
 pub returns : goal.returns
 unfolding boundary_among
-returns c =
+returns c xs ys =
     let a = c.args in
-    let w = view_in a.view.now in
+    let w = view_at a.sheet.now.lattice.count a.sheet.now.lattice.ranks.now xs ys in
     c.filled.ensures _ (λ k r h p.
     let s = get_or a.label.now (w.by_idx k) 0 in
     let at : r ≡ bit (ltb s w.count && at_some_end c.new-extents.result s (get_or a.keys.now (w.by_idx k) 0)) = search rules in
-    at ∙ ap bit (boundary-is w.count a.label.now a.keys.now c.requires (w.by_idx k) (a.view.now.ranked.indices k h) c.new-extents.result c.new-extents.ensures))
+    at ∙ ap bit (boundary-is w.count a.label.now a.keys.now c.requires (w.by_idx k) (a.sheet.now.ranked.indices k h) c.new-extents.result c.new-extents.ensures))

@@ -3,8 +3,8 @@ use lib.ListN.{drop}
 use Rattle.folds.specs.Column.{overlaid}
 use Rattle.folds.proofs.Lists.{list_ext}
 use Rattle.view.specs.Seen.{view_in}
-use Rattle.local_h.specs.declared.Residual.{Residual}
-use Rattle.local_h.specs.declared.Residual.TheVariants.{NoFit}
+use Rattle.float.specs.declared.Distance.{Distance}
+use Rattle.std.specs.Prelude.{Option, None}
 use Rattle.residuals.proofs.Indexing.{value-placed}
 use Rattle.residuals.proofs.by_index.gather.Goals as goal
 
@@ -14,6 +14,6 @@ returns c =
     let v = c.args.view.now in
     let w = view_in v in
     let values = c.args.values.now in
-    c.spread.ensures NoFit
-    ∙ ap (λ (l : List Residual). l ++ drop w.count values)
-    (list_ext NoFit w.count _ _ (λ k h. value-placed w (λ (j : ℕ). get_or values j NoFit) c.put_last.ensures k (omega (arith, v.ranked.indices k h, v.lattice.few))))
+    (rw c.sheet.ensures at c.spread.ensures None)
+    ∙ ap (λ (l : List (Option Distance)). l ++ drop w.count values)
+    (list_ext None w.count _ _ (λ k h. value-placed w (λ (j : ℕ). get_or values j None) c.put_last.ensures k (omega (arith, v.ranked.indices k h, v.lattice.few))))

@@ -1,4 +1,4 @@
-use Rattle.std.proofs.Common.{◌≡◌, arith, refl}
+use Rattle.std.proofs.Common.{arith, refl}
 use Rattle.view.specs.Seen.{view_in}
 use Rattle.wrong_label_filters.specs.Lasts.{line_start}
 use Rattle.wrong_label_filters.proofs.LineEnds.{lasts-none, lasts-more}
@@ -10,6 +10,3 @@ loop-k-init c = lasts-none _
 pub loop-k-preserved : goal.loop-k-preserved
 loop-k-preserved c =
     lasts-more (line_start (view_in c.args.view.now) c.args.axis) c.loop-k.k _ _ c.line_of.ensures.0 refl (omega (arith, c.line_of.ensures.1, c.args.view.now.lattice.few)) c.loop-k.invariant
-
-pub returns : goal.returns
-returns c = let h : c.loop-k.k ≡ c.args.view.now.lattice.count = omega arith in rw h at c.loop-k.invariant

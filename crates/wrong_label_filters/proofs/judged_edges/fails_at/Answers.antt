@@ -3,48 +3,24 @@ use Rattle.std.specs.Float.Ieee.{lt}
 use borrow.Author.Tests.{le-leb, lt-leb}
 use Rattle.view.specs.Seen.{view_in}
 use Rattle.wrong_label_filters.specs.Windows.{edge_along}
-use Rattle.wrong_label_filters.proofs.FailingEdges.{fails-is, fails_by}
+use Rattle.wrong_label_filters.proofs.FailingEdges.{fails-is, verdict-is}
 use Rattle.wrong_label_filters.proofs.judged_edges.fails_at.Goals as goal
 
 pub returns-then-v-ge5 : goal.returns-then-v-ge5
-returns-then-v-ge5 c =
-    let a = c.args in
-    let w = view_in a.table.now.view in (
-      rw (
-        fails_by w (edge_along w a.axis) a.k _ c.window_at-v.result a.total (ap (λ e. e.len) c.at-own.ensures) c.window_at-v.ensures c.requires.total-is,
-        c.if-own.true,
-        le-leb _ _ c.if-v-ge5.true,
-        ← ap (λ e. e.ux) c.at-own.ensures,
-        ← ap (λ e. e.uy) c.at-own.ensures,
-      ) c.fails_in.ensures,
-      c.requires.limits,
-    )
+returns-then-v-ge5 c = (rw (verdict-is _ _ _ c.requires c.at-own.ensures c.window_at-v.ensures, c.if-own.true, le-leb _ _ c.if-v-ge5.true) c.fails_in.ensures, c.requires.limits)
 
 pub returns-then-total-ge8 : goal.returns-then-total-ge8
-returns-then-total-ge8 c =
-    let a = c.args in
-    let w = view_in a.table.now.view in (
-      rw (
-        fails_by w (edge_along w a.axis) a.k _ c.window_at-v.result a.total (ap (λ e. e.len) c.at-own.ensures) c.window_at-v.ensures c.requires.total-is,
-        c.if-own.true,
-        lt-leb _ _ c.if-v-ge5.false,
-        le-leb _ _ c.if-total-ge8.true,
-      ) (ap (λ x. lt x c.at-own.result.len) c.sheet_limit-sheet.ensures),
-      c.sheet_limit-sheet.ensures,
-    )
+returns-then-total-ge8 c = (
+  rw (verdict-is _ _ _ c.requires c.at-own.ensures c.window_at-v.ensures, c.if-own.true, lt-leb _ _ c.if-v-ge5.false, le-leb _ _ c.if-total-ge8.true)
+      (ap (λ x. lt x c.at-own.result.len) c.sheet_limit-sheet.ensures),
+  c.sheet_limit-sheet.ensures,
+)
 
 pub returns-else-total-ge8 : goal.returns-else-total-ge8
-returns-else-total-ge8 c =
-    let a = c.args in
-    let w = view_in a.table.now.view in (
-      rw (
-        fails_by w (edge_along w a.axis) a.k _ c.window_at-v.result a.total (ap (λ e. e.len) c.at-own.ensures) c.window_at-v.ensures c.requires.total-is,
-        c.if-own.true,
-        lt-leb _ _ c.if-v-ge5.false,
-        lt-leb _ _ c.if-total-ge8.false,
-      ),
-      c.requires.limits,
-    )
+returns-else-total-ge8 c = (
+  rw (verdict-is _ _ _ c.requires c.at-own.ensures c.window_at-v.ensures, c.if-own.true, lt-leb _ _ c.if-v-ge5.false, lt-leb _ _ c.if-total-ge8.false),
+  c.requires.limits,
+)
 
 pub returns-else-own : goal.returns-else-own
 returns-else-own c =

@@ -9,9 +9,6 @@ pub loop-k-init : goal.loop-k-init
 unfolding some
 loop-k-init c = (marked-none _ _ (λ m. refl), c.sheet_count-total.ensures, tt)
 
-pub mark_edge-limit-requires : goal.mark_edge-limit-requires
-mark_edge-limit-requires c = record { below = omega arith; total-is = c.loop-k.invariant.1; limits = c.loop-k.invariant.2 }
-
 pub loop-k-preserved : goal.loop-k-preserved
 loop-k-preserved c =
     let l = c.loop-k in

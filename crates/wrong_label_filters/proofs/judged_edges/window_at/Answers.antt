@@ -1,4 +1,4 @@
-use Rattle.std.proofs.Common.{◌≡◌, sym, ◌∙◌, arith}
+use Rattle.std.proofs.Common.{sym, ◌∙◌, arith}
 use Rattle.folds.proofs.Below.{tally-le}
 use Rattle.view.specs.Seen.{view_in}
 use Rattle.wrong_label_filters.specs.Windows.{edge_along, window_to}
@@ -18,6 +18,3 @@ pub loop-j-preserved : goal.loop-j-preserved
 loop-j-preserved c =
     let a = c.args in
     c.with_edge_at-v.ensures ∙ rw c.loop-j.invariant (sym (window_more (view_in a.table.now.view) (edge_along (view_in a.table.now.view) a.axis) a.k a.own c.loop-j.j))
-
-pub returns : goal.returns
-returns c = let h : c.loop-j.j ≡ 25 = omega arith in rw h at c.loop-j.invariant

@@ -9,4 +9,4 @@ use Rattle.close_pairs.proofs.sweep.Sweep.mark_from.Given as goal
 abbrev pub invariant-loop-j : goal.invariant-loop-j
 invariant-loop-j l =
     let s = l.self in
-    (l.i < l.j) × Marked (λ (m : ℕ). some (λ (p : ℕ). pair_hits s.order.now s.x.now s.y.now s.limit l.i p m) l.j) l.initial.mark l.mark × (l.a ≡ get_or s.order.now l.i 0)
+    (l.i < l.j) × Marked (λ (m : ℕ). some (λ (p : ℕ). pair_hits s.order.now s.seen.now.x.now s.seen.now.y.now s.limit l.i p m) l.j) l.initial.mark l.mark × (l.a ≡ get_or s.order.now l.i 0)

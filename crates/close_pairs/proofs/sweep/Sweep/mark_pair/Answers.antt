@@ -9,7 +9,7 @@ use Rattle.close_pairs.proofs.sweep.Sweep.mark_pair.Goals as goal
 pub returns-then-self-abs : goal.returns-then-self-abs
 returns-then-self-abs c =
     let s = c.args.self.now in
-    let dy = get_or s.y.now c.args.b nan ⊖ get_or s.y.now c.args.a nan in
+    let dy = get_or s.seen.now.y.now c.args.b nan ⊖ get_or s.seen.now.y.now c.args.a nan in
     marked-none _ _ (λ m. rw (apart-in-y s.side s.limit c.args.dx dy s.over (rw (← c.abs.ensures) c.if-self-abs.true)))
 
 pub returns-then-dx-dy : goal.returns-then-dx-dy

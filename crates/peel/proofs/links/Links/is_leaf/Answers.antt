@@ -12,7 +12,7 @@ use Rattle.peel.proofs.links.Links.is_leaf.Goals.{in-Some, in_default}
 pub returns-then-not-is_weak : goal.returns-then-not-is_weak
 returns-then-not-is_weak c =
     let v = c.args.self.now in
-    leaf-by v.view.lattice.count v.view.lattice.ranks.now c.args.state.now (places v.sides.now) c.args.k false (sym c.is_weak.ensures ∙ c.if-not-is_weak.true)
+    leaf-by v.sheet.lattice.count v.sheet.lattice.ranks.now c.args.state.now (places v.sides.now) c.args.k false (sym c.is_weak.ensures ∙ c.if-not-is_weak.true)
 
 pub loop-o-init : goal.loop-o-init
 loop-o-init c = sym (tally-none _)
@@ -28,7 +28,7 @@ one-more c false = omega arith
 pub overflow_add-count : goal.overflow_add-count
 overflow_add-count c =
     let v = c.args.self.now in
-    let p : ℕ → Bool = λ i. ltb (near_at v.view.lattice.ranks.now (25 * c.args.k + get_or (places v.sides.now) i 0)) v.view.lattice.count && lives_at c.args.state.now (near_at v.view.lattice.ranks.now (25 * c.args.k + get_or (places v.sides.now) i 0)) in
+    let p : ℕ → Bool = λ i. ltb (near_at v.sheet.lattice.ranks.now (25 * c.args.k + get_or (places v.sides.now) i 0)) v.sheet.lattice.count && lives_at c.args.state.now (near_at v.sheet.lattice.ranks.now (25 * c.args.k + get_or (places v.sides.now) i 0)) in
     omega (arith, c.loop-o.invariant, tally-le p c.loop-o.o-index, c.from-count.ensures, bit-le c.is_live.result)
 
 pub loop-o-preserved : goal.loop-o-preserved
@@ -36,7 +36,7 @@ loop-o-preserved c =
     let v = c.args.self.now in
     let i = c.loop-o.o-index in
     let below : i < length v.sides.now = omega arith in
-    let at = ap (λ d. near_at v.view.lattice.ranks.now (25 * c.args.k + d)) (places-at v.sides.now i below) in
+    let at = ap (λ d. near_at v.sheet.lattice.ranks.now (25 * c.args.k + d)) (places-at v.sides.now i below) in
     elim c.match-neighbour.branch [
       | in-Some w ↦
           let same = at ∙ found _ _ w.in-Some.ensures.value in
@@ -50,4 +50,4 @@ returns c =
     let v = c.args.self.now in
     let e : c.loop-o.o-index ≡ length (places v.sides.now) = omega (arith, places-long v.sides.now) in
     ap (λ (m : ℕ). ltb m 2) (rw e at c.loop-o.invariant)
-    ∙ leaf-by v.view.lattice.count v.view.lattice.ranks.now c.args.state.now (places v.sides.now) c.args.k true (sym c.is_weak.ensures ∙ c.if-not-is_weak.false)
+    ∙ leaf-by v.sheet.lattice.count v.sheet.lattice.ranks.now c.args.state.now (places v.sides.now) c.args.k true (sym c.is_weak.ensures ∙ c.if-not-is_weak.false)

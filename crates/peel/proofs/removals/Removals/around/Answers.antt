@@ -12,10 +12,10 @@ loop-o-preserved c =
     let v = c.args.links.now in
     let i = c.loop-o.o-index in
     let below : i < length v.sides.now = omega arith in
-    let at = ap (λ d. near_at v.view.lattice.ranks.now (25 * c.args.x + d)) (places-at v.sides.now i below) in
+    let at = ap (λ d. near_at v.sheet.lattice.ranks.now (25 * c.args.x + d)) (places-at v.sides.now i below) in
     elim c.match-neighbour.branch [
-      | in-Some w ↦ rw w.self-is (searched-then _ (λ k l. beside-more v.view.lattice.ranks.now (places v.sides.now) c.args.x i w.in-Some.k (at ∙ found _ _ w.in-Some.ensures.value) k) c.loop-o.invariant w.consider.ensures)
-      | in_default w ↦ rw w.self-is (searched-same _ (λ k l. beside-none v.view.lattice.count v.view.lattice.ranks.now (places v.sides.now) c.args.x i (omega (arith, at, ltb-false _ _ (not-found _ _ w.in_default.ensures.value))) k l) c.loop-o.invariant)
+      | in-Some w ↦ rw w.self-is (searched-then _ (λ k l. beside-more v.sheet.lattice.ranks.now (places v.sides.now) c.args.x i w.in-Some.k (at ∙ found _ _ w.in-Some.ensures.value) k) c.loop-o.invariant w.consider.ensures)
+      | in_default w ↦ rw w.self-is (searched-same _ (λ k l. beside-none v.sheet.lattice.count v.sheet.lattice.ranks.now (places v.sides.now) c.args.x i (omega (arith, at, ltb-false _ _ (not-found _ _ w.in_default.ensures.value))) k l) c.loop-o.invariant)
     ]
 
 pub returns : goal.returns

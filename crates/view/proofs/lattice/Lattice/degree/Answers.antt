@@ -1,8 +1,0 @@
-use Rattle.view.specs.View.{degree_at}
-use Rattle.folds.proofs.Marked.{tally-four}
-use Rattle.view.proofs.lattice.Lattice.degree.Goals as goal
-
-pub returns : goal.returns
-unfolding degree_at
-returns c =
-    rw (tally-four _) (cc)

@@ -1,7 +1,0 @@
-use Rattle.std.proofs.Common.{ℕ, get_or}
-use Rattle.folds.specs.Column.{Filling}
-use Rattle.view.specs.Seen.{view_in}
-use Rattle.view.proofs.lattice.View.spread.Given as goal
-
-abbrev pub invariant-loop-k : goal.invariant-loop-k
-invariant-loop-k g l = (d : g.row.T.Denot) → Filling l.initial.out d (λ (k : ℕ). get_or l.held ((view_in l.self).by_idx k) d) l.k l.out
