@@ -7,7 +7,7 @@ use Rattle.orientation.specs.declared.Side.{Side}
 use Rattle.orientation.specs.declared.Side.TheVariants.{Positive, Negative}
 use Rattle.orientation.specs.Orientation.{vote_at}
 
--- "1 for a positive cross product, 2 for a negative one, 0 for no vote"
+-- "votes by the sign of its cross product; zero casts no vote": the vote that has this number in Orientation
 abbrev pub vote_of : ℕ → Option Side
 vote_of v = cond (eqb v 1) (Some Positive) (cond (eqb v 2) (Some Negative) None)
 
