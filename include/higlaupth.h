@@ -51,8 +51,8 @@ extern "C" {
    caller raises the first number, an addition the second, anything else the third. */
 #define HIGLAUPTH_VERSION_MAJOR 5
 #define HIGLAUPTH_VERSION_MINOR 0
-#define HIGLAUPTH_VERSION_PATCH 3
-#define HIGLAUPTH_VERSION "5.0.3"
+#define HIGLAUPTH_VERSION_PATCH 4
+#define HIGLAUPTH_VERSION "5.0.4"
 
 /* Sizes, in bytes but for the first three. */
 #define HIGLAUPTH_MOST_POINTS 2304  /* a sheet with more is refused */
@@ -245,9 +245,10 @@ enum higlaupth_fill_offset {
  *   exceptions. The call neither reads nor changes that register's modes; like any arithmetic it
  *   may set its sticky exception bits. It uses no x87 and no instruction beyond SSE2.
  * - HIGLAUPTH_STACK_SIZE bytes of the calling thread's stack are free. No proof bounds the
- *   stack: this is the deepest use that was measured, docs/TESTING.md, rounded up to a page. The
- *   usual 8 MiB of a main thread and the 2 MiB of a Rust thread suffice. The code touches its stack
- *   page by page, so that a stack too small ends in a fault at its guard page.
+ *   stack: this is the deepest use that was measured of version 5.0.0, rounded up to a page; later
+ *   versions use less (docs/TESTING.md). The usual 8 MiB of a main thread and the 2 MiB of a Rust
+ *   thread suffice. The code touches its stack page by page, so that a stack too small ends in a
+ *   fault at its guard page.
  */
 
 /*

@@ -100,7 +100,7 @@ module _ (w : View) (e : Evidence) (k : ℕ) where
 
 -- ---- all rules
 
-marked-is : (w : View) (e : Evidence) (m : ℕ) → is_marked w e m ≡ rule1 e m || (rule2 e m || (rule3 w e m || rule4 e m))
+pub marked-is : (w : View) (e : Evidence) (m : ℕ) → is_marked w e m ≡ rule1 e m || (rule2 e m || (rule3 w e m || rule4 e m))
 unfolding is_marked
 marked-is w e m = refl
 

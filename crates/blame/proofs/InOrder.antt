@@ -12,21 +12,20 @@ use borrow.Author.Tests.{eqb-true, ltb-true, lt-leb}
 use lib.Dec.{eqb, ltb}
 use Rattle.folds.specs.Among.{any_in}
 use Rattle.folds.specs.Below.{some}
-use Rattle.folds.proofs.Below.{some-yes, some_at, or-false, and-false, and_left, and_right, not-true, both_ways, or-right-first}
+use Rattle.folds.proofs.Below.{some-yes, some_at, or-right-first}
 use Rattle.folds.specs.Lists.{over}
 use Rattle.view.specs.View.{View}
 use Rattle.marks.specs.Marks.{is_at}
 use Rattle.local_h.specs.Base.{member_at, base_of}
 use Rattle.blame.specs.declared.Worst.{Worst}
 use Rattle.blame.specs.Marks.{Evidence, rule1, rule2, rule3, rule4, flags_in, place_in, worse_of, worst_of, blamed, is_visited, blames, is_marked}
+use Rattle.std.proofs.Math.Bool.{and-false, or-false, or_assoc}
+use Rattle.std.proofs.lemmas.Bool.{and_parts, false_from_ne_true}
+use Rattle.std.specs.Cmp.{both_ways}
 
 -- one turn: k, if it passes q and is not marked, marks its key
 abbrev pub visit : (ℕ → Option ℕ) → (ℕ → Bool) → (ℕ → Bool) → ℕ → ℕ → Bool
 visit key q s k = cond (q k && not (s k)) (λ m. s m || is_at (key k) m) s
-
-regroup : (a b c : Bool) → (a || b) || c ≡ a || (b || c)
-regroup true b c = refl
-regroup false b c = refl
 
 -- a number with q marks its key
 abbrev hits : (ℕ → Option ℕ) → (ℕ → Bool) → ℕ → ℕ → Bool
@@ -44,7 +43,7 @@ module _ (key : ℕ → Option ℕ) (q : ℕ → Bool) (n : ℕ) (apart : (j k :
   walked (a ∷ l) below s fresh m = go (q a) refl (walked l (λ k d. below k (Memᴰ.tail d)))
     where
       go : (b : Bool) → q a ≡ b → ((t : ℕ → Bool) → Fresh t → (m : ℕ) → over (visit key q) t l m ≡ t m || any_in (hits key q m) l) → over (visit key q) (visit key q s a) l m ≡ s m || any_in (hits key q m) (a ∷ l)
-      go true e h = rw (e, fresh a (below a (Memᴰ.head refl)) e) (h (λ j. s j || is_at (key a) j) (λ k g d. rw (fresh k g d) (apart a k g d)) m ∙ regroup (s m) (is_at (key a) m) (any_in (hits key q m) l))
+      go true e h = rw (e, fresh a (below a (Memᴰ.head refl)) e) (h (λ j. s j || is_at (key a) j) (λ k g d. rw (fresh k g d) (apart a k g d)) m ∙ or_assoc (s m) (is_at (key a) m) (any_in (hits key q m) l))
       go false e h = rw e (h s fresh m)
 
 any-yes : (t : ℕ → Bool) (l : List ℕ) (k : ℕ) → Memᴰ k l → t k ≡ true → any_in t l ≡ true
@@ -101,8 +100,8 @@ worst-flagged w flags k b = go b None tt
 blamed-apart : (w : View) (e : Evidence) (j k : ℕ) → k < w.count → is_visited w e k ≡ true → is_at (blamed w e.flags j) k ≡ false
 unfolding Flagged blamed
 blamed-apart w e j k l v =
-    let z = eqb-true (e.flags k) 0 (and_right (e.over k) (eqb (e.flags k) 0) (and_right (eqb (w.by_idx k) k) (e.over k && eqb (e.flags k) 0) v)) in
-    not-true (is_at (place_in (worst_of w e.flags j (base_of w j))) k) (go (worst_of w e.flags j (base_of w j)) z (worst-flagged w e.flags j (base_of w j)))
+    let z = eqb-true (e.flags k) 0 (and_parts (e.over k) (eqb (e.flags k) 0) (and_parts (eqb (w.by_idx k) k) (e.over k && eqb (e.flags k) 0) v).1).1 in
+    false_from_ne_true (is_at (place_in (worst_of w e.flags j (base_of w j))) k) (go (worst_of w e.flags j (base_of w j)) z (worst-flagged w e.flags j (base_of w j)))
   where
     go : (worst : Option Worst) → e.flags k ≡ 0 → Flagged e.flags worst → is_at (place_in worst) k ≡ true → ⊥
     go None z h d = false≢true d
@@ -114,7 +113,7 @@ marked12 e m = rule1 e m || rule2 e m
 
 fresh : (w : View) (e : Evidence) (k : ℕ) → k < w.count → is_visited w e k ≡ true → marked12 e k ≡ false
 fresh w e k l v =
-    let z = eqb-true (e.flags k) 0 (and_right (e.over k) (eqb (e.flags k) 0) (and_right (eqb (w.by_idx k) k) (e.over k && eqb (e.flags k) 0) v)) in
+    let z = eqb-true (e.flags k) 0 (and_parts (e.over k) (eqb (e.flags k) 0) (and_parts (eqb (w.by_idx k) k) (e.over k && eqb (e.flags k) 0) v).1).1 in
     rw (lt-leb 2 (e.flags k) (omega arith), lt-leb 1 (e.flags k) (omega arith)) (and-false (e.high k))
 
 -- "(3) in index order, .. not yet marked": after rules 1 and 2, the corners of any listing of ranks that has each corner rule 3 looks at,
@@ -125,5 +124,5 @@ unfolding is_marked blames
 in_order w e l below all m =
     ap (λ (b : Bool). b || rule4 e m)
     (walked (blamed w e.flags) (is_visited w e) w.count (blamed-apart w e) l below (marked12 e) (fresh w e) m
-    ∙ ap (λ (b : Bool). marked12 e m || b) (any_some (hits (blamed w e.flags) (is_visited w e) m) l w.count below (λ k h c. all k h (and_left (is_visited w e k) (is_at (blamed w e.flags k) m) c))))
+    ∙ ap (λ (b : Bool). marked12 e m || b) (any_some (hits (blamed w e.flags) (is_visited w e) m) l w.count below (λ k h c. all k h (and_parts (is_visited w e k) (is_at (blamed w e.flags k) m) c).0)))
     ∙ or-right-first (rule1 e m) (rule2 e m) (rule3 w e m) (rule4 e m)

@@ -2,10 +2,11 @@
 use Rattle.std.proofs.Common.{◌≡◌, ℕ, suc, ◌+◌, ◌-◌, ◌<◌, ◌≤◌, Bool, true, false, cond, ◌&&◌, eqb, ltb, leb, ℤ, pos, negsuc, ◌+ℤ◌, ◌-ℤ◌, sym, refl, ap, ◌∙◌, arith, ltb-false, ltb-true, le-ltb, lt-ltb, eq-eqb, eqb-true, le-leb, leb-true}
 use lib.IntN.{sub_ℕ}
 use lib.Signed.{lt_z}
-use Rattle.folds.proofs.Below.{and_left, and_right, and_both, both_ways}
 use Rattle.cells.specs.Points.{bias}
 use Rattle.cells.specs.Cell.{within, agree}
 use Rattle.cells.proofs.Edges.{agree_same, agree-true}
+use Rattle.std.proofs.lemmas.Bool.{and_from, and_parts}
+use Rattle.std.specs.Cmp.{both_ways}
 
 -- a whole number as a difference: how far up it leads, and how far down
 abbrev pub up_of : ℤ → ℕ
@@ -38,10 +39,10 @@ abbrev pub between_ends : ℕ → Bool
 between_ends b = leb lowest b && leb b highest
 
 pub ends-hold : (b : ℕ) → between_ends b ≡ true → (lowest ≤ b) × (b ≤ highest)
-ends-hold b e = (leb-true lowest b (and_left (leb lowest b) (leb b highest) e), leb-true b highest (and_right (leb lowest b) (leb b highest) e))
+ends-hold b e = (leb-true lowest b (and_parts (leb lowest b) (leb b highest) e).0, leb-true b highest (and_parts (leb lowest b) (leb b highest) e).1)
 
 pub ends-are : (b : ℕ) → lowest ≤ b → b ≤ highest → between_ends b ≡ true
-ends-are b l m = and_both (leb lowest b) (leb b highest) (le-leb lowest b l) (le-leb b highest m)
+ends-are b l m = and_from (leb lowest b) (leb b highest) (le-leb lowest b l) (le-leb b highest m)
 
 pub within-lift : (z : ℤ) → within z ≡ between_ends (lift z)
 within-lift (pos n) =
@@ -49,8 +50,8 @@ within-lift (pos n) =
     (λ e. le-leb n 8000 (omega (arith, ends-hold (n + bias) e)))
 within-lift (negsuc n) =
     both_ways (within (negsuc n)) (between_ends (lift (negsuc n)))
-    (λ e. let l = leb-true n 7999 (and_left (leb n 7999) true e) in ends-are (bias - suc n) (omega arith) (omega arith))
-    (λ e. and_both (leb n 7999) true (le-leb n 7999 (omega (arith, ends-hold (bias - suc n) e))) refl)
+    (λ e. let l = leb-true n 7999 (and_parts (leb n 7999) true e).0 in ends-are (bias - suc n) (omega arith) (omega arith))
+    (λ e. and_from (leb n 7999) true (le-leb n 7999 (omega (arith, ends-hold (bias - suc n) e))) refl)
 
 pub lift-range : (z : ℤ) → within z ≡ true → (lowest ≤ lift z) × (lift z ≤ highest)
 lift-range z e = ends-hold (lift z) (sym (within-lift z) ∙ e)

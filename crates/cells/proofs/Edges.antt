@@ -1,26 +1,34 @@
 -- Cells that agree are equal; a move of two cells keeps whether they agree; a shared edge is one of four offsets. Assumes nothing.
-use Rattle.std.proofs.Common.{◌≡◌, ℕ, zero, suc, ◌-◌, ◌/◌, ◌%◌, ◌<◌, Bool, true, ◌&&◌, ◌⊎◌, get_or, ℤ, pos, negsuc, ◌+ℤ◌, ◌-ℤ◌, sym, refl, ap, ◌∙◌, inl, inr, arith, eq-eqb, eqb-true}
+use Rattle.std.proofs.Common.{◌≡◌, ℕ, zero, suc, ◌-◌, ◌/◌, ◌%◌, ◌<◌, Bool, true, false, ◌&&◌, ◌⊎◌, get_or, ℤ, pos, negsuc, ◌+ℤ◌, ◌-ℤ◌, sym, refl, ap, ◌∙◌, inl, inr, arith, eq-eqb, eqb-true}
 use mathlib.Core.Bool.{false≢true}
 use lib.IntN.{+ℤ_idr, +ℤ_assoc, +ℤ_comm, +ℤ-neg_ℤ_cancel}
-use Rattle.folds.proofs.Below.{some_at, some-yes, and_left, and_right, and_both, both_ways, or_left, or_right, or_cases}
+use Rattle.folds.proofs.Below.{some_at, some-yes}
 use Rattle.offsets.specs.declared.Offset.{Offset}
 use Rattle.offsets.specs.Offsets.{own, square_sides, offset_of}
 use Rattle.cells.specs.Cell.{Cell, moved, agree, differ_by_one, share_edge, coincide, offset_by, joined_by}
+use Rattle.std.proofs.lemmas.Bool.{and_from, and_parts, or_cases, or_left, or_right}
+use Rattle.std.specs.Cmp.{both_ways}
+use lib.Signed.{lt_z}
+use borrow.Author.Tests.{le-ltb}
 
 -- ---- whole numbers
 
+pub agree-itself : (z : ℤ) → agree z z ≡ true
+agree-itself (pos n) = eq-eqb n n refl
+agree-itself (negsuc n) = eq-eqb n n refl
+
 pub agree_same : (a b : ℤ) → a ≡ b → agree a b ≡ true
-agree_same a b e = rw e (itself b)
-  where
-    itself : (z : ℤ) → agree z z ≡ true
-    itself (pos n) = eq-eqb n n refl
-    itself (negsuc n) = eq-eqb n n refl
+agree_same a b e = rw e (agree-itself b)
 
 pub agree-true : (a b : ℤ) → agree a b ≡ true → a ≡ b
 agree-true (pos a) (pos b) e = ap pos (eqb-true a b e)
 agree-true (pos a) (negsuc b) e = absurd (false≢true e)
 agree-true (negsuc a) (pos b) e = absurd (false≢true e)
 agree-true (negsuc a) (negsuc b) e = ap negsuc (eqb-true a b e)
+
+pub not-below-itself : (a : ℤ) → lt_z a a ≡ false
+not-below-itself (pos a) = le-ltb a a (omega arith)
+not-below-itself (negsuc a) = le-ltb a a (omega arith)
 
 -- numbers moved alike agree as before
 pub agree-moved : (a b c : ℤ) → agree (a +ℤ c) (b +ℤ c) ≡ agree a b
@@ -38,18 +46,19 @@ pub same-cell : {u v x y : ℤ} → u ≡ x → v ≡ y → cell_at u v ≡ cell
 same-cell {u} {v} {x} {y} e f = ap (λ (z : ℤ). cell_at z v) e ∙ ap (cell_at x) f
 
 pub coincide-same : (c d : Cell) → c ≡ d → coincide c d ≡ true
-coincide-same c d e = and_both (agree c.u d.u) (agree c.v d.v) (agree_same c.u d.u (ap (λ (x : Cell). x.u) e)) (agree_same c.v d.v (ap (λ (x : Cell). x.v) e))
+coincide-same c d e = and_from (agree c.u d.u) (agree c.v d.v) (agree_same c.u d.u (ap (λ (x : Cell). x.u) e)) (agree_same c.v d.v (ap (λ (x : Cell). x.v) e))
 
 pub coincide-true : (c d : Cell) → coincide c d ≡ true → c ≡ d
-coincide-true c d e = same-cell (agree-true c.u d.u (and_left (agree c.u d.u) (agree c.v d.v) e)) (agree-true c.v d.v (and_right (agree c.u d.u) (agree c.v d.v) e))
+coincide-true c d e = same-cell (agree-true c.u d.u (and_parts (agree c.u d.u) (agree c.v d.v) e).0) (agree-true c.v d.v (and_parts (agree c.u d.u) (agree c.v d.v) e).1)
 
-swapped : (z a b : ℤ) → (z +ℤ a) +ℤ b ≡ (z +ℤ b) +ℤ a
-swapped z a b = +ℤ_assoc z a b ∙ ap (λ (w : ℤ). z +ℤ w) (+ℤ_comm a b) ∙ sym (+ℤ_assoc z b a)
+-- two moves in the other order
+pub moves-swap : (z a b : ℤ) → (z +ℤ a) +ℤ b ≡ (z +ℤ b) +ℤ a
+moves-swap z a b = +ℤ_assoc z a b ∙ ap (λ (w : ℤ). z +ℤ w) (+ℤ_comm a b) ∙ sym (+ℤ_assoc z b a)
 
 -- cells moved alike stand to each other as before
 pub offset-moved : (a b : ℤ) (o : Offset) (c e : Cell) → coincide (moved a b e) (offset_by o (moved a b c)) ≡ coincide e (offset_by o c)
 offset-moved a b o c e =
-    let f : offset_by o (moved a b c) ≡ moved a b (offset_by o c) = same-cell (swapped c.u a _) (swapped c.v b _) in
+    let f : offset_by o (moved a b c) ≡ moved a b (offset_by o c) = same-cell (moves-swap c.u a _) (moves-swap c.v b _) in
     ap (coincide (moved a b e)) f ∙ rw (agree-moved e.u (offset_by o c).u a, agree-moved e.v (offset_by o c).v b)
 
 back : (z : ℤ) (e : ℕ) → e < 5 → (z +ℤ (pos e -ℤ pos 2)) +ℤ (pos (4 - e) -ℤ pos 2) ≡ z
@@ -97,8 +106,8 @@ module _ (u v x y : ℤ) where
       in-v f (inr e) = (1, omega arith, by-v (pos 1) f e)
 
       go : (differ_by_one u x && agree v y ≡ true) ⊎ (agree u x && differ_by_one v y ≡ true) → (i : ℕ) × (i < 4) × Over (side i)
-      go (inl h) = in-u (and_right (differ_by_one u x) (agree v y) h) (or_cases (agree x (u -ℤ pos 1)) (agree x (u +ℤ pos 1)) (and_left (differ_by_one u x) (agree v y) h))
-      go (inr h) = in-v (and_left (agree u x) (differ_by_one v y) h) (or_cases (agree y (v -ℤ pos 1)) (agree y (v +ℤ pos 1)) (and_right (agree u x) (differ_by_one v y) h))
+      go (inl h) = in-u (and_parts (differ_by_one u x) (agree v y) h).1 (or_cases (agree x (u -ℤ pos 1)) (agree x (u +ℤ pos 1)) (and_parts (differ_by_one u x) (agree v y) h).0)
+      go (inr h) = in-v (and_parts (agree u x) (differ_by_one v y) h).0 (or_cases (agree y (v -ℤ pos 1)) (agree y (v +ℤ pos 1)) (and_parts (agree u x) (differ_by_one v y) h).1)
 
   over-u : (a : ℤ) → cell_at x y ≡ moved a (pos 0) (cell_at u v) → (agree x (u +ℤ a) ≡ true) × (agree v y ≡ true)
   over-u a e =
@@ -113,10 +122,10 @@ module _ (u v x y : ℤ) where
       (agree_same u x (sym (f ∙ +ℤ_idr u)), agree_same y (v +ℤ b) g)
 
   in-u-is : differ_by_one u x ≡ true → agree v y ≡ true → share_edge (cell_at u v) (cell_at x y) ≡ true
-  in-u-is e f = or_left (differ_by_one u x && agree v y) (agree u x && differ_by_one v y) (and_both (differ_by_one u x) (agree v y) e f)
+  in-u-is e f = or_left (differ_by_one u x && agree v y) (agree u x && differ_by_one v y) (and_from (differ_by_one u x) (agree v y) e f)
 
   in-v-is : agree u x ≡ true → differ_by_one v y ≡ true → share_edge (cell_at u v) (cell_at x y) ≡ true
-  in-v-is e f = or_right (differ_by_one u x && agree v y) (agree u x && differ_by_one v y) (and_both (agree u x) (differ_by_one v y) e f)
+  in-v-is e f = or_right (differ_by_one u x && agree v y) (agree u x && differ_by_one v y) (and_from (agree u x) (differ_by_one v y) e f)
 
   of-side : (i : ℕ) → i < 4 → Over (side i) → share_edge (cell_at u v) (cell_at x y) ≡ true
   of-side zero h e = let w = over-u (pos 1) e in in-u-is (or_right (agree x (u -ℤ pos 1)) (agree x (u +ℤ pos 1)) w.0) w.1

@@ -4,7 +4,6 @@ use mathlib.Core.Path.{fun_ext}
 use Prim.{Dec, yes, no}
 use native.Mathlib.Decide.{dec_lt}
 use mir.Val.{sel}
-use Rattle.folds.proofs.Below.{both_ways}
 use Rattle.folds.specs.Lists.{list_of}
 use Rattle.folds.proofs.Lists.{list_at, list_over}
 use Rattle.folds.specs.Column.{column}
@@ -14,6 +13,7 @@ use Rattle.cells.specs.Points.{Point, nowhere, bias, stride, biased, key_of, key
 use Rattle.cells.specs.Cell.{Cell, signed, within, cell_of, InRange, CellInRange, before, moved, agree, cell_of_key, cells_at, cells_of}
 use Rattle.cells.proofs.Coordinates.{up_of, down_of, lift, Liftable, lowest, highest, between_ends, ends-hold, ends-are, within-lift, lift-range, liftable, lift-one, lift-agree, lift-less, part-liftable, part-lift, add-lift}
 use Rattle.cells.proofs.Edges.{same-cell}
+use Rattle.std.specs.Cmp.{both_ways}
 
 -- ---- from patterns
 

@@ -1,9 +1,12 @@
 // The cell of a point: whether it is in range, and its key. Points and cells are defined in specs/.
 #![tactic(auto)]
 
-ghost use Rattle.std.specs.Prelude.{◌≡◌, ◌/◌, ◌%◌};
+ghost use Rattle.std.specs.Prelude.{◌≡◌, ◌/◌, ◌%◌, ◌≤◌};
+ghost use Rattle.view.specs.View.{max_points};
 ghost use Rattle.cells.specs.Points.{stride, biased, key_at};
 ghost use Rattle.cells.specs.Cell.{signed, within};
+
+use view::Words;
 
 // The key of a cell is (u + BIAS) * STRIDE + (v + BIAS).
 pub const BIAS: u32 = 8003;
@@ -14,6 +17,15 @@ pub const STRIDE: u32 = 16384;
 const LOWEST: u32 = BIAS - 8000;
 
 const HIGHEST: u32 = BIAS + 8000;
+
+// The points of a sheet in cell order: the keys of their cells, and their indices.
+#[derive(Clone, Copy)]
+pub struct Points<'a> {
+    pub keys: &'a Words,
+    pub idx: &'a Words,
+    pub count: usize,
+    ghost few: { count ≤ max_points },
+}
 
 // The key's parts: u and v, each plus BIAS.
 pub fn u_part(key: u32) -> u32

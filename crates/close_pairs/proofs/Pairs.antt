@@ -12,7 +12,7 @@ use lib.ListN.{get_or}
 use lib.Ieee.{Float, nan, lt}
 use Rattle.folds.specs.Arith.{◌⊖◌, zero_f}
 use Rattle.folds.specs.Below.{some}
-use Rattle.folds.proofs.Below.{some-yes, some_at, some-no, both_ways, and_left, and_right, and-false, or-true}
+use Rattle.folds.proofs.Below.{some-yes, some_at, some-no}
 use Rattle.folds.proofs.Column.{column-at}
 use Rattle.folds.specs.Marked.{Marked}
 use Rattle.view.specs.View.{View, max_points, view_at, Finite}
@@ -24,6 +24,9 @@ use Rattle.close_pairs.specs.Ranks.{rank_in, OrderedByX}
 use Rattle.close_pairs.specs.Sweep.{close_in, square_x, pair_hits, sweep_hits, Sweepable}
 use Rattle.close_pairs.proofs.Places.{place, rising-order}
 use Rattle.close_pairs.proofs.Squares.{far, square-turned, none-close}
+use Rattle.std.proofs.Math.Bool.{and-false, or-true}
+use Rattle.std.proofs.lemmas.Bool.{and_parts}
+use Rattle.std.specs.Cmp.{both_ways}
 
 -- ---- one pair
 
@@ -32,11 +35,11 @@ pub pair-marked : (near : Bool) (a b : ℕ) (marks : List ℕ) → eqb (get_or m
 pair-marked near a b marks h = record { size = refl; at = λ m l. kept m (near && (eqb a m || eqb b m)) refl }
   where
     one : (m : ℕ) (t : Bool) → eqb a m ≡ t → t || eqb b m ≡ true → get_or marks m 0 ≡ 1
-    one m true e u = rw (← eqb-true a m e) (eqb-true (get_or marks a 0) 1 (and_left (eqb (get_or marks a 0) 1) (eqb (get_or marks b 0) 1) h))
-    one m false e u = rw (← eqb-true b m u) (eqb-true (get_or marks b 0) 1 (and_right (eqb (get_or marks a 0) 1) (eqb (get_or marks b 0) 1) h))
+    one m true e u = rw (← eqb-true a m e) (eqb-true (get_or marks a 0) 1 (and_parts (eqb (get_or marks a 0) 1) (eqb (get_or marks b 0) 1) h).0)
+    one m false e u = rw (← eqb-true b m u) (eqb-true (get_or marks b 0) 1 (and_parts (eqb (get_or marks a 0) 1) (eqb (get_or marks b 0) 1) h).1)
 
     kept : (m : ℕ) (t : Bool) → near && (eqb a m || eqb b m) ≡ t → get_or marks m 0 ≡ cond t 1 (get_or marks m 0)
-    kept m true e = one m (eqb a m) refl (and_right near (eqb a m || eqb b m) e)
+    kept m true e = one m (eqb a m) refl (and_parts near (eqb a m || eqb b m) e).1
     kept m false e = refl
 
 -- ---- the loop of a sweep
@@ -151,8 +154,8 @@ module _ (order : List ℕ) (xs ys : List Float) (n : ℕ) (few : n ≤ max_poin
       let C = close_in xs ys limit (rank_in xs n j) (rank_in xs n i) in
       let M = eqb (rank_in xs n i) m || eqb (rank_in xs n j) m in
       let f : ltb i j && (C && M) ≡ true = rw (rank i hi, rank j hj) at e in
-      let g = and_right (ltb i j) (C && M) f in
-      found limit m i j (ltb-true i j (and_left (ltb i j) (C && M) f)) hj (and_left C M g) (and_right C M g)
+      let g = (and_parts (ltb i j) (C && M) f).1 in
+      found limit m i j (ltb-true i j (and_parts (ltb i j) (C && M) f).0) hj (and_parts C M g).0 (and_parts C M g).1
 
   pub pairs-are : (limit : Float) (m : ℕ) → m < n → some (λ i. sweep_hits order xs ys limit n i m) n ≡ some (others limit m) n
   pairs-are limit m h = both_ways (some (λ i. sweep_hits order xs ys limit n i m) n) (some (others limit m) n) out back
@@ -171,7 +174,7 @@ module _ (order : List ℕ) (xs ys : List Float) (n : ℕ) (few : n ≤ max_poin
           let a = some_at (others limit m) n e in
           let p = place_of (key_at xs) n (omega arith) m h in
           let q = place_of (key_at xs) n (omega arith) a.0 a.1 in
-          met limit m a.0 p.0 q.0 p.1 q.1 p.2 q.2 (differs a.0 m (and_left (not (eqb a.0 m)) (close_in xs ys limit a.0 m) a.2)) (and_right (not (eqb a.0 m)) (close_in xs ys limit a.0 m) a.2)
+          met limit m a.0 p.0 q.0 p.1 q.1 p.2 q.2 (differs a.0 m (and_parts (not (eqb a.0 m)) (close_in xs ys limit a.0 m) a.2).0) (and_parts (not (eqb a.0 m)) (close_in xs ys limit a.0 m) a.2).1
 
   -- nothing past n
   past_pairs : (limit : Float) (m : ℕ) → n ≤ m → some (λ i. sweep_hits order xs ys limit n i m) n ≡ false

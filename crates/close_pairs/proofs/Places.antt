@@ -5,7 +5,6 @@ use mathlib.Core.Bool.{Bool, true, false, cond}
 use Prim.Native.Nat.{ℕ, zero, suc, ◌+◌, ◌-◌, ◌*◌, ◌/◌, ◌^◌, ◌≤◌, ◌<◌}
 use native.Mathlib.Nat.{zero-mul, le_of_mul-le-mul_right, mul_assoc, mul_comm, mul_right_comm, mul-pos, mul-sub, add-mul, mul-le-mul_right, mul-lt-mul_of_pos_right, lt_of_mul-lt-mul_right, mul-div_cancel, zero-div}
 use native.Mathlib.Omega.{arith}
-use native.Mathlib.Decide.{dec_le}
 use lib.Dec.{T, ltb}
 use lib.IntN.{ℤ}
 use lib.Pow.{pow_pos}
@@ -16,6 +15,7 @@ use lib.Ieee.Scale.{round_same}
 use Rattle.float.proofs.Digits.{digits, in-units}
 use Rattle.median.specs.Keys.{Number, rising_of}
 use Rattle.median.proofs.KeyOrder.{key-order}
+use Rattle.folds.proofs.Below.{ltb_as}
 
 -- how many 2 ^ -149 a finite f32 is away from 0
 unfoldable pub steps : Float → ℕ
@@ -113,9 +113,6 @@ module _ (s t : Bool) (m n : ℕ) (e d : ℤ) (f : T (fits binary32 (fin s m e))
       let b = steps (fin t n d) in
       let C = down e * down d in
       same-order 0 (A + B) 0 (a + b) (2 ^ 149) C (pow_pos 149) common (zero-mul (2 ^ 149) ∙ sym (zero-mul C)) (sum-scaled A B a b (2 ^ 149) C (pow_pos 149) common over-a over-b)
-
-ltb_as : (p q r s : ℕ) → (p < q → r < s) → (q ≤ p → s ≤ r) → ltb p q ≡ ltb r s
-ltb_as p q r s f g = elim (dec_le q p) [ yes h ↦ le-ltb p q h ∙ sym (le-ltb r s (g h)) | no h ↦ (let l : p < q = omega (arith, h) in lt-ltb p q l ∙ sym (lt-ltb r s (f l))) ]
 
 -- the order of numbers is that of their places
 pub place-order : (x y : Float) → Number x → Number y → lt x y ≡ ltb (place x) (place y)

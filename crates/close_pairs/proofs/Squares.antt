@@ -14,7 +14,6 @@ use lib.Ieee.Exact.{HasValue, round_exact}
 use lib.Ieee.Fits.{round_is, down_pos, mul-fits}
 use lib.Ieee.Order.{round_mono, le_of_values}
 use Rattle.folds.specs.Arith.{◌⊕◌, ◌⊖◌, ◌⊗◌, zero_f}
-use Rattle.folds.proofs.Below.{not-true}
 use Rattle.float.specs.Scalar.{abs_of}
 use Rattle.float.proofs.Digits.{digits, exponent}
 use Rattle.float.proofs.Order.{plain, plain-cases, plain-pair, plain-round, plain-le-inf, plain-number, square-plain, sum-plain, lt-after, lt-or-eq, nothing-over, under}
@@ -22,6 +21,7 @@ use Rattle.close_pairs.specs.Close.{square_of}
 use Rattle.median.specs.Keys.{Number}
 use Rattle.close_pairs.specs.Sweep.{OverSide}
 use Rattle.close_pairs.proofs.Places.{place, apart, sub_is}
+use Rattle.std.proofs.lemmas.Bool.{false_from_ne_true}
 
 -- ---- the square does not see the sign
 
@@ -209,7 +209,7 @@ square-fine (fin s m e) (fin t n d) p q =
 pub far : (a b c d e z : Float) → Number a → Number b → Number c → T (finite d) → T (finite e) → place a ≤ place b → place b ≤ place c
     → lt ((b ⊖ a) ⊗ (b ⊖ a)) z ≡ false → lt ((c ⊖ a) ⊗ (c ⊖ a) ⊕ (d ⊖ e) ⊗ (d ⊖ e)) z ≡ false
 far a b c d e z na nb nc nd ne ab bc h =
-    not-true (lt ((c ⊖ a) ⊗ (c ⊖ a) ⊕ (d ⊖ e) ⊗ (d ⊖ e)) z)
+    false_from_ne_true (lt ((c ⊖ a) ⊗ (c ⊖ a) ⊕ (d ⊖ e) ⊗ (d ⊖ e)) z)
     (λ u. true≢false (sym (close (under-sum ((c ⊖ a) ⊗ (c ⊖ a)) ((d ⊖ e) ⊗ (d ⊖ e)) z (square-fine c a nc.is_finite na.is_finite) (square-fine d e nd ne) (mul-fits binary32 (c ⊖ a) (c ⊖ a)) u)) ∙ h))
   where
     close : lt ((c ⊖ a) ⊗ (c ⊖ a)) z ≡ true → lt ((b ⊖ a) ⊗ (b ⊖ a)) z ≡ true
@@ -239,7 +239,7 @@ not-under-itself u p = plain-cases (λ (a : Float). lt a a ≡ true → ⊥) (λ
 pub reaches : (side : Float) → T (plain side) → OverSide side (side ⊗ side)
 reaches side p d h =
     let q = after-plain side d p h in
-    not-true (lt (d ⊗ d) (side ⊗ side))
+    false_from_ne_true (lt (d ⊗ d) (side ⊗ side))
     (λ u. not-under-itself (side ⊗ side) (times-plain side p)
     (lt-after (side ⊗ side) (d ⊗ d) (side ⊗ side) (times-plain side p) (times-plain d q) (square-mono side d p q (under d side h)) u))
 
@@ -289,7 +289,7 @@ square-abs (fin false m e) = refl
 pub apart-in-y : (side limit dx dy : Float) → OverSide side limit → lt side (abs_of dy) ≡ true → lt (square_of dx dy) limit ≡ false
 unfolding square_of
 apart-in-y side limit dx dy r h =
-    not-true (lt (dx ⊗ dx ⊕ dy ⊗ dy) limit) (λ u. true≢false (sym (under-second dx dy limit u) ∙ rw (← square-abs dy) (r (abs_of dy) h)))
+    false_from_ne_true (lt (dx ⊗ dx ⊕ dy ⊗ dy) limit) (λ u. true≢false (sym (under-second dx dy limit u) ∙ rw (← square-abs dy) (r (abs_of dy) h)))
 
 -- ---- nothing is under a limit of 0
 
@@ -302,7 +302,7 @@ zero-least u p =
 pub none-close : (dx dy limit : Float) → lt zero_f limit ≡ false → lt (square_of dx dy) limit ≡ false
 unfolding square_of of_bits
 none-close dx dy limit h =
-    not-true (lt (dx ⊗ dx ⊕ dy ⊗ dy) limit)
+    false_from_ne_true (lt (dx ⊗ dx ⊕ dy ⊗ dy) limit)
     (λ u.
     let p = first_plain dx (dy ⊗ dy) limit u in
     let s = sum-plain (dx ⊗ dx) (dy ⊗ dy) p (second_plain (dx ⊗ dx) dy limit p u) in

@@ -6,7 +6,7 @@ use Prim.Native.Nat.{ℕ, ◌<◌}
 use borrow.Author.Tests.{eq-eqb, eqb-true, lt-ltb}
 use lib.Dec.{eqb}
 use lib.ListN.{get_or}
-use Rattle.folds.proofs.Below.{some-ext, some_one, and-under, both_ways}
+use Rattle.folds.proofs.Below.{some-ext, some_one, and-under}
 use Rattle.folds.proofs.Column.{column-at}
 use Rattle.folds.specs.Marked.{bit}
 use Rattle.view.specs.View.{View, max_points, alike, index_has}
@@ -16,6 +16,7 @@ use Rattle.components.specs.Components.{winner_of, in_patch, in_other_patch, oth
 use Rattle.patches.proofs.Surviving.{survives-lt}
 use Rattle.patches.proofs.Closure.{reach-from}
 use Rattle.patches.proofs.Labelling.{joins, label-some}
+use Rattle.std.specs.Cmp.{both_ways}
 
 -- ---- the mark is of indices
 

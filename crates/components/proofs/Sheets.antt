@@ -1,33 +1,18 @@
 -- Small sheets by computation. With a repeated index the kept patch may be empty although there are survivors, or in pieces. Assumes nothing.
 use mathlib.Core.Path.{◌≡◌, refl}
 use mathlib.Core.Bool.{◌&&◌}
-use mathlib.Core.List.{List, [], ◌∷◌}
-use Prim.Native.Nat.{ℕ, ◌+◌, ◌/◌, ◌%◌}
-use lib.Dec.{eqb}
-use lib.Ieee.{nan}
-use lib.ListN.{length, get_or, take}
+use mathlib.Core.List.{[], ◌∷◌}
+use Prim.Native.Nat.{◌+◌, ◌/◌, ◌%◌}
+use lib.ListN.{take}
 use Rattle.folds.specs.Below.{some, tally, first, first_in}
 use Rattle.folds.specs.Lists.{up_from, list_of}
 use Rattle.folds.specs.Column.{column}
-use Rattle.offsets.specs.Offsets.{square_sides, up_by2, offset_of, places}
-use Rattle.view.specs.View.{View}
+use Rattle.offsets.specs.Offsets.{square_sides, places}
 use Rattle.marks.specs.Marks.{index_marks}
 use Rattle.patches.specs.Patches.{test_table, via, labels_by, labels_of, patch_labels}
 use Rattle.patches.proofs.Lattices.{hex_sides}
 use Rattle.components.specs.Components.{patch_count, sizes_of, largest_at, winner_of, others_by, others_of, component_count, component_mark}
-
--- the view of cells in order, u and v from 2 on, with the place of each cell's index: entry 25 * k + d is the rank of the cell at the offset with place d
-unfoldable sheet : List ℕ → List ℕ → List ℕ → View
-unfolding first first_in
-sheet us vs lasts = record {
-  count = length us;
-  near = λ i. first (λ (j : ℕ). eqb (get_or us j 0 + 2) (get_or us (i / 25) 0 + up_by2 (offset_of (i % 25)).du) && eqb (get_or vs j 0 + 2) (get_or vs (i / 25) 0 + up_by2 (offset_of (i % 25)).dv)) 0 (length us);
-  row = λ k. 0;
-  column = λ k. 0;
-  by_idx = λ k. get_or lasts k 0;
-  x = λ k. nan;
-  y = λ k. nan;
-}
+use Rattle.patches.proofs.InOrder.{sheet}
 
 -- index 7 at cells (0, 0) and (5, 5): two patches, and both points marked
 empty-kept : (component_count (sheet (2 ∷ 7 ∷ []) (2 ∷ 7 ∷ []) (1 ∷ 1 ∷ [])) (places square_sides) [] ≡ 2)

@@ -14,7 +14,7 @@ use borrow.Author.Tests.{eq-eqb, eqb-true, lt-ltb, ltb-true, ltb-false}
 use lib.Dec.{eqb, ltb}
 use lib.ListN.{get_or}
 use Rattle.folds.specs.Below.{first, tally}
-use Rattle.folds.proofs.Below.{first_holds, first-before, some-yes, tally-ext, tally-some, and_left, and_right, and_both, both_ways, not-true}
+use Rattle.folds.proofs.Below.{first_holds, first-before, some-yes, tally-ext, tally-some}
 use Rattle.folds.proofs.Column.{column-at}
 use Rattle.view.specs.View.{max_points}
 use Rattle.patches.specs.Patches.{survives, linked, labels_of}
@@ -27,6 +27,9 @@ use Rattle.patches.proofs.Closure.{reach-from, reach-to}
 use Rattle.patches.proofs.Labelling.{joins, label-none, label-some, label-le, label-lives}
 use Rattle.patches.proofs.Agreeing.{same-label}
 use Rattle.components.proofs.Tallies.{largest-le}
+use Rattle.std.proofs.lemmas.Bool.{and_from, and_parts, false_from_ne_true}
+use Rattle.std.specs.Cmp.{both_ways}
+use Rattle.folds.proofs.Counting.{tally-has}
 
 -- a whole patch of ranks below n has a smallest cell
 pub smallest : {alive : ℕ → Bool} {link : ℕ → ℕ → Bool} {W : ℕ → Bool} (n : ℕ) → WholePatch alive link W → ((k : ℕ) → W k ≡ true → k < n) → (x : ℕ) × Smallest W x
@@ -40,16 +43,6 @@ smallest {W = W} n p below = (x, record { member = first_holds W 0 n (omega (ari
 
     low : (k : ℕ) → W k ≡ true → x ≤ k
     low k e = elim (dec_lt k x) [ yes l ↦ absurd (true≢false (sym e ∙ first-before W 0 n k (omega arith) l)) | no f ↦ omega (arith, f) ]
-
--- a count above 0 counts something
-tally-at : (p : ℕ → Bool) (n : ℕ) → 0 < tally p n → (k : ℕ) × (k < n) × (p k ≡ true)
-unfolding tally
-tally-at p zero h = absurd (omega arith)
-tally-at p (suc n) h = go (p n) refl h (tally-at p n)
-  where
-    go : (b : Bool) → p n ≡ b → 0 < cond b (tally p n + 1) (tally p n) → (0 < tally p n → (k : ℕ) × (k < n) × (p k ≡ true)) → (k : ℕ) × (k < suc n) × (p k ≡ true)
-    go true e g r = (n, omega arith, e)
-    go false e g r = let w = r g in (w.0, omega (arith, w.1), w.2)
 
 -- ---- the first of the largest
 
@@ -99,10 +92,10 @@ module _ (n : ℕ) (near : ℕ → ℕ) (sides dropped : List ℕ) where
     -- ---- patches by their labels
 
     patch-of : (s k : ℕ) → in_patch n labels s k ≡ true → (k < n) × (label k ≡ s)
-    patch-of s k e = (ltb-true k n (and_left (ltb k n) (eqb (label k) s) e), eqb-true (label k) s (and_right (ltb k n) (eqb (label k) s) e))
+    patch-of s k e = (ltb-true k n (and_parts (ltb k n) (eqb (label k) s) e).0, eqb-true (label k) s (and_parts (ltb k n) (eqb (label k) s) e).1)
 
     patch-is : (s k : ℕ) → alive k ≡ true → label k ≡ s → in_patch n labels s k ≡ true
-    patch-is s k a e = and_both (ltb k n) (eqb (label k) s) (lt-ltb k n (survives-lt n dropped k a)) (eq-eqb (label k) s e)
+    patch-is s k a e = and_from (ltb k n) (eqb (label k) s) (lt-ltb k n (survives-lt n dropped k a)) (eq-eqb (label k) s e)
 
     -- a survivor's patch is what has its label
     patch-in : (a k : ℕ) → alive a ≡ true → in_patch n labels (label a) k ≡ true → Reach alive link a k
@@ -169,7 +162,7 @@ module _ (n : ℕ) (near : ℕ → ℕ) (sides dropped : List ℕ) where
         let w = largest-lt (sizes_of n labels) n (omega arith) in
         let m = largest-most (sizes_of n labels) n (label a) (omega arith) in
         let p = tally-some (in_patch n labels (label a)) n (some-yes (in_patch n labels (label a)) n a h (patch-is (label a) a e refl)) in
-        let f = tally-at (in_patch n labels (largest_at (sizes_of n labels) n)) n (omega (arith, m, p, size_of (label a) (omega arith), size_of (largest_at (sizes_of n labels) n) w)) in
+        let f = tally-has (in_patch n labels (largest_at (sizes_of n labels) n)) n (omega (arith, m, p, size_of (label a) (omega arith), size_of (largest_at (sizes_of n labels) n) w)) in
         let v = patch-of (largest_at (sizes_of n labels) n) f.0 f.2 in
         let o = own-label f.0 (label-lives n near sides dropped f.0 v.0 (omega (arith, v.1))) in
         (w, eq-eqb (label win) win (rw v.1 at o.1))
@@ -178,7 +171,7 @@ module _ (n : ℕ) (near : ℕ → ℕ) (sides dropped : List ℕ) where
     pub winner-kept : KeptPatch alive link n (in_patch n labels win)
     unfolding winner_of
     winner-kept = record {
-      none = λ f k. not-true (in_patch n labels win k) (λ e. no-one f k e);
+      none = λ f k. false_from_ne_true (in_patch n labels win k) (λ e. no-one f k e);
       whole = λ a e. let w = won a e in labels-counted.whole win w.0 w.1;
       most = as-large;
       tie = ranked;

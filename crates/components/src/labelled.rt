@@ -18,13 +18,7 @@ impl Labelled {
     pub fn patches(&self) -> usize
         ensures { result ≡ patch_count self.now.count self.now.label }
     {
-        let mut r = 0;
-        for k in 0..self.count {
-            if usize::from(self.label[k]) == k {
-                r += 1;
-            }
-        }
-        r
+        view::counted(self.count, |k| usize::from(self.label[k]) == k)
     }
 
     // How many points each label has.

@@ -5,7 +5,7 @@ ghost use Rattle.std.specs.Prelude.{◌≡◌, List, [], ◌∷◌, ℕ, Float, 
 ghost use Rattle.folds.specs.Column.{column};
 ghost use Rattle.folds.specs.Marked.{bit};
 ghost use Rattle.view.specs.View.{max_points, Finite, view_at};
-ghost use Rattle.view.specs.Seen.{lattice_in, view_in};
+ghost use Rattle.view.specs.Seen.{view_in};
 ghost use Rattle.cells.specs.Cell.{cells_at};
 ghost use Rattle.marks.specs.Filters.{validate as Validate, orientation as Orientation, wrong as Wrong};
 ghost use Rattle.marks.specs.Marks.{is_set};
@@ -13,8 +13,10 @@ ghost use Rattle.marks.specs.Byte.{marked_by_all};
 ghost use Rattle.residuals.specs.ByIndex.{residuals_of};
 ghost use Rattle.judged.specs.Judged.{blank_figures};
 ghost use Rattle.validate.specs.Validate.{figures_of};
-ghost use Rattle.drop_set.specs.Given.{Celled, Weighed, Joined};
+ghost use Rattle.drop_set.specs.Given.{Celled, Joined};
 ghost use Rattle.drop_set.specs.Filters.{by_points, wrong_mark, no_leaves, peel_of, patched_of, measured_of};
+
+mod weighed;
 
 use components::ComponentFilter;
 use edges::{EdgeTable, Edges};
@@ -26,7 +28,8 @@ use marks::filters::Filter;
 use median::Numbers;
 use peel::Peeled;
 use sheet_file::{Fraction, Settings};
-use view::{Floats, MAX_POINTS, Marks, SheetLattice, View, Words};
+use view::{MAX_POINTS, Marks, SheetLattice, View, Words};
+pub use weighed::WeighedSheet;
 
 // The bytes of marks, how many patches the survivors have, how many rounds removed a weak end, and the tally.
 #[derive(Drop)]
@@ -39,9 +42,9 @@ pub struct DropSet {
 
 // The wrong-label marks; none with the switch off.
 fn wrong_marks(s: Settings, table: &EdgeTable) -> Marks
-    requires x { Finite table.now.view.lattice.count table.now.view.x.now }
-    requires y { Finite table.now.view.lattice.count table.now.view.y.now }
-    ensures { result ≡ column max_points 0 table.now.view.lattice.count (λ (k : ℕ). bit (wrong_mark s (view_in table.now.view) k)) }
+    requires x { Finite table.now.view.sheet.lattice.count table.now.view.seen.x.now }
+    requires y { Finite table.now.view.sheet.lattice.count table.now.view.seen.y.now }
+    ensures { result ≡ column max_points 0 table.now.view.sheet.lattice.count (λ (k : ℕ). bit (wrong_mark s (view_in table.now.view) k)) }
 {
     if s.apply_wrong_label_drops {
         return wrong_label_filters::topological_wrong_label_drops(table, s.cell_size);
@@ -70,14 +73,14 @@ pub fn measure(
     figures: &mut FigureColumn,
     residuals: &mut ResidualColumn,
 ) -> Measured
-    requires { Celled view.now.lattice.count keys.now view.now.x.now view.now.y.now × (figures.old ≡ blank_figures) }
+    requires { Celled view.now.sheet.lattice.count keys.now view.now.seen.x.now view.now.seen.y.now × (figures.old ≡ blank_figures) }
     ensures findings { result ≡ measured_of s (view_in view.now) (cells_at keys.now) }
     ensures residuals { residuals.new ≡ residuals_of (view_in view.now) (cells_at keys.now) }
     ensures figures { figures.new ≡ figures_of s (view_in view.now) }
 {
     let mut along_u = [edges::no_edge(); MAX_POINTS];
     let mut along_v = [edges::no_edge(); MAX_POINTS];
-    edges::fill(&view.lattice, &view.positions(), &mut along_u, &mut along_v);
+    edges::fill(&view.sheet.lattice, &view.seen, &mut along_u, &mut along_v);
     let table = EdgeTable {
         view: *view,
         edges: Edges {
@@ -90,7 +93,7 @@ pub fn measure(
     let orientation = orientation::lattice_orientation_drops(view);
     let wrong = wrong_marks(s, &table);
     let validated = j.marks;
-    let marks = point_marks(&validated, &orientation, &wrong, view.lattice.count);
+    let marks = point_marks(&validated, &orientation, &wrong, view.sheet.lattice.count);
     j.marks = marks;
     j
 }
@@ -119,9 +122,8 @@ fn no_leaves() -> Peeled
 }
 
 // The weak ends of what the marks leave, and the rounds; none without tag 4.
-fn leaf_marks(s: Settings, sheet: &SheetLattice, strength: &Floats, marks: &Marks) -> Peeled
-    requires { Weighed (lattice_in sheet.now.lattice) strength.now }
-    ensures { (xs ys : List Float) → result ≡ peel_of s (view_at sheet.now.lattice.count sheet.now.lattice.ranks.now xs ys) strength.now marks.now }
+fn leaf_marks(s: Settings, weighed: &WeighedSheet, marks: &Marks) -> Peeled
+    ensures { (xs ys : List Float) → result ≡ peel_of s (view_at weighed.now.sheet.lattice.count weighed.now.sheet.lattice.ranks.now xs ys) weighed.now.strength.now marks.now }
 {
     let fraction = s.score_frac;
     match fraction {
@@ -129,23 +131,23 @@ fn leaf_marks(s: Settings, sheet: &SheetLattice, strength: &Floats, marks: &Mark
         Fraction::Outside => no_leaves(),
         Fraction::Given(x) => {
             let strengths = Numbers {
-                values: strength,
-                count: sheet.lattice.count,
+                values: weighed.strength,
+                count: weighed.sheet.lattice.count,
             };
             let weak = strengths::weak_marks(&strengths, x);
-            peel::weak_leaf_peel(sheet, marks, &weak, &patches::square_sides())
+            peel::weak_leaf_peel(&weighed.sheet, marks, &weak, &patches::square_sides())
         }
     }
 }
 
 // The filters that go by the marks before them: the bytes with their marks too, the count of patches, the rounds, and the tally.
 #[inline(never)]
-pub fn drop_patches(s: Settings, sheet: &SheetLattice, strength: &Floats, marks: &Marks) -> DropSet
-    requires { Weighed (lattice_in sheet.now.lattice) strength.now }
-    ensures { (xs ys : List Float) → result ≡ patched_of s (view_at sheet.now.lattice.count sheet.now.lattice.ranks.now xs ys) strength.now marks.now }
+pub fn drop_patches(s: Settings, weighed: &WeighedSheet, marks: &Marks) -> DropSet
+    ensures { (xs ys : List Float) → result ≡ patched_of s (view_at weighed.now.sheet.lattice.count weighed.now.sheet.lattice.ranks.now xs ys) weighed.now.strength.now marks.now }
 {
+    let sheet = &weighed.sheet;
     let n = sheet.lattice.count;
-    let peeled = leaf_marks(s, sheet, strength, marks);
+    let peeled = leaf_marks(s, weighed, marks);
     let leaf = peeled.marks;
     let left = marks::marked_by(marks, &leaf, Filter::Leaf, n);
     let filter = component_marks(s, sheet, &left);

@@ -9,7 +9,6 @@ use lib.Dec.{T, eqb, ltb, leb}
 use lib.Ieee.{Float, nan, inf, fin, up, down, is_nan, lt, le}
 use borrow.Author.Tests.{ltb-true, ltb-false}
 use Rattle.folds.specs.Arith.{◌⊕◌, ◌⊖◌, ◌⊗◌, ◌⊘◌}
-use Rattle.folds.proofs.Below.{and_left, and_right, and-false, or-false, or-none}
 use Rattle.float.specs.Constants.{epsilon}
 use Rattle.float.specs.Scalar.{clamp_of, max_of, min_of}
 use Rattle.float.proofs.Order.{plain}
@@ -28,6 +27,8 @@ use Rattle.edge_shape.specs.declared.Reason.TheVariants.{LowCardinalDegree, BadC
 use Rattle.edge_shape.specs.Figures.{side_at, compared, noted, continuation_at, shape_at, noted_cell, continuation_fails, figures_by, figures_at}
 use Rattle.edge_shape.specs.Continuations.{cosine_under, ratio_over, bad_continuation, reason_by_each, reason_at, cosine_is_nan, cell_is_nan}
 use Rattle.edge_shape.proofs.Laws.{continuation-step, cell-step, figures-step, reason-step}
+use Rattle.std.proofs.Math.Bool.{and-false, or-false}
+use Rattle.std.proofs.lemmas.Bool.{and_parts, or_parts}
 
 -- ---- the least cosine and the largest ratio of two
 
@@ -97,7 +98,7 @@ cell-noted : (m : Option Measure) (c : Option CellShape) → cosine_is_nan m ≡
 unfolding noted_cell
 cell-noted m None f g = f
 cell-noted m (Some c) f g =
-    let h = or-none (cosine_is_nan c.along_u) (cosine_is_nan c.along_v) g in
+    let h = or_parts (cosine_is_nan c.along_u) (cosine_is_nan c.along_v) g in
     noted-number (noted m c.along_u) c.along_v (noted-number m c.along_u f h.0) h.1
 
 where-so : {A : Type 0} (P : A → Type 0) (t : Bool) {x y : A} → (t ≡ true → P x) → P y → P (cond t x y)
@@ -164,11 +165,11 @@ module _ (w : View) (inside : Inside w) where
       rw (continuation-step w before after k)
       (where-so (λ (m : Option Measure). cosine_is_nan m ≡ false) (present w k before && (present w k after && present w (rank_at w k before) after))
       (λ e.
-      let b = and_left (present w k before) (present w k after && present w (rank_at w k before) after) e in
-      let r = and_right (present w k before) (present w k after && present w (rank_at w k before) after) e in
+      let b = (and_parts (present w k before) (present w k after && present w (rank_at w k before) after) e).0 in
+      let r = (and_parts (present w k before) (present w k after && present w (rank_at w k before) after) e).1 in
       compared-number (side_at w after (rank_at w k before)) (side_at w after k)
-      (side-sound after (rank_at w k before) (ltb-true (rank_at w k before) w.count b) (and_right (present w k after) (present w (rank_at w k before) after) r))
-      (side-sound after k h (and_left (present w k after) (present w (rank_at w k before) after) r))) refl)
+      (side-sound after (rank_at w k before) (ltb-true (rank_at w k before) w.count b) (and_parts (present w k after) (present w (rank_at w k before) after) r).1)
+      (side-sound after k h (and_parts (present w k after) (present w (rank_at w k before) after) r).0)) refl)
 
   pub cell-number : (t : ℕ) → cell_is_nan (shape_at w t) ≡ false
   cell-number t =
@@ -180,17 +181,17 @@ module _ (w : View) (inside : Inside w) where
       rw (cell-step w t)
       (where-so (λ (c : Option CellShape). cell_is_nan c ≡ false) (here && (right && (below && (across && down))))
       (λ e.
-      let a = ltb-true t w.count (and_left here (right && (below && (across && down))) e) in
-      let f = and_right here (right && (below && (across && down))) e in
-      let u = and_left right (below && (across && down)) f in
-      let g = and_right right (below && (across && down)) f in
-      let v = and_left below (across && down) g in
-      let h = and_right below (across && down) g in
+      let a = ltb-true t w.count (and_parts here (right && (below && (across && down))) e).0 in
+      let f = (and_parts here (right && (below && (across && down))) e).1 in
+      let u = (and_parts right (below && (across && down)) f).0 in
+      let g = (and_parts right (below && (across && down)) f).1 in
+      let v = (and_parts below (across && down) g).0 in
+      let h = (and_parts below (across && down) g).1 in
       rw (
         compared-number (side_at w next_u t) (side_at w next_u (rank_at w t next_v)) (side-sound next_u t a u)
-            (side-sound next_u (rank_at w t next_v) (ltb-true (rank_at w t next_v) w.count v) (and_left across down h)),
+            (side-sound next_u (rank_at w t next_v) (ltb-true (rank_at w t next_v) w.count v) (and_parts across down h).0),
         compared-number (side_at w next_v t) (side_at w next_v (rank_at w t next_u)) (side-sound next_v t a v)
-            (side-sound next_v (rank_at w t next_u) (ltb-true (rank_at w t next_u) w.count u) (and_right across down h)),
+            (side-sound next_v (rank_at w t next_u) (ltb-true (rank_at w t next_u) w.count u) (and_parts across down h).1),
       )) refl)
 
   -- what holds of the cosines of rank k, with any gate

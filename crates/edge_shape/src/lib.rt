@@ -97,11 +97,11 @@ fn note(m: Option<Measure>, p: Option<Measure>) -> Option<Measure>
 // The edge from rank a along an axis to rank b.
 #[tactic(auto, unfolding(crate::specs::Figures::side_at))]
 fn side_at(edges: &EdgeTable, axis: Axis, a: usize, b: usize) -> Side
-    requires { (a < edges.now.view.lattice.count) × (b < edges.now.view.lattice.count) × (b ≡ rank_at (view_in edges.now.view) a (forward axis)) }
+    requires { (a < edges.now.view.sheet.lattice.count) × (b < edges.now.view.sheet.lattice.count) × (b ≡ rank_at (view_in edges.now.view) a (forward axis)) }
     ensures { result ≡ side_at (view_in edges.now.view) (forward axis) a }
 {
-    let x = edges.view.x;
-    let y = edges.view.y;
+    let x = edges.view.seen.x;
+    let y = edges.view.seen.y;
     Side {
         dx: x[b] - x[a],
         dy: y[b] - y[a],
@@ -110,12 +110,13 @@ fn side_at(edges: &EdgeTable, axis: Axis, a: usize, b: usize) -> Side
 }
 
 // The edge along an axis that leads to rank k, against the one that goes on from it.
+#[inline(always)]
 #[tactic(auto, using(crate::proofs::Laws::continuation_steps))]
 fn continuation_at(edges: &EdgeTable, axis: Axis, k: usize) -> Option<Measure>
-    requires { k < edges.now.view.lattice.count }
+    requires { k < edges.now.view.sheet.lattice.count }
     ensures { result ≡ continuation_at (view_in edges.now.view) (back axis) (forward axis) k }
 {
-    let lattice = &edges.view.lattice;
+    let lattice = &edges.view.sheet.lattice;
     let forward = axis.forward();
     let before = lattice.neighbour(k, axis.back())?;
     let after = lattice.neighbour(k, forward)?;
@@ -127,12 +128,13 @@ fn continuation_at(edges: &EdgeTable, axis: Axis, k: usize) -> Option<Measure>
 }
 
 // The cell whose least corner is at offset o from rank k, if its corners are on the sheet.
+#[inline(always)]
 #[tactic(auto, using(crate::proofs::Laws::cell_steps))]
 fn cell_at(edges: &EdgeTable, k: usize, o: Offset) -> Option<CellShape>
-    requires { (k < edges.now.view.lattice.count) × (is_near o ≡ true) }
+    requires { (k < edges.now.view.sheet.lattice.count) × (is_near o ≡ true) }
     ensures { result ≡ shape_at (view_in edges.now.view) (rank_at (view_in edges.now.view) k o) }
 {
-    let lattice = &edges.view.lattice;
+    let lattice = &edges.view.sheet.lattice;
     let t = lattice.neighbour(k, o)?;
     let right = lattice.neighbour(t, NEXT_U)?;
     let below = lattice.neighbour(t, NEXT_V)?;
@@ -243,7 +245,7 @@ fn figures_by(
 // All figures of rank k's cell.
 #[tactic(auto, unfolding(view::specs::View::degree_at, crate::specs::Figures::continuations_at, crate::specs::Figures::figures_at))]
 pub fn figures_at(g: EdgeShapeParams, edges: &EdgeTable, k: usize) -> Figures
-    requires { k < edges.now.view.lattice.count }
+    requires { k < edges.now.view.sheet.lattice.count }
     ensures { result ≡ figures_at g (view_in edges.now.view) k }
 {
     let along_u = continuation_at(edges, Axis::AlongU, k);
@@ -256,7 +258,7 @@ pub fn figures_at(g: EdgeShapeParams, edges: &EdgeTable, k: usize) -> Figures
     ];
     figures_by(
         g,
-        edges.view.lattice.degree(k),
+        edges.view.sheet.lattice.degree(k),
         note(along_u, along_v),
         cells,
     )

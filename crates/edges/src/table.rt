@@ -19,7 +19,7 @@ pub struct EdgeTable<'a> {
 impl EdgeTable<'_> {
     // The edge that starts at rank k along an axis.
     pub fn at(&self, axis: Axis, k: usize) -> StoredEdge
-        requires { k < self.now.view.lattice.count }
+        requires { k < self.now.view.sheet.lattice.count }
         ensures { result ≡ stored_at (view_in self.now.view) (forward axis) k }
     {
         self.edges.at(axis, k)

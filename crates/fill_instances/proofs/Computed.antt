@@ -7,7 +7,7 @@ use borrow.Author.Tests.{eqb-true, ltb-true, lt-ltb}
 use lib.Dec.{eqb, ltb}
 use lib.ListN.{length, get_or}
 use Rattle.folds.specs.Below.{some, every}
-use Rattle.folds.proofs.Below.{and_left, and_right, and_both, some_at, every-at}
+use Rattle.folds.proofs.Below.{some_at, every-at}
 use Rattle.cells.specs.Points.{Point, nowhere}
 use Rattle.cells.specs.Cell.{Cell, cell_of, coincide}
 use Rattle.cells.proofs.Edges.{coincide-true}
@@ -23,6 +23,7 @@ use Rattle.promises.specs.Words.{marks_in, kept_rank}
 use Rattle.promises.specs.Fills.{fill_in, dropped_rank, Carried, KeptAlike}
 use Rattle.instances.specs.Files.{marks_of}
 use Rattle.instances.proofs.Computed.{marks-are, kept-is}
+use Rattle.std.proofs.lemmas.Bool.{and_from, and_parts}
 
 -- ---- from the marks
 
@@ -45,7 +46,7 @@ module _ (s : Settings) (ps : List Point) (m : List ℕ) (e : marks_of s ps ≡ 
   pub dropped-by : (k : ℕ) → k < length ps → eqb (get_or m k 0) 0 ≡ false → dropped_rank s ps k ≡ true
   dropped-by k h z =
       let marked = eqb (marks_in s ps k) 0 in
-      and_both (ltb k (length ps)) (not marked) (lt-ltb k (length ps) h) (ap not (ap (λ (b : ℕ). eqb b 0) (marks-are s ps m e k h) ∙ z))
+      and_from (ltb k (length ps)) (not marked) (lt-ltb k (length ps) h) (ap not (ap (λ (b : ℕ). eqb b 0) (marks-are s ps m e k h) ∙ z))
 
 -- ---- kept points alike, by a test of all ranks
 
@@ -68,11 +69,11 @@ module _ (move : Cell → Cell) where
   carried-by : (p q : Point) → carries p q ≡ true → Carried move p q
   carried-by p q e =
       let there = coincide (cell_of q) (move (cell_of p)) in
-      let rest = and_right there (eqb q.x p.x && eqb q.y p.y) e in
+      let rest = (and_parts there (eqb q.x p.x && eqb q.y p.y) e).1 in
       record {
-        cell = coincide-true (cell_of q) (move (cell_of p)) (and_left there (eqb q.x p.x && eqb q.y p.y) e);
-        x = eqb-true q.x p.x (and_left (eqb q.x p.x) (eqb q.y p.y) rest);
-        y = eqb-true q.y p.y (and_right (eqb q.x p.x) (eqb q.y p.y) rest);
+        cell = coincide-true (cell_of q) (move (cell_of p)) (and_parts there (eqb q.x p.x && eqb q.y p.y) e).0;
+        x = eqb-true q.x p.x (and_parts (eqb q.x p.x) (eqb q.y p.y) rest).0;
+        y = eqb-true q.y p.y (and_parts (eqb q.x p.x) (eqb q.y p.y) rest).1;
       }
 
   module _ (s t : Settings) (ps qs : List Point) (m l : List ℕ) (e : marks_of s ps ≡ m) (f : marks_of t qs ≡ l) where
@@ -95,15 +96,15 @@ module _ (move : Cell → Cell) where
         there : (j : ℕ) → kept_rank s ps j ≡ true → (i : ℕ) × (kept_rank t qs i ≡ true) × Carried move (get_or ps j nowhere) (get_or qs i nowhere)
         there j k =
             let kept = sym (old j) ∙ k in
-            let h = ltb-true j (length ps) (and_left (ltb j (length ps)) (eqb (get_or m j 0) 0) kept) in
+            let h = ltb-true j (length ps) (and_parts (ltb j (length ps)) (eqb (get_or m j 0) 0) kept).0 in
             let v = some_at (λ (i : ℕ). kept_by qs l i && carries (get_or ps j nowhere) (get_or qs i nowhere)) (length qs) (implied (kept_by ps m j) _ (every-at _ (length ps) a j h) kept) in
             let c = carries (get_or ps j nowhere) (get_or qs v.0 nowhere) in
-            (v.0, new v.0 ∙ and_left (kept_by qs l v.0) c v.2, carried-by (get_or ps j nowhere) (get_or qs v.0 nowhere) (and_right (kept_by qs l v.0) c v.2))
+            (v.0, new v.0 ∙ (and_parts (kept_by qs l v.0) c v.2).0, carried-by (get_or ps j nowhere) (get_or qs v.0 nowhere) (and_parts (kept_by qs l v.0) c v.2).1)
 
         back : (i : ℕ) → kept_rank t qs i ≡ true → (j : ℕ) × (kept_rank s ps j ≡ true) × Carried move (get_or ps j nowhere) (get_or qs i nowhere)
         back i k =
             let kept = sym (new i) ∙ k in
-            let h = ltb-true i (length qs) (and_left (ltb i (length qs)) (eqb (get_or l i 0) 0) kept) in
+            let h = ltb-true i (length qs) (and_parts (ltb i (length qs)) (eqb (get_or l i 0) 0) kept).0 in
             let v = some_at (λ (j : ℕ). kept_by ps m j && carries (get_or ps j nowhere) (get_or qs i nowhere)) (length ps) (implied (kept_by qs l i) _ (every-at _ (length qs) b i h) kept) in
             let c = carries (get_or ps v.0 nowhere) (get_or qs i nowhere) in
-            (v.0, old v.0 ∙ and_left (kept_by ps m v.0) c v.2, carried-by (get_or ps v.0 nowhere) (get_or qs i nowhere) (and_right (kept_by ps m v.0) c v.2))
+            (v.0, old v.0 ∙ (and_parts (kept_by ps m v.0) c v.2).0, carried-by (get_or ps v.0 nowhere) (get_or qs i nowhere) (and_parts (kept_by ps m v.0) c v.2).1)

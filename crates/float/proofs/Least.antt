@@ -10,9 +10,10 @@ use lib.IntN.{ℤ}
 use borrow.Author.Tests.{lt-ltb, le-ltb, ltb-true, ltb-false}
 use lib.Ieee.{Float, nan, inf, fin, up, down, below, is_nan, lt}
 use lib.Ieee.Positive.{num, den, den_pos}
-use Rattle.folds.proofs.Below.{or-false}
 use Rattle.float.specs.Scalar.{max_of}
 use Rattle.float.proofs.Nan.{only_nan}
+use Rattle.std.proofs.Math.Bool.{or-false}
+use Rattle.folds.proofs.Scattered.{or_same, or-next}
 
 -- ---- a NaN is under nothing and over nothing
 
@@ -103,16 +104,6 @@ placed x y z f g h =
 
 -- ---- the theorems
 
--- one of two tests, where one follows from the other
-second-of : (a b : Bool) → (a ≡ true → b ≡ true) → b ≡ a || b
-second-of true b f = f refl
-second-of false b f = refl
-
-first_of : (a b : Bool) → (b ≡ true → a ≡ true) → a ≡ a || b
-first_of true b f = refl
-first_of false true f = f refl
-first_of false false f = refl
-
 before : {p q : ℕ} (r : ℕ) → p ≤ q → ltb q r ≡ true → ltb p r ≡ true
 before {p} {q} r l h = lt-ltb p r (omega (arith, ltb-true q r h))
 
@@ -124,8 +115,8 @@ pub under-least : (b c l : Float) → is_nan b ≡ false → is_nan c ≡ false 
 under-least b c l f g = go (is_nan l) refl
   where
     of_places : Placed c b l → (t : Bool) → lt c b ≡ t → lt (cond t c b) l ≡ lt b l || lt c l
-    of_places w true h = rw (w.xz, w.yz) (second-of (ltb w.q w.r) (ltb w.p w.r) (before w.r (le_of_lt (ltb-true w.p w.q (sym w.xy ∙ h)))))
-    of_places w false h = rw (w.xz, w.yz) (first_of (ltb w.q w.r) (ltb w.p w.r) (before w.r (ltb-false w.p w.q (sym w.xy ∙ h))))
+    of_places w true h = rw (w.xz, w.yz) (or-next (ltb w.q w.r) (ltb w.p w.r) (before w.r (le_of_lt (ltb-true w.p w.q (sym w.xy ∙ h)))))
+    of_places w false h = rw (w.xz, w.yz) (or_same (ltb w.q w.r) (ltb w.p w.r) (before w.r (ltb-false w.p w.q (sym w.xy ∙ h))))
 
     go : (t : Bool) → is_nan l ≡ t → lt (cond (lt c b) c b) l ≡ lt b l || lt c l
     go true e = rw (only_nan l e, nan-over (cond (lt c b) c b), nan-over b, nan-over c)
@@ -137,8 +128,8 @@ unfolding max_of
 over-largest l q r = go (is_nan q) (is_nan r) (is_nan l) refl refl refl
   where
     of_places : Placed q r l → (t : Bool) → lt q r ≡ t → lt l (cond t r q) ≡ lt l q || lt l r
-    of_places w true h = rw (w.zx, w.zy) (second-of (ltb w.r w.p) (ltb w.r w.q) (after w.r (le_of_lt (ltb-true w.p w.q (sym w.xy ∙ h)))))
-    of_places w false h = rw (w.zx, w.zy) (first_of (ltb w.r w.p) (ltb w.r w.q) (after w.r (ltb-false w.p w.q (sym w.xy ∙ h))))
+    of_places w true h = rw (w.zx, w.zy) (or-next (ltb w.r w.p) (ltb w.r w.q) (after w.r (le_of_lt (ltb-true w.p w.q (sym w.xy ∙ h)))))
+    of_places w false h = rw (w.zx, w.zy) (or_same (ltb w.r w.p) (ltb w.r w.q) (after w.r (ltb-false w.p w.q (sym w.xy ∙ h))))
 
     go : (a b c : Bool) → is_nan q ≡ a → is_nan r ≡ b → is_nan l ≡ c → lt l (cond a r (cond (lt q r) r q)) ≡ lt l q || lt l r
     go true b c f g h = rw (only_nan q f, nan-over l)

@@ -30,8 +30,8 @@ below-zero true true n = let e : n ≡ n + 0 = omega arith in ap (ltb 0) e
 below-zero true false n = sym (le-ltb n 0 (omega arith))
 below-zero false t n = refl
 
-none : (e d : ℤ) → 0 * up e * down d ≡ 0
-none e d = ap (λ (x : ℕ). x * down d) (zero-mul (up e)) ∙ zero-mul (down d)
+pub no-size : (e d : ℤ) → 0 * up e * down d ≡ 0
+no-size e d = ap (λ (x : ℕ). x * down d) (zero-mul (up e)) ∙ zero-mul (down d)
 
 zeros : (s : Bool) (e : ℤ) → ComparesAs (fin false 0 e) (fin s 0 e)
 unfolding lt
@@ -40,12 +40,12 @@ zeros s e = record { under = under; over = over }
     under : (y : Float) → lt (fin s 0 e) y ≡ lt (fin false 0 e) y
     under nan = refl
     under (inf t) = refl
-    under (fin t n d) = rw (none e d) (zero-below s t (n * up d * down e))
+    under (fin t n d) = rw (no-size e d) (zero-below s t (n * up d * down e))
 
     over : (y : Float) → lt y (fin s 0 e) ≡ lt y (fin false 0 e)
     over nan = refl
     over (inf t) = refl
-    over (fin t n d) = rw (none e d) (below-zero s t (n * up d * down e))
+    over (fin t n d) = rw (no-size e d) (below-zero s t (n * up d * down e))
 
 -- a finite number with its sign, which is not 0: the one without it is the larger
 positive : (m : ℕ) (e : ℤ) → 0 < suc m * up e * down e
@@ -73,4 +73,4 @@ by-magnitude a b = (compares-as a).under (magnitude_of b) ∙ (compares-as b).ov
 -- it is not the number without its sign: of 0 it is -0
 pub zero-turned : (e : ℤ) → magnitude_of (fin false 0 e) ≡ fin true 0 e
 unfolding lt neg magnitude_of
-zero-turned e = rw (none e e)
+zero-turned e = rw (no-size e e)

@@ -5,7 +5,7 @@ use mathlib.Core.Bool.{Bool, true, false, cond, ◌&&◌, ◌||◌, beq, true≢
 use mathlib.Core.Logic.{inl, inr}
 use Prim.{yes, no}
 use Prim.Native.Nat.{ℕ, zero, suc, ◌+◌, ◌-◌, ◌*◌, ◌^◌, ◌≤◌, ◌<◌}
-use native.Mathlib.Nat.{le_trans, eq-or-lt_of_le, mul_assoc, mul_comm, mul_right_comm, mul-one, one-mul, add-mul, mul-pos, mul-le-mul, mul-le-mul_right, le_of_mul-le-mul_right, mul-mul-mul_comm, two-pow-succ}
+use native.Mathlib.Nat.{le_trans, eq-or-lt_of_le, mul_assoc, mul_comm, mul_right_comm, mul-one, one-mul, add-mul, mul-pos, mul-le-mul, mul-le-mul_right, le_of_mul-le-mul_right, mul-mul-mul_comm, two-pow-succ, le_of_eq}
 use native.Mathlib.Decide.{dec_lt}
 use native.Mathlib.Omega.{arith}
 use lib.Dec.{T, ltb, eqb, ltb→lt}
@@ -108,10 +108,7 @@ neg-within k (fin s m e) h = h
 
 -- over a common denominator
 common : (p a d g : ℕ) → a ≤ p * d → a * g ≤ p * (d * g)
-common p a d g h = le_trans (mul-le-mul_right g h) (le-eq (mul_assoc p d g))
-  where
-    le-eq : {x y : ℕ} → x ≡ y → x ≤ y
-    le-eq e = omega (arith, e)
+common p a d g h = le_trans (mul-le-mul_right g h) (le_of_eq (mul_assoc p d g))
 
 pub add-within : (k : ℕ) (x y : Float) → suc k < 128 → Within k x → Within k y → Within (suc k) (add binary32 x y)
 unfolding add

@@ -36,8 +36,9 @@ fn guess(n: u64) -> u64
     ensures { result < 2 ^ 27 }
 {
     let t = n / 0x100_0000_0000;
-    let step = roots::step_at(t);
-    let g = roots::root_at(t) + n / 0x1_0000 % 0x100_0000 * step / 0x100_0000;
+    let low = roots::root_at(t);
+    let step = roots::root_at(t + 1).saturating_sub(low) % 0x1_0000;
+    let g = low + n / 0x1_0000 % 0x100_0000 * step / 0x100_0000;
     let d = n.saturating_sub(g * g);
     g + (d / 0x1_0000 * step + 0x80_0000) / 0x100_0000
 }

@@ -1,5 +1,5 @@
 -- Neither test depends on the order of the list; and what they say of a list by number. Assumes nothing.
-use mathlib.Core.Path.{◌≡◌, refl, ap, ◌∙◌}
+use mathlib.Core.Path.{◌≡◌, refl, sym, ap, ◌∙◌}
 use mathlib.Core.Bool.{Bool, true, false, ◌||◌, true≢false}
 use mathlib.Core.List.{List, [], ◌∷◌, Permᴰ}
 use mathlib.Core.Logic.{⊎_elim}
@@ -7,23 +7,17 @@ use Prim.Native.Nat.{ℕ, zero, suc, ◌+◌, ◌≤◌, ◌<◌}
 use native.Mathlib.Nat.{eq-or-lt_of_le}
 use native.Mathlib.Omega.{arith}
 use Rattle.folds.specs.Below.{some}
-use Rattle.folds.proofs.Below.{some_at, some-fails, or-true}
+use Rattle.folds.proofs.Below.{some_at, some-fails}
 use Rattle.folds.specs.Lists.{All, up_from, list_of}
 use Rattle.folds.specs.Among.{any_in, pair_in}
+use Rattle.std.proofs.Math.Bool.{or-true, or_assoc, or_comm}
 
 or_swap : (a b c : Bool) → a || (b || c) ≡ b || (a || c)
-or_swap true true c = refl
-or_swap true false c = refl
-or_swap false true c = refl
-or_swap false false c = refl
+or_swap a b c = sym (or_assoc a b c) ∙ ap (λ (x : Bool). x || c) (or_comm a b) ∙ or_assoc b a c
 
 -- (ab or al) or (bl or l) = (ab or bl) or (al or l)
 or-pairs : (ab al bl l : Bool) → (ab || al) || (bl || l) ≡ (ab || bl) || (al || l)
-or-pairs true al bl l = refl
-or-pairs false true true l = refl
-or-pairs false true false l = refl
-or-pairs false false true l = refl
-or-pairs false false false l = refl
+or-pairs ab al bl l = or_assoc ab al (bl || l) ∙ ap (λ (x : Bool). ab || x) (or_swap al bl l) ∙ sym (or_assoc ab bl (al || l))
 
 module _ {A : Type 0} where
   -- where none passes, each fails

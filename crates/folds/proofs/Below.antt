@@ -2,87 +2,34 @@
 -- that agree (`..-ext`). Assumes nothing.
 use mathlib.Core.Path.{◌≡◌, refl, sym, ap, ◌∙◌, subst}
 use mathlib.Core.Bool.{Bool, true, false, cond, not, ◌||◌, ◌&&◌, false≢true, true≢false}
-use mathlib.Core.Logic.{◌⊎◌, inl, inr, ⊎_elim}
+use mathlib.Core.Logic.{◌⊎◌, ⊎_elim}
 use Prim.Native.Nat.{ℕ, zero, suc, ◌+◌, ◌-◌, ◌≤◌, ◌<◌}
 use native.Mathlib.Decide.{dec_le, ℕ_discrete}
 use native.Mathlib.Nat.{lt-suc_self, le_step, eq-or-lt_of_le}
 use native.Mathlib.Numerals.{add-one}
 use native.Mathlib.Omega.{arith}
-use lib.Dec.{eqb}
+use lib.Dec.{eqb, ltb}
 use lib.Ieee.{Float}
-use borrow.Author.Tests.{eq-eqb, ne_eqb}
+use borrow.Author.Tests.{eq-eqb, ne_eqb, lt-ltb, ltb-true}
 use Rattle.folds.specs.Arith.{◌⊕◌}
 use Rattle.folds.specs.Below.{fold, turn, some, every, tally, sum_of, first_in, first, last}
+use Rattle.std.proofs.lemmas.Bool.{and_parts, false_from_ne_true}
+use Rattle.std.specs.Cmp.{both_ways}
 
 -- ---- tests
+
+-- two tests of one outcome
+pub ltb_as : (x y a b : ℕ) → (x < y → a < b) → (a < b → x < y) → ltb x y ≡ ltb a b
+ltb_as x y a b f g = both_ways (ltb x y) (ltb a b) (λ e. lt-ltb a b (f (ltb-true x y e))) (λ e. lt-ltb x y (g (ltb-true a b e)))
 
 pub and-under : (b : Bool) {x y : Bool} → (b ≡ true → x ≡ y) → b && x ≡ b && y
 and-under true e = e refl
 and-under false e = refl
 
-pub and_left : (a b : Bool) → a && b ≡ true → a ≡ true
-and_left true b h = refl
-and_left false b h = h
-
-pub and_right : (a b : Bool) → a && b ≡ true → b ≡ true
-and_right true b h = h
-and_right false b h = absurd (false≢true h)
-
-pub and_both : (a b : Bool) → a ≡ true → b ≡ true → a && b ≡ true
-and_both a b p q = rw (p, q)
-
-pub and-false : (a : Bool) → a && false ≡ false
-and-false true = refl
-and-false false = refl
-
-pub and-true : (a : Bool) → a && true ≡ a
-and-true true = refl
-and-true false = refl
-
-pub or-false : (a : Bool) → a || false ≡ a
-or-false true = refl
-or-false false = refl
-
-pub or-true : (a : Bool) → a || true ≡ true
-or-true true = refl
-or-true false = refl
-
-pub or_left : (a b : Bool) → a ≡ true → a || b ≡ true
-or_left a b e = rw e
-
-pub or_right : (a b : Bool) → b ≡ true → a || b ≡ true
-or_right a b e = rw e (or-true a)
-
-pub or_cases : (a b : Bool) → a || b ≡ true → (a ≡ true) ⊎ (b ≡ true)
-or_cases true b e = inl refl
-or_cases false b e = inr e
-
-pub or-none : (a b : Bool) → a || b ≡ false → (a ≡ false) × (b ≡ false)
-or-none true b h = absurd (true≢false h)
-or-none false b h = (refl, h)
-
 pub or-right-first : (a b c d : Bool) → ((a || b) || c) || d ≡ a || (b || (c || d))
 or-right-first true b c d = refl
 or-right-first false true c d = refl
 or-right-first false false c d = refl
-
-pub and-swap : (a b : Bool) → a && b ≡ b && a
-and-swap true b = sym (and-true b)
-and-swap false b = sym (and-false b)
-
-pub not-false : (b : Bool) → not b ≡ false → b ≡ true
-not-false true e = refl
-not-false false e = sym e
-
--- a test that cannot be true is false
-pub not-true : (b : Bool) → (b ≡ true → ⊥) → b ≡ false
-not-true true h = absurd (h refl)
-not-true false h = refl
-
--- two tests that imply each other are one
-pub both_ways : (a b : Bool) → (a ≡ true → b ≡ true) → (b ≡ true → a ≡ true) → a ≡ b
-both_ways true b h g = sym (h refl)
-both_ways false b h g = sym (not-true b (λ e. false≢true (g e)))
 
 -- ---- the fold that says what is done so far
 
@@ -159,11 +106,11 @@ module _ (p : ℕ → Bool) where
       go false false f g h r = absurd (false≢true h)
 
   pub some-no : (n : ℕ) → ((k : ℕ) → k < n → p k ≡ false) → some p n ≡ false
-  some-no n h = not-true (some p n) (λ e. let w = some_at n e in true≢false (sym w.2 ∙ h w.0 w.1))
+  some-no n h = false_from_ne_true (some p n) (λ e. let w = some_at n e in true≢false (sym w.2 ∙ h w.0 w.1))
 
   -- where none is, each fails
   pub some-fails : (n : ℕ) → some p n ≡ false → (k : ℕ) → k < n → p k ≡ false
-  some-fails n e k l = not-true (p k) (λ t. true≢false (sym (some-yes n k l t) ∙ e))
+  some-fails n e k l = false_from_ne_true (p k) (λ t. true≢false (sym (some-yes n k l t) ∙ e))
 
   pub every-none : every p 0 ≡ true
   unfolding every
@@ -178,8 +125,8 @@ module _ (p : ℕ → Bool) where
   every-at zero e k h = absurd (omega arith)
   every-at (suc n) e k h =
       ⊎_elim
-      (λ (d : k ≡ n). ap p d ∙ and_right (every p n) (p n) e)
-      (λ (l : k < n). every-at n (and_left (every p n) (p n) e) k l)
+      (λ (d : k ≡ n). ap p d ∙ (and_parts (every p n) (p n) e).1)
+      (λ (l : k < n). every-at n (and_parts (every p n) (p n) e).0 k l)
       (eq-or-lt_of_le (omega arith))
 
   pub every-yes : (n : ℕ) → ((k : ℕ) → k < n → p k ≡ true) → every p n ≡ true
@@ -270,8 +217,8 @@ some_one p n m l =
     found : (k : ℕ) → p k && eqb k m ≡ true → p m ≡ true
     found k e =
         elim (ℕ_discrete k m) [
-          | yes d ↦ rw d at (and_left (p k) (eqb k m) e)
-          | no f ↦ absurd (false≢true (sym (ne_eqb k m f) ∙ and_right (p k) (eqb k m) e))
+          | yes d ↦ rw d at (and_parts (p k) (eqb k m) e).0
+          | no f ↦ absurd (false≢true (sym (ne_eqb k m f) ∙ (and_parts (p k) (eqb k m) e).1))
         ]
 
 -- ---- the first and the last

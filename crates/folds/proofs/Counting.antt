@@ -10,15 +10,9 @@ use native.Mathlib.Omega.{arith}
 use borrow.Author.Tests.{eq-eqb, ne_eqb}
 use lib.Dec.{eqb}
 use Rattle.folds.specs.Below.{some, tally}
-use Rattle.folds.proofs.Below.{some-yes, some_at, some-fails, tally-le, tally-mono, tally-some, and_left, and_right, and_both, and-false, not-false}
-
-pub not_yes : (b : Bool) → not b ≡ true → b ≡ false
-not_yes true e = sym e
-not_yes false e = refl
-
-pub either : (b : Bool) → (b ≡ true) ⊎ (b ≡ false)
-either true = inl refl
-either false = inr refl
+use Rattle.folds.proofs.Below.{some-yes, some_at, some-fails, tally-le, tally-mono, tally-some}
+use Rattle.std.proofs.Math.Bool.{and-false}
+use Rattle.std.proofs.lemmas.Bool.{and_from, and_parts, not-false, not-true}
 
 -- more pass where each that passed does, and one more
 pub tally-grows : (p q : ℕ → Bool) (n j : ℕ) → j < n → p j ≡ false → q j ≡ true → ((k : ℕ) → k < n → p k ≡ true → q k ≡ true) → tally p n < tally q n
@@ -57,7 +51,7 @@ tally-lost p q n h = go (some (λ (i : ℕ). p i && not (q i)) n) refl
     passes false b e f = absurd (false≢true f)
 
     go : (b : Bool) → some (λ (i : ℕ). p i && not (q i)) n ≡ b → (i : ℕ) × (i < n) × (p i ≡ true) × (q i ≡ false)
-    go true e = let w = some_at (λ (i : ℕ). p i && not (q i)) n e in (w.0, w.1, and_left (p w.0) (not (q w.0)) w.2, not_yes (q w.0) (and_right (p w.0) (not (q w.0)) w.2))
+    go true e = let w = some_at (λ (i : ℕ). p i && not (q i)) n e in (w.0, w.1, (and_parts (p w.0) (not (q w.0)) w.2).0, not-true (q w.0) (and_parts (p w.0) (not (q w.0)) w.2).1)
     go false e = absurd (omega (arith, tally-mono p q n (λ k l f. passes (p k) (q k) (some-fails (λ (i : ℕ). p i && not (q i)) n e k l) f)))
 
 -- where none passes, and where all do
@@ -97,10 +91,10 @@ abbrev but : (ℕ → Bool) → ℕ → ℕ → Bool
 but p j m = p m && not (eqb m j)
 
 but-less : (p : ℕ → Bool) (n j : ℕ) → j < n → p j ≡ true → tally (but p j) n < tally p n
-but-less p n j h e = tally-grows (but p j) p n j h (rw (eq-eqb j j refl) (and-false (p j))) e (λ m l. and_left (p m) (not (eqb m j)))
+but-less p n j h e = tally-grows (but p j) p n j h (rw (eq-eqb j j refl) (and-false (p j))) e (λ m l. (λ h. (and_parts (p m) (not (eqb m j)) h).0))
 
 but-other : (p : ℕ → Bool) (i j : ℕ) → (i ≡ j → ⊥) → p i ≡ true → but p j i ≡ true
-but-other p i j d e = and_both (p i) (not (eqb i j)) e (ap not (ne_eqb i j d))
+but-other p i j d e = and_from (p i) (not (eqb i j)) e (ap not (ne_eqb i j d))
 
 -- where two different ones pass, two do; and so with three
 pub tally-has-two : (p : ℕ → Bool) (n i j : ℕ) → i < n → j < n → (i ≡ j → ⊥) → p i ≡ true → p j ≡ true → 2 ≤ tally p n

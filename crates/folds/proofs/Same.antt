@@ -9,8 +9,10 @@ use lib.Dec.{eqb}
 use lib.ListN.{length, get_or, drop, drop_of_length-le}
 use lib.Seq.{drop-cons}
 use borrow.Author.Tests.{eq-eqb, eqb-true}
-use Rattle.folds.proofs.Below.{and-false, and_left, and_right, both_ways}
 use Rattle.folds.specs.Same.{same_list}
+use Rattle.std.proofs.Math.Bool.{and-false}
+use Rattle.std.proofs.lemmas.Bool.{and_parts}
+use Rattle.std.specs.Cmp.{both_ways}
 
 -- equal lists are the same, and no others
 pub same_self : (a : List ℕ) → same_list a a ≡ true
@@ -23,7 +25,7 @@ unfolding same_list
 same-equal [] [] h = refl
 same-equal [] (y ∷ b) h = absurd (false≢true h)
 same-equal (x ∷ a) [] h = absurd (false≢true h)
-same-equal (x ∷ a) (y ∷ b) h = rw (eqb-true x y (and_left (eqb x y) (same_list a b) h), same-equal a b (and_right (eqb x y) (same_list a b) h))
+same-equal (x ∷ a) (y ∷ b) h = rw (eqb-true x y (and_parts (eqb x y) (same_list a b) h).0, same-equal a b (and_parts (eqb x y) (same_list a b) h).1)
 
 -- what tells whether they are equal
 pub told : {r : Bool} (a b : List ℕ) → (r ≡ true → a ≡ b) → (a ≡ b → r ≡ true) → r ≡ same_list a b

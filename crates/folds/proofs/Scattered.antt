@@ -10,9 +10,10 @@ use lib.Dec.{eqb, ltb}
 use lib.ListN.{length, get_or, set, length-set}
 use lib.Seq.{get_or-set_same, get_or-set_other}
 use Rattle.folds.specs.Below.{fold, turn, tally, some}
-use Rattle.folds.proofs.Below.{fold-none, fold_more, and-false, tally-le}
+use Rattle.folds.proofs.Below.{fold-none, fold_more, tally-le}
 use Rattle.folds.specs.Marked.{bit}
 use Rattle.folds.specs.Scattered.{counts, Scattered, one_more, larger}
+use Rattle.std.proofs.Math.Bool.{and-false}
 
 module _ {A : Type 0} where
   module _ (d : A) (key : ℕ → ℕ) (q : ℕ → Bool) (g : ℕ → A → A) (a₀ : List A) where
@@ -66,21 +67,22 @@ counted-le key q a₀ i v a h t = omega (arith, t.at v h, fold-tally (counts key
 
 -- ---- the largest
 
+-- one of two tests, where one follows from the other
+pub or_same : (a b : Bool) → (b ≡ true → a ≡ true) → a ≡ a || b
+or_same true b h = refl
+or_same false true h = h refl
+or_same false false h = refl
+
+pub or-next : (a b : Bool) → (a ≡ true → b ≡ true) → b ≡ a || b
+or-next true b h = h refl
+or-next false b h = refl
+
 -- the largest is above c where one is
 pub fold-above : (p : ℕ → Bool) (v : ℕ → ℕ) (c n : ℕ) → ltb c (fold (turn p (larger v)) 0 n) ≡ some (λ k. p k && ltb c (v k)) n
 unfolding fold some
 fold-above p v c zero = le-ltb c 0 zero-le
 fold-above p v c (suc n) = go (p n) (ltb (fold (turn p (larger v)) 0 n) (v n)) refl (fold-above p v c n)
   where
-    or_same : (a b : Bool) → (b ≡ true → a ≡ true) → a ≡ a || b
-    or_same true b h = refl
-    or_same false true h = h refl
-    or_same false false h = refl
-
-    or-next : (a b : Bool) → (a ≡ true → b ≡ true) → b ≡ a || b
-    or-next true b h = h refl
-    or-next false b h = refl
-
     go : (q l : Bool) → ltb (fold (turn p (larger v)) 0 n) (v n) ≡ l → ltb c (fold (turn p (larger v)) 0 n) ≡ some (λ k. p k && ltb c (v k)) n → ltb c (cond q (cond l (v n) (fold (turn p (larger v)) 0 n)) (fold (turn p (larger v)) 0 n)) ≡ some (λ k. p k && ltb c (v k)) n || (q && ltb c (v n))
     go false l e h = h ∙ or_same (some (λ k. p k && ltb c (v k)) n) false (λ b. absurd (false≢true b))
     go true true e h = or-next (some (λ k. p k && ltb c (v k)) n) (ltb c (v n)) (λ b. lt-ltb c (v n) (omega (arith, ltb-true c (fold (turn p (larger v)) 0 n) (h ∙ b), ltb-true (fold (turn p (larger v)) 0 n) (v n) e)))

@@ -13,7 +13,7 @@ use Rattle.folds.proofs.Lists.{list_at}
 use Rattle.view.specs.View.{max_points}
 use Rattle.cells.specs.Points.{Point, nowhere}
 use Rattle.cells.specs.Cell.{Cell, cell_of, agree, cells_of}
-use Rattle.cells.proofs.Edges.{agree_same, agree-true}
+use Rattle.cells.proofs.Edges.{agree-true, agree-itself}
 use Rattle.cells.proofs.Keys.{cell_at}
 use Rattle.grid.specs.Tables.{entry_in, first_in_row, first_in_column, last_with_index}
 use Rattle.grid.specs.Views.{view_of}
@@ -46,9 +46,6 @@ module _ {A : Type 0} (same : A → A → Bool) (itself : (a : A) → same a a �
 
   last-same : (j k : ℕ) → f j ≡ f k → last_with j ≡ last_with k
   last-same j k e = ap (λ (x : A). last (λ (i : ℕ). same (f i) x) 0 n) e
-
-agree-itself : (z : ℤ) → agree z z ≡ true
-agree-itself z = agree_same z z refl
 
 eqb-itself : (m : ℕ) → eqb m m ≡ true
 eqb-itself m = eq-eqb m m refl

@@ -12,12 +12,13 @@ use lib.Dec.{eqb, ltb}
 use lib.ListN.{length, get_or, set, length-set}
 use lib.Seq.{get_or-set_same, get_or-set_other}
 use borrow.Author.Tests.{lt-ltb, eq-eqb, ne_eqb, ltb-true, eqb-true}
-use Rattle.folds.proofs.Below.{and_left, and_right, and_both, last-hit}
+use Rattle.folds.proofs.Below.{last-hit}
 use Rattle.view.specs.View.{max_points, ranks_size, indices_at}
 use Rattle.sort.specs.Packed.{packed_places, in_order_of, placed}
 use Rattle.sort.proofs.Packed.{placed_below, placed-is, place_of, placed-rises}
 use Rattle.grid.specs.Tables.{entry_in, last_with_index, spliced}
 use Rattle.grid.proofs.Splicing.{is-spliced}
+use Rattle.std.proofs.lemmas.Bool.{and_from, and_parts}
 
 -- the rank at place r of the order
 abbrev rank_in : List ℕ → ℕ → ℕ
@@ -64,8 +65,8 @@ module _ (index : ℕ → ℕ) (n : ℕ) (few : n ≤ max_points) (order : List 
     same_index : goes_on i ≡ true → after ≡ last_with_index n index (rank_in order i)
     unfolding last_with_index
     same_index e =
-        let l : i + 1 < n = ltb-true (i + 1) n (and_left (ltb (i + 1) n) (eqb (entry_in order i / packed_places) (entry_in order (i + 1) / packed_places)) e) in
-        let q : entry_in order i / packed_places ≡ entry_in order (i + 1) / packed_places = eqb-true (entry_in order i / packed_places) (entry_in order (i + 1) / packed_places) (and_right (ltb (i + 1) n) (eqb (entry_in order i / packed_places) (entry_in order (i + 1) / packed_places)) e) in
+        let l : i + 1 < n = ltb-true (i + 1) n (and_parts (ltb (i + 1) n) (eqb (entry_in order i / packed_places) (entry_in order (i + 1) / packed_places)) e).0 in
+        let q : entry_in order i / packed_places ≡ entry_in order (i + 1) / packed_places = eqb-true (entry_in order i / packed_places) (entry_in order (i + 1) / packed_places) (and_parts (ltb (i + 1) n) (eqb (entry_in order i / packed_places) (entry_in order (i + 1) / packed_places)) e).1 in
         let s : index (rank_in order i) ≡ index (rank_in order (i + 1)) = sym (index_is i h) ∙ q ∙ index_is (i + 1) l in
         rw s (known l)
 
@@ -94,7 +95,7 @@ module _ (index : ℕ → ℕ) (n : ℕ) (few : n ≤ max_points) (order : List 
         goes q =
             let l : i + 1 < n = omega (arith, later q, (place j hj).1) in
             let s : index (rank_in order r) ≡ index j = ap index (place j hj).2 in
-            and_both (ltb (i + 1) n) (eqb (entry_in order i / packed_places) (entry_in order (i + 1) / packed_places)) (lt-ltb (i + 1) n l)
+            and_from (ltb (i + 1) n) (eqb (entry_in order i / packed_places) (entry_in order (i + 1) / packed_places)) (lt-ltb (i + 1) n l)
             (eq-eqb (entry_in order i / packed_places) (entry_in order (i + 1) / packed_places) (omega (arith, q, s, index_is i h, index_is r (place j hj).1, rises i (i + 1) (omega arith) l, next (eq-or-lt_of_le (later q)))))
           where
             next : (suc i ≡ r) ⊎ (suc i < r) → entry_in order (i + 1) ≤ entry_in order r

@@ -7,7 +7,7 @@ use lib.Dec.{eqb}
 use lib.ListN.{length, get_or}
 use borrow.Author.Tests.{eq-eqb, eqb-true}
 use Rattle.folds.specs.Below.{some}
-use Rattle.folds.proofs.Below.{some-ext, both_ways}
+use Rattle.folds.proofs.Below.{some-ext}
 use Rattle.offsets.specs.declared.Offset.{Offset}
 use Rattle.offsets.specs.Offsets.{own, is_near, places}
 use Rattle.offsets.proofs.Places.{places-long, places-at}
@@ -18,6 +18,7 @@ use Rattle.cells.proofs.Edges.{coincide-same, coincide-true}
 use Rattle.grid.specs.Views.{view_of}
 use Rattle.grid.specs.InOrder.{CellOrder}
 use Rattle.grid.proofs.InOrder.{near-means, near-found}
+use Rattle.std.specs.Cmp.{both_ways}
 
 module _ (ps : List Point) (o : CellOrder ps) where
   abbrev cell : ℕ → Cell

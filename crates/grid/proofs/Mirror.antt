@@ -4,7 +4,7 @@ use mathlib.Core.List.{List}
 use Prim.Native.Nat.{ℕ, ◌+◌, ◌-◌, ◌*◌, ◌/◌, ◌%◌, ◌<◌}
 use native.Mathlib.Omega.{arith}
 use borrow.Author.Tests.{eqb-true}
-use Rattle.folds.proofs.Below.{first_holds, first-hit, not-true}
+use Rattle.folds.proofs.Below.{first_holds, first-hit}
 use Rattle.offsets.specs.declared.Offset.{Offset}
 use Rattle.offsets.specs.Offsets.{offset_of}
 use Rattle.cells.specs.Points.{stride}
@@ -14,6 +14,7 @@ use Rattle.cells.proofs.Keys.{same-u, same-v}
 use Rattle.grid.specs.Tables.{neighbour_of, neighbour_entry, first_in_row, first_in_column, last_with_index, entry_in, ranks_of, Keys}
 use Rattle.grid.proofs.Filled.{block_near}
 use Rattle.grid.proofs.Views.{held}
+use Rattle.std.proofs.lemmas.Bool.{false_from_ne_true}
 
 module _ (n : ℕ) (cell : ℕ → Cell) (apart : (i j : ℕ) → i < j → j < n → cell i ≡ cell j → ⊥) where
   -- the rank at an offset holds the point of the cell at (u + du, v + dv) ..
@@ -27,7 +28,7 @@ module _ (n : ℕ) (cell : ℕ → Cell) (apart : (i j : ℕ) → i < j → j < 
   unfolding neighbour_of
   neighbour-found k o j m e =
       first-hit (λ (j : ℕ). coincide (cell j) (offset_by o (cell k))) n j m (coincide-same (cell j) (offset_by o (cell k)) e)
-      (λ i b. not-true (coincide (cell i) (offset_by o (cell k))) (λ t. apart i j b m (coincide-true (cell i) (offset_by o (cell k)) t ∙ sym e)))
+      (λ i b. false_from_ne_true (coincide (cell i) (offset_by o (cell k))) (λ t. apart i j b m (coincide-true (cell i) (offset_by o (cell k)) t ∙ sym e)))
 
   -- j stands at place d of k just where k stands at place 24 - d of j
   pub neighbour-back : (k j d : ℕ) → k < n → j < n → d < 25 → neighbour_of n cell k (offset_of d) ≡ j → neighbour_of n cell j (offset_of (24 - d)) ≡ k

@@ -23,7 +23,7 @@ module _ (a b : ℤ) (ps qs : List Point) (size : length qs ≡ length ps) (all 
   abbrev n : ℕ
   n = length ps
 
-  cells-moved : (k : ℕ) → k < n → cells_of qs k ≡ moved a b (cells_of ps k)
+  pub cells-moved : (k : ℕ) → k < n → cells_of qs k ≡ moved a b (cells_of ps k)
   cells-moved k h = cell_at qs k (omega arith) ∙ (all k h).cell ∙ ap (moved a b) (sym (cell_at ps k h))
 
   near-stays : (k : ℕ) (o : Offset) → k < n → neighbour_of n (cells_of qs) k o ≡ neighbour_of n (cells_of ps) k o

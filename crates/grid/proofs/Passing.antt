@@ -9,9 +9,9 @@ use native.Mathlib.Nat.{eq-or-lt_of_le}
 use native.Mathlib.Decide.{dec_lt}
 use lib.Dec.{eqb, ltb}
 use borrow.Author.Tests.{lt-ltb, eq-eqb, ltb-true, eqb-true}
-use Rattle.folds.proofs.Below.{and_left, and_right, and_both}
 use Rattle.grid.specs.Sweep.{key_centre, standing, Behind, Reached}
 use Rattle.grid.proofs.Standing.{KeysRise, standing-hit, standing-miss}
+use Rattle.std.proofs.lemmas.Bool.{and_from, and_parts}
 
 module _ (n : ℕ) (key : ℕ → ℕ) where
   pub behind-none : (t : ℕ) → Behind n key 0 t
@@ -53,7 +53,7 @@ module _ (n : ℕ) (key : ℕ → ℕ) where
 
 -- the test of a rank
 pub stands-there : (p n k t : ℕ) {r : Bool} → r ≡ ltb p n && eqb k t → r ≡ true → (p < n) × (k ≡ t)
-stands-there p n k t e f = (ltb-true p n (and_left (ltb p n) (eqb k t) (sym e ∙ f)), eqb-true k t (and_right (ltb p n) (eqb k t) (sym e ∙ f)))
+stands-there p n k t e f = (ltb-true p n (and_parts (ltb p n) (eqb k t) (sym e ∙ f)).0, eqb-true k t (and_parts (ltb p n) (eqb k t) (sym e ∙ f)).1)
 
 pub stands-not : (p n k t : ℕ) {r : Bool} → r ≡ ltb p n && eqb k t → r ≡ false → p < n → k ≡ t → ⊥
-stands-not p n k t e f h g = true≢false (sym (and_both (ltb p n) (eqb k t) (lt-ltb p n h) (eq-eqb k t g)) ∙ sym e ∙ f)
+stands-not p n k t e f h g = true≢false (sym (and_from (ltb p n) (eqb k t) (lt-ltb p n h) (eq-eqb k t g)) ∙ sym e ∙ f)

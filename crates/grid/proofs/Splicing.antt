@@ -9,9 +9,9 @@ use lib.Dec.{leb}
 use lib.ListN.{length, set, length-set, get_or-eq_default}
 use lib.Seq.{ext_get_or, get_or-set_same, get_or-set_other}
 use borrow.Author.Tests.{lt-ltb, le-ltb, le-leb, lt-leb}
-use Rattle.folds.proofs.Below.{and-false}
 use Rattle.folds.proofs.Lists.{length-list, list_at, list_over}
 use Rattle.grid.specs.Tables.{splice, spliced, entry_in}
+use Rattle.std.proofs.Math.Bool.{and-false}
 
 -- ---- by place
 

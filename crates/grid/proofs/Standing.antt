@@ -6,7 +6,7 @@ use Prim.Native.Nat.{ℕ, ◌+◌, ◌*◌, ◌/◌, ◌%◌, ◌^◌, ◌<◌}
 use native.Mathlib.Omega.{arith}
 use lib.Dec.{eqb}
 use borrow.Author.Tests.{eq-eqb, ne_eqb, eqb-true}
-use Rattle.folds.proofs.Below.{first-hit, first-miss, first-ext, both_ways, and_left, and_right, and_both}
+use Rattle.folds.proofs.Below.{first-hit, first-miss, first-ext}
 use Rattle.offsets.specs.Offsets.{offset_of}
 use Rattle.cells.specs.Points.{stride}
 use Rattle.cells.specs.Cell.{CellInRange, coincide, offset_by, cell_of_key, cells_at}
@@ -14,6 +14,8 @@ use Rattle.cells.proofs.Coordinates.{lift, lift-agree, part-liftable, part-lift,
 use Rattle.cells.proofs.Keys.{parts-range, small-key}
 use Rattle.grid.specs.Tables.{entry_in, neighbour_of, Keys}
 use Rattle.grid.specs.Sweep.{key_centre, standing}
+use Rattle.std.proofs.lemmas.Bool.{and_from, and_parts}
+use Rattle.std.specs.Cmp.{both_ways}
 
 -- keys are small
 pub keys-small : (keys : List ℕ) (n : ℕ) → Keys keys n → (k : ℕ) → k < n → entry_in keys k < 2 ^ 28
@@ -54,12 +56,12 @@ offset-key a b d r s =
     rw (lift-agree (cell_of_key b).u xu (part-liftable (b / stride)) mu.0, lift-agree (cell_of_key b).v xv (part-liftable (b % stride)) mv.0, part-lift (b / stride), part-lift (b % stride))
     (both_ways (eqb (b / stride) (lift xu) && eqb (b % stride) (lift xv)) (eqb (b + key_centre) (a + key_step d))
     (λ e.
-    let f = eqb-true (b / stride) (lift xu) (and_left (eqb (b / stride) (lift xu)) (eqb (b % stride) (lift xv)) e) in
-    let g = eqb-true (b % stride) (lift xv) (and_right (eqb (b / stride) (lift xu)) (eqb (b % stride) (lift xv)) e) in
+    let f = eqb-true (b / stride) (lift xu) (and_parts (eqb (b / stride) (lift xu)) (eqb (b % stride) (lift xv)) e).0 in
+    let g = eqb-true (b % stride) (lift xv) (and_parts (eqb (b / stride) (lift xu)) (eqb (b % stride) (lift xv)) e).1 in
     eq-eqb (b + key_centre) (a + key_step d) (omega arith))
     (λ e.
     let f = eqb-true (b + key_centre) (a + key_step d) e in
-    and_both (eqb (b / stride) (lift xu)) (eqb (b % stride) (lift xv)) (eq-eqb (b / stride) (lift xu) (omega arith)) (eq-eqb (b % stride) (lift xv) (omega arith))))
+    and_from (eqb (b / stride) (lift xu)) (eqb (b % stride) (lift xv)) (eq-eqb (b / stride) (lift xu) (omega arith)) (eq-eqb (b % stride) (lift xv) (omega arith))))
 
 -- the rank that stands at a target is the neighbour
 pub standing-is : (keys : List ℕ) (n : ℕ) → Keys keys n → (k d : ℕ) → k < n → standing n (entry_in keys) (entry_in keys k + key_step d) ≡ neighbour_of n (cells_at keys) k (offset_of d)

@@ -13,7 +13,7 @@ use Rattle.cells.specs.Points.{stride}
 use Rattle.cells.specs.Cell.{cells_at}
 use Rattle.grid.specs.Tables.{entry_in, neighbour_entry, spliced, Keys}
 use Rattle.grid.specs.Sweep.{standing, standing_from, Behind, Reached}
-use Rattle.grid.proofs.Splicing.{length-spliced, spliced-none, spliced-on}
+use Rattle.grid.proofs.Splicing.{spliced-none, spliced-on}
 use Rattle.grid.proofs.Standing.{key_step, standing-is}
 use Rattle.grid.proofs.Passing.{behind-none, behind-up}
 
@@ -35,9 +35,6 @@ module _ (keys : List ℕ) (n : ℕ) (ranks₀ : List ℕ) where
   }
 
   module _ (ks : Keys keys n) (size : length ranks₀ ≡ ranks_size) where
-    pub swept-size : {ranks reached : List ℕ} {i : ℕ} → Swept ranks reached i → length ranks ≡ ranks_size
-    swept-size {ranks} {reached} {i} w = ap length w.fill ∙ length-spliced 0 (5 * i) (neighbour_entry n (cells_at keys)) ranks₀ ∙ size
-
     pub swept-more : {ranks ranks' reached : List ℕ} {i p t : ℕ} → i < 5 * n → t ≡ target_at (entry_in keys) i → Swept ranks reached i → Reached n (entry_in keys) p t
         → ranks' ≡ spliced (5 * i) 5 (standing_from n (entry_in keys) t) ranks → Swept ranks' (set reached (i % 5) p) (i + 1)
     swept-more {ranks} {ranks'} {reached} {i} {p} {t} h e w r f = record {

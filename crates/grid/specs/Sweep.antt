@@ -1,5 +1,5 @@
 -- How far the ranks have been passed on the way to a target, and what the functions of the crate leave to each other.
-use Rattle.std.specs.Prelude.{◌≡◌, List, ℕ, ◌+◌, ◌*◌, ◌≤◌, ◌<◌, ◌^◌, eqb, length}
+use Rattle.std.specs.Prelude.{ℕ, ◌+◌, ◌*◌, ◌≤◌, ◌<◌, ◌^◌, eqb}
 use Rattle.folds.specs.Below.{first}
 use Rattle.view.specs.View.{ranks_size}
 use Rattle.cells.specs.Points.{stride}
@@ -28,7 +28,6 @@ pub record Reached (n : ℕ) (key : ℕ → ℕ) (p target : ℕ) : Type 0 where
   pub stop : p < n → target ≤ key p + key_centre
 
 -- five entries fit from `to` on
-pub record FiveFit (ranks : List ℕ) (target to : ℕ) : Type 0 where
-  pub size : length ranks ≡ ranks_size
+pub record FiveFit (target to : ℕ) : Type 0 where
   pub fit : to + 5 ≤ ranks_size
   pub small : target < 2 ^ 29

@@ -1,7 +1,7 @@
 // The table of ranks of a sheet (see the crate `view`), from the keys and indices of its points in cell order.
 #![tactic(auto)]
 
-ghost use Rattle.std.specs.Prelude.{◌≡◌, cond, ◌&&◌, ◌+◌, ◌*◌, ◌/◌, ◌%◌, ◌≤◌, ◌<◌, eqb, ltb, length, replicate};
+ghost use Rattle.std.specs.Prelude.{◌≡◌, cond, ◌&&◌, ◌+◌, ◌*◌, ◌/◌, ◌%◌, ◌≤◌, ◌<◌, eqb, ltb, replicate};
 ghost use Rattle.view.specs.View.{max_points, ranks_size, rows_at, columns_at, indices_at};
 ghost use Rattle.cells.specs.Points.{stride};
 ghost use Rattle.cells.specs.Cell.{cells_at};
@@ -9,7 +9,8 @@ ghost use Rattle.sort.specs.Packed.{packed_places};
 ghost use Rattle.grid.specs.Tables.{entry_in, neighbour_entry, first_in_row, first_in_column, last_with_index, spliced, ranks_of, Keys};
 ghost use Rattle.grid.specs.Sweep.{key_centre, Behind, Reached, FiveFit, standing_from};
 
-use view::{Ranks, Words};
+use cells::Points;
+use view::Ranks;
 
 // A rank stands at a target if its key plus this is the target, so that the targets of two cells down are no negative numbers.
 const CENTRE: u32 = 2 * cells::STRIDE + 2;
@@ -20,13 +21,11 @@ const V_PARTS: usize = cells::STRIDE as usize;
 // No rank.
 const NONE: u16 = view::MAX_POINTS as u16;
 
-// The points of a sheet, in cell order: the keys of their cells, and their indices.
+// Points whose keys rise and are those of cells in range.
 #[derive(Clone, Copy)]
-pub struct Points<'a> {
-    pub keys: &'a Words,
-    pub idx: &'a Words,
-    pub count: usize,
-    ghost keyed: { Keys keys.now count },
+pub struct KeyedPoints<'a> {
+    pub points: Points<'a>,
+    ghost keyed: { Keys points.keys.now points.count },
 }
 
 // What e steps in u add to a key.
@@ -45,32 +44,32 @@ fn earlier(r: u16, k: usize) -> u16
     if usize::from(r) < k { r } else { k as u16 }
 }
 
-impl Points<'_> {
+impl KeyedPoints<'_> {
     // The first rank from `from` on that does not stand before the target.
     fn advance(&self, from: usize, target: u32) -> usize
-        requires { Behind self.now.count (entry_in self.now.keys.now) from target }
-        ensures { Reached self.now.count (entry_in self.now.keys.now) result target }
+        requires { Behind self.now.points.count (entry_in self.now.points.keys.now) from target }
+        ensures { Reached self.now.points.count (entry_in self.now.points.keys.now) result target }
     {
-        for p in from..self.count {
-            if target <= self.keys[p] + CENTRE {
+        for p in from..self.points.count {
+            if target <= self.points.keys[p] + CENTRE {
                 return p;
             }
         }
-        from.max(self.count)
+        from.max(self.points.count)
     }
 
     // Whether rank p stands at the target.
     fn stands(&self, p: usize, target: u32) -> bool
-        ensures { result ≡ ltb p self.now.count && eqb (entry_in self.now.keys.now p + key_centre) target }
+        ensures { result ≡ ltb p self.now.points.count && eqb (entry_in self.now.points.keys.now p + key_centre) target }
     {
-        p < self.count && self.keys[p] + CENTRE == target
+        p < self.points.count && self.points.keys[p] + CENTRE == target
     }
 
     // Writes the ranks that stand at five targets, from `target` on, into the table from `at` on, the count where none stands; `from` is
     // the first rank that does not stand before them.
     fn five(&self, from: usize, target: u32, ranks: &mut Ranks, at: usize)
-        requires { Reached self.now.count (entry_in self.now.keys.now) from target × FiveFit ranks.old target at }
-        ensures { ranks.new ≡ spliced at 5 (standing_from self.now.count (entry_in self.now.keys.now) target) ranks.old }
+        requires { Reached self.now.points.count (entry_in self.now.points.keys.now) from target × FiveFit target at }
+        ensures { ranks.new ≡ spliced at 5 (standing_from self.now.points.count (entry_in self.now.points.keys.now) target) ranks.old }
     {
         let mut p = from;
         let mut goal = target;
@@ -79,7 +78,7 @@ impl Points<'_> {
                 ranks[at + e] = p as u16;
                 p += 1;
             } else {
-                ranks[at + e] = self.count as u16;
+                ranks[at + e] = self.points.count as u16;
             }
             goal += 1;
         }
@@ -88,13 +87,12 @@ impl Points<'_> {
     // Fills the block of neighbours: 25 entries for each rank, the count where no point stands. The ranks that stand two cells to one side
     // and two to the other follow each other, so that one reached rank for each difference of u will do.
     fn fill_near(&self, ranks: &mut Ranks)
-        requires { length ranks.old ≡ ranks_size }
-        ensures { ranks.new ≡ spliced 0 (25 * self.now.count) (neighbour_entry self.now.count (cells_at self.now.keys.now)) ranks.old }
+        ensures { ranks.new ≡ spliced 0 (25 * self.now.points.count) (neighbour_entry self.now.points.count (cells_at self.now.points.keys.now)) ranks.old }
     {
         let mut reached = [0usize; 5];
-        for i in 0..5 * self.count {
+        for i in 0..5 * self.points.count {
             let e = i % 5;
-            let target = self.keys[i / 5] + steps(e);
+            let target = self.points.keys[i / 5] + steps(e);
             let p = self.advance(reached[e], target);
             reached[e] = p;
             self.five(p, target, ranks, 5 * i);
@@ -103,12 +101,11 @@ impl Points<'_> {
 
     // Fills the block of rows: the first rank of each rank's row, by a table over all v.
     fn fill_rows(&self, ranks: &mut Ranks)
-        requires { length ranks.old ≡ ranks_size }
-        ensures { ranks.new ≡ spliced rows_at self.now.count (first_in_row self.now.count (cells_at self.now.keys.now)) ranks.old }
+        ensures { ranks.new ≡ spliced rows_at self.now.points.count (first_in_row self.now.points.count (cells_at self.now.points.keys.now)) ranks.old }
     {
         let mut seen = [NONE; V_PARTS];
-        for k in 0..self.count {
-            let v = cells::v_part(self.keys[k]) as usize;
+        for k in 0..self.points.count {
+            let v = cells::v_part(self.points.keys[k]) as usize;
             let r = earlier(seen[v], k);
             seen[v] = r;
             ranks[view::ROWS_AT + k] = r;
@@ -118,9 +115,9 @@ impl Points<'_> {
     // The rank `start` if it has rank k's u, else k.
     fn start_of(&self, start: usize, k: usize) -> usize
         requires { (start < max_points) × (k < max_points) }
-        ensures { result ≡ cond (eqb (entry_in self.now.keys.now start / stride) (entry_in self.now.keys.now k / stride)) start k }
+        ensures { result ≡ cond (eqb (entry_in self.now.points.keys.now start / stride) (entry_in self.now.points.keys.now k / stride)) start k }
     {
-        if cells::u_part(self.keys[start]) == cells::u_part(self.keys[k]) {
+        if cells::u_part(self.points.keys[start]) == cells::u_part(self.points.keys[k]) {
             return start;
         }
         k
@@ -128,11 +125,10 @@ impl Points<'_> {
 
     // Fills the block of columns: the first rank of each rank's column. The ranks of a column follow each other.
     fn fill_columns(&self, ranks: &mut Ranks)
-        requires { length ranks.old ≡ ranks_size }
-        ensures { ranks.new ≡ spliced columns_at self.now.count (first_in_column self.now.count (cells_at self.now.keys.now)) ranks.old }
+        ensures { ranks.new ≡ spliced columns_at self.now.points.count (first_in_column self.now.points.count (cells_at self.now.points.keys.now)) ranks.old }
     {
         let mut start: usize = 0;
-        for k in 0..self.count {
+        for k in 0..self.points.count {
             start = self.start_of(start, k);
             ranks[view::COLUMNS_AT + k] = start as u16;
         }
@@ -140,11 +136,11 @@ impl Points<'_> {
 
     // The last rank with the index at place i of the order by index and rank; `after` is that of the next place.
     fn last_rank(&self, order: &[u64; view::MAX_POINTS], i: usize, after: u16) -> u16
-        requires { i < self.now.count }
-        ensures { result ≡ cond (ltb (i + 1) self.now.count && eqb (entry_in order.now i / packed_places) (entry_in order.now (i + 1) / packed_places)) after (entry_in order.now i % packed_places) }
+        requires { i < self.now.points.count }
+        ensures { result ≡ cond (ltb (i + 1) self.now.points.count && eqb (entry_in order.now i / packed_places) (entry_in order.now (i + 1) / packed_places)) after (entry_in order.now i % packed_places) }
     {
         let rank = (order[i] % sort::PACKED_PLACES) as u16;
-        if self.count <= i + 1 {
+        if self.points.count <= i + 1 {
             return rank;
         }
         if order[i] / sort::PACKED_PLACES == order[i + 1] / sort::PACKED_PLACES {
@@ -155,12 +151,11 @@ impl Points<'_> {
 
     // Fills the block of indices: the last rank with each rank's index, which stands for the index.
     fn fill_indices(&self, ranks: &mut Ranks)
-        requires { length ranks.old ≡ ranks_size }
-        ensures { ranks.new ≡ spliced indices_at self.now.count (last_with_index self.now.count (entry_in self.now.idx.now)) ranks.old }
+        ensures { ranks.new ≡ spliced indices_at self.now.points.count (last_with_index self.now.points.count (entry_in self.now.points.idx.now)) ranks.old }
     {
-        let order = sort::in_order(self.count, |k| u64::from(self.idx[k]));
+        let order = sort::in_order(self.points.count, |k| u64::from(self.points.idx[k]));
         let mut last: u16 = 0;
-        for i in (0..self.count).rev() {
+        for i in (0..self.points.count).rev() {
             last = self.last_rank(&order, i, last);
             let k = (order[i] % sort::PACKED_PLACES) as usize;
             ranks[view::INDICES_AT + k] = last;
@@ -170,9 +165,9 @@ impl Points<'_> {
 
 // Fills the table of ranks, which is all zeros.
 #[inline(never)]
-pub fn fill(points: &Points, ranks: &mut Ranks)
+pub fn fill(points: &KeyedPoints, ranks: &mut Ranks)
     requires { ranks.old ≡ replicate ranks_size 0 }
-    ensures { ranks.new ≡ ranks_of points.now.count points.now.keys.now points.now.idx.now }
+    ensures { ranks.new ≡ ranks_of points.now.points.count points.now.points.keys.now points.now.points.idx.now }
 {
     points.fill_near(ranks);
     points.fill_rows(ranks);

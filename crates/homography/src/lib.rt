@@ -53,6 +53,7 @@ fn scale(d: f32) -> f32
 }
 
 // The matrix that centres and scales the four points p.
+#[inline(always)]
 fn normalization(p: [PlanePoint; 4]) -> [[f32; 3]; 3]
     ensures { result ≡ normalization_of p }
 {

@@ -9,7 +9,7 @@ use lib.ListN.{length, get_or}
 use lib.Seq.{get_or-take}
 use borrow.Author.Tests.{eqb-true, eq-eqb, ltb-true}
 use Rattle.folds.specs.Below.{every}
-use Rattle.folds.proofs.Below.{every-at, and-under, and_left, and_right}
+use Rattle.folds.proofs.Below.{every-at, and-under}
 use Rattle.cells.specs.Points.{Point, nowhere}
 use Rattle.cells.specs.Cell.{Cell, within, cell_of, moved, joined_by}
 use Rattle.sheet_file.specs.declared.Settings.{Settings}
@@ -20,6 +20,7 @@ use Rattle.drop_set.specs.Filters.{sides_of}
 use Rattle.judging.specs.Judging.{judged_for}
 use Rattle.promises.specs.Words.{DistinctIndices, other_mark, marks_in, survivor, joined, kept_rank}
 use Rattle.instances.specs.Files.{marks_of}
+use Rattle.std.proofs.lemmas.Bool.{and_parts}
 
 -- ---- the conditions
 
@@ -50,7 +51,7 @@ pub in-range-by : (a b : ℤ) (ps : List Point) → every (λ (k : ℕ). range_h
 in-range-by a b ps e k h =
     let c = moved a b (cell_of (get_or ps k nowhere)) in
     let both = every-at (λ (k : ℕ). range_holds (moved a b (cell_of (get_or ps k nowhere)))) (length ps) e k h in
-    record { u = and_left (within c.u) (within c.v) both; v = and_right (within c.u) (within c.v) both }
+    record { u = (and_parts (within c.u) (within c.v) both).0; v = (and_parts (within c.u) (within c.v) both).1 }
 
 -- ---- what is reached
 
@@ -96,9 +97,9 @@ module _ (s : Settings) (ps : List Point) (m : List ℕ) (e : marks_of s ps ≡ 
 
   stays-in : (W : ℕ → Bool) → closed W ≡ true → (b c : ℕ) → W b ≡ true → link b c ≡ true → W c ≡ true
   stays-in W h b c w t =
-      let lb = ltb-true b n (and_left (ltb b n) (not (other_mark (get_or m b 0))) (and_left (alive b) (alive c && touching b c) t)) in
-      let rest = and_left (alive c) (touching b c) (and_right (alive b) (alive c && touching b c) t) in
-      let lc = ltb-true c n (and_left (ltb c n) (not (other_mark (get_or m c 0))) rest) in
+      let lb = ltb-true b n (and_parts (ltb b n) (not (other_mark (get_or m b 0))) (and_parts (alive b) (alive c && touching b c) t).0).0 in
+      let rest = (and_parts (alive c) (touching b c) (and_parts (alive b) (alive c && touching b c) t).1).0 in
+      let lc = ltb-true c n (and_parts (ltb c n) (not (other_mark (get_or m c 0))) rest).0 in
       go (W b) (link b c) w t (pair-at (leads_in W) n h b c lb lc)
     where
       go : (x y : Bool) → x ≡ true → y ≡ true → not (x && y) || W c ≡ true → W c ≡ true

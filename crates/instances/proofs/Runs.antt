@@ -33,13 +33,11 @@ use Rattle.stars.specs.Listed.{file, file-computes, row_file}
 use Rattle.instances.specs.Files.{doubled_file, cut_file}
 use Rattle.instances.proofs.KeptPatch.{file-bytes}
 use Rattle.instances.proofs.AnotherOrder.{turned, framed, is-relisted, near_file, zero_size_file, near-framed, records-same}
+use Rattle.runs.proofs.Examples.{record_of}
 
 -- the call on a file, with a buffer of so many bytes
 abbrev call_on : List ℕ → ℕ → Call
 call_on file room = record { file = file; buffer = replicate room 0 }
-
-abbrev record_of : List ℕ → ℕ → List ℕ → Run
-record_of old sheets new = record { old_sums = old; sheets = sheets; new_sums = new }
 
 -- This name on an `unfolding` line opens every definition that a run of files computes by.
 unfoldable runs-compute : ℕ

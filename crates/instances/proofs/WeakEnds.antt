@@ -12,7 +12,7 @@ use lib.ListN.{length, get_or, replicate}
 use Rattle.folds.specs.Arith.{f32}
 use Rattle.folds.specs.Below.{some, every, tally}
 use Rattle.folds.specs.Lists.{list_of}
-use Rattle.folds.proofs.Below.{some-fails, and_right}
+use Rattle.folds.proofs.Below.{some-fails}
 use Rattle.cells.specs.Points.{Point}
 use Rattle.cells.specs.Cell.{cells_of}
 use Rattle.grid.specs.Views.{view_of}
@@ -49,6 +49,7 @@ use Rattle.instances.proofs.Computed.{distinct-by, in-range-by, marks-are, alive
 use Rattle.instances.proofs.KeptPatch.{file-bytes, file-accepted}
 use Rattle.instances.proofs.Offset.{points-are, none-marked, given, one_more}
 use Rattle.instances.proofs.Switches.{switched-by}
+use Rattle.std.proofs.lemmas.Bool.{and_parts, not-true}
 
 -- a point: its cell on the row v = 0, its index, the pattern of x where y is 0, and the pattern of its strength
 abbrev on_row : ℕ → ℕ → ℕ → ℕ → Point
@@ -316,11 +317,7 @@ second-survives = ap (λ (A : ℕ → Bool). A 1) (alive-is four_settings four f
 pub survivor-no-leaf : (s : Settings) (ps : List Point) (k : ℕ) → survivor s ps k ≡ true → has_mark leaf (marks_in s ps k) ≡ false
 survivor-no-leaf s ps k e =
     let m = marks_in s ps k in
-    some-fails (λ (f : ℕ). not (eqb f component) && has_mark f m) filter_count (go (other_mark m) (and_right (ltb k (length ps)) (not (other_mark m)) e)) leaf (omega arith)
-  where
-    go : (b : Bool) → not b ≡ true → b ≡ false
-    go true t = absurd (true≢false (sym t))
-    go false t = refl
+    some-fails (λ (f : ℕ). not (eqb f component) && has_mark f m) filter_count (not-true (other_mark m) (and_parts (ltb k (length ps)) (not (other_mark m)) e).1) leaf (omega arith)
 
 pub second-no-leaf : has_mark leaf (marks_in four_settings four 1) ≡ false
 second-no-leaf = survivor-no-leaf four_settings four 1 second-survives

@@ -18,7 +18,7 @@ pub fn evaluate_edge_shape(g: EdgeShapeParams, edges: &EdgeTable, figures: &mut 
     requires { figures.old ≡ blank_figures }
     ensures { figures.new ≡ index_figures g (view_in edges.now.view) }
 {
-    let lattice = &edges.view.lattice;
+    let lattice = &edges.view.sheet.lattice;
     for k in 0..lattice.count {
         figures[k] = edge_shape::figures_at(g, edges, lattice.index(k));
     }

@@ -8,7 +8,6 @@ use lib.ListN.{length, get_or}
 use lib.Ieee.{Float, nan, inf, fin}
 use lib.Ieee.Scale.{finite}
 use Rattle.folds.specs.Arith.{f32}
-use Rattle.folds.proofs.Below.{or-none}
 use Rattle.folds.proofs.Column.{column-at}
 use Rattle.view.specs.View.{View, view_at, max_points, Finite, Ranked}
 use Rattle.cells.specs.Points.{Point, nowhere, keys_of, indices_of, xs_of, ys_of, strengths_of}
@@ -32,6 +31,7 @@ use Rattle.drop_set.specs.Filters.{sides_of, judged_of, measured_of, peeled_mark
 use Rattle.drop_set.proofs.Laws.{components-few, rounds-few}
 use Rattle.drop_set.specs.Given.{Celled, Weighed}
 use Rattle.judging.specs.Judging.{Arrays, judged_by, judged_for, fills_for}
+use Rattle.std.proofs.lemmas.Bool.{or_parts}
 
 -- what the filters ask of the arrays
 module _ (n : ℕ) (keys idx : List ℕ) (xs ys strength : List Float) {ranks : List ℕ} (a : Arrays n keys xs ys strength) (e : ranks ≡ ranks_of n keys idx) where
@@ -67,7 +67,7 @@ from-points s ps o =
 
 module _ (ps : List Point) (o : CellOrder ps) (limits : (k : ℕ) → k < length ps → off_limit (get_or ps k nowhere) ≡ false) (strengths : (k : ℕ) → k < length ps → off_strength (get_or ps k nowhere) ≡ false) where
   limited : (k : ℕ) → k < length ps → (outside (f32 (get_or ps k nowhere).x) ≡ false) × (outside (f32 (get_or ps k nowhere).y) ≡ false)
-  limited k h = or-none _ _ (limits k h)
+  limited k h = or_parts _ _ (limits k h)
 
   finite-xs : Finite (length ps) (xs_of ps)
   unfolding xs_of

@@ -1,18 +1,47 @@
 // The points of a sheet as columns that are lent.
+ghost use Rattle.std.specs.Prelude.{◌≡◌};
 ghost use Rattle.judging.specs.Judging.{Arrays};
 
+use cells::Points;
+use ruling::Sheet;
 use sheet_file::Settings;
-use view::{Floats, Words};
+use view::{Floats, Positions};
 
-// The settings of a sheet, how many points it has, and the points in cell order, one array a field.
+// The settings of a sheet, and its points in cell order, one array a field.
 #[derive(Clone, Copy)]
 pub struct Columns<'a> {
     pub settings: Settings,
-    pub count: usize,
-    pub keys: &'a Words,
-    pub idx: &'a Words,
-    pub x: &'a Floats,
-    pub y: &'a Floats,
+    pub points: Points<'a>,
+    pub seen: Positions<'a>,
     pub strength: &'a Floats,
-    ghost arrays: { Arrays count keys.now x.now y.now strength.now },
+    ghost arrays: { Arrays points.count points.keys.now seen.x.now seen.y.now strength.now },
+}
+
+impl<'a> Columns<'a> {
+    // The columns of a sheet.
+    pub fn of(sheet: &'a Sheet) -> Columns<'a>
+        requires { Arrays sheet.now.count sheet.now.table.keys sheet.now.table.x sheet.now.table.y sheet.now.table.strength }
+        ensures settings { result.settings ≡ sheet.now.settings }
+        ensures count { result.points.count ≡ sheet.now.count }
+        ensures keys { result.points.keys.now ≡ sheet.now.table.keys }
+        ensures idx { result.points.idx.now ≡ sheet.now.table.idx }
+        ensures x { result.seen.x.now ≡ sheet.now.table.x }
+        ensures y { result.seen.y.now ≡ sheet.now.table.y }
+        ensures strength { result.strength.now ≡ sheet.now.table.strength }
+    {
+        let table = &sheet.table;
+        Columns {
+            settings: sheet.settings,
+            points: Points {
+                keys: &table.keys,
+                idx: &table.idx,
+                count: sheet.count,
+            },
+            seen: Positions {
+                x: &table.x,
+                y: &table.y,
+            },
+            strength: &table.strength,
+        }
+    }
 }

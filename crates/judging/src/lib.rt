@@ -10,17 +10,20 @@ ghost use Rattle.judged.specs.Judged.{judged_from, blank_figures};
 ghost use Rattle.predict.specs.Fills.{fills_of};
 ghost use Rattle.drop_set.specs.Filters.{sides_of, judged_of};
 ghost use Rattle.drop_set.specs.Given.{Celled, Weighed};
-ghost use Rattle.judging.specs.Judging.{judged_by};
+ghost use Rattle.judging.specs.Columns.{judged_in};
 
 mod columns;
 
 pub use columns::Columns;
-use grid::Points;
+use drop_set::WeighedSheet;
+use grid::KeyedPoints;
 use judged::Findings;
 use judged::figures::FigureColumn;
 use predict::Fills;
 use sheet_file::Settings;
-use view::{Floats, Lattice, MAX_POINTS, Marks, Positions, RANKS_SIZE, Ranks, View, Words};
+use view::{
+    Floats, Lattice, MAX_POINTS, Marks, Positions, RANKS_SIZE, Ranks, SheetLattice, View, Words,
+};
 
 // The judged sheet of a view with the keys of its cells and its strengths, its edge figures into an empty array.
 #[inline(never)]
@@ -31,13 +34,17 @@ pub fn judge_view(
     strength: &Floats,
     figures: &mut FigureColumn,
 ) -> Findings
-    requires { Celled view.now.lattice.count keys.now view.now.x.now view.now.y.now × Weighed (view_in view.now) strength.now × (figures.old ≡ blank_figures) }
+    requires { Celled view.now.sheet.lattice.count keys.now view.now.seen.x.now view.now.seen.y.now × Weighed (view_in view.now) strength.now × (figures.old ≡ blank_figures) }
     ensures { judged_from result figures.new ≡ judged_of s (view_in view.now) (cells_at keys.now) strength.now }
 {
     let mut residuals = [None; MAX_POINTS];
     let m = drop_set::measure(s, view, keys, figures, &mut residuals);
     let measured = m.marks;
-    let d = drop_set::drop_patches(s, &view.sheet(), strength, &measured);
+    let weighed = WeighedSheet {
+        sheet: view.sheet,
+        strength,
+    };
+    let d = drop_set::drop_patches(s, &weighed, &measured);
     let marks = d.marks;
     let tally = d.tally;
     let boundary = m.boundary;
@@ -54,54 +61,49 @@ pub fn judge_view(
 // The judged sheet of points that were read of an accepted file with their table of ranks, its edge figures into an empty array.
 #[inline(never)]
 fn judge_ranked<'a>(
-    points: &'a Columns<'a>,
+    columns: &'a Columns<'a>,
     ranks: &'a Ranks,
     figures: &mut FigureColumn,
 ) -> Findings
-    requires ranks { ranks.now ≡ ranks_of points.now.count points.now.keys.now points.now.idx.now }
+    requires ranks { ranks.now ≡ ranks_of columns.now.points.count columns.now.points.keys.now columns.now.points.idx.now }
     requires blank { figures.old ≡ blank_figures }
-    ensures { judged_from result figures.new ≡ judged_by points.now.settings points.now.count points.now.keys.now points.now.idx.now points.now.x.now points.now.y.now points.now.strength.now }
+    ensures { judged_from result figures.new ≡ judged_in columns.now }
 {
     let lattice = Lattice {
         ranks,
-        count: points.count,
+        count: columns.points.count,
     };
     let view = View {
-        lattice,
-        x: points.x,
-        y: points.y,
+        sheet: SheetLattice { lattice },
+        seen: columns.seen,
     };
     judge_view(
-        points.settings,
+        columns.settings,
         &view,
-        points.keys,
-        points.strength,
+        columns.points.keys,
+        columns.strength,
         figures,
     )
 }
 
 // The judged sheet of points that were read of an accepted file, its table of ranks and its edge figures into empty arrays.
-pub fn judge_sheet(points: &Columns, ranks: &mut Ranks, figures: &mut FigureColumn) -> Findings
+pub fn judge_sheet(columns: &Columns, ranks: &mut Ranks, figures: &mut FigureColumn) -> Findings
     requires { (ranks.old ≡ replicate ranks_size 0) × (figures.old ≡ blank_figures) }
-    ensures ranks { ranks.new ≡ ranks_of points.now.count points.now.keys.now points.now.idx.now }
-    ensures judged { judged_from result figures.new ≡ judged_by points.now.settings points.now.count points.now.keys.now points.now.idx.now points.now.x.now points.now.y.now points.now.strength.now }
+    ensures ranks { ranks.new ≡ ranks_of columns.now.points.count columns.now.points.keys.now columns.now.points.idx.now }
+    ensures judged { judged_from result figures.new ≡ judged_in columns.now }
 {
-    let listed = Points {
-        keys: points.keys,
-        idx: points.idx,
-        count: points.count,
-    };
-    grid::fill(&listed, ranks);
-    judge_ranked(points, ranks, figures)
+    let points = columns.points;
+    grid::fill(&KeyedPoints { points }, ranks);
+    judge_ranked(columns, ranks, figures)
 }
 
 // The same, with a table of ranks of its own.
-pub fn judge(points: &Columns, figures: &mut FigureColumn) -> Findings
+pub fn judge(columns: &Columns, figures: &mut FigureColumn) -> Findings
     requires { figures.old ≡ blank_figures }
-    ensures { judged_from result figures.new ≡ judged_by points.now.settings points.now.count points.now.keys.now points.now.idx.now points.now.x.now points.now.y.now points.now.strength.now }
+    ensures { judged_from result figures.new ≡ judged_in columns.now }
 {
     let mut ranks = [0u16; RANKS_SIZE];
-    judge_sheet(points, &mut ranks, figures)
+    judge_sheet(columns, &mut ranks, figures)
 }
 
 // The fills of a judged sheet: what is predicted for each point with a mark. The offsets are those of any sheet.

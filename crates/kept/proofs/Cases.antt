@@ -3,8 +3,7 @@ use mathlib.Core.Path.{◌≡◌, refl, sym, ap, ◌∙◌}
 use mathlib.Core.List.{List}
 use mathlib.Core.Option.{Option, none, some}
 use Rattle.std.proofs.Common.{Result, Ok, Err}
-use Rattle.std.specs.Result.{IsErrAnd}
-use Rattle.refusals.specs.Number.{refusal_number, numbered}
+use Rattle.refusals.specs.Number.{refusal_number}
 use Rattle.refusals.specs.declared.Refusal.{Refusal}
 use Prim.Native.Nat.{ℕ, ◌*◌, ◌≤◌}
 use native.Mathlib.Omega.{arith}
@@ -89,8 +88,3 @@ tally-from file room e = go (ruling_of file room) ∙ sym (ap tallied e)
     go : (x : Ruling) → tally_by x ≡ tallied (kept_by x)
     go (refused k) = refl
     go (accepted s ps) = refl
-
--- a refusal that is handed on
-pub handed-on : (r : Result Counts Refusal) (e : Refusal) → IsErrAnd r (λ (d : Refusal). d ≡ e) → numbered r ≡ Err (refusal_number e)
-handed-on (Ok c) e h = absurd h
-handed-on (Err d) e h = ap (λ (x : Refusal). Err (refusal_number x)) h

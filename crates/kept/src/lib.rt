@@ -36,16 +36,7 @@ fn keep_sheet(file: &[u8], sheet: &Sheet, rows: &mut [u8]) -> Kept
     ensures rows { rows.new ≡ rows_after file.now rows.old }
 {
     let mut figures = [NO_FIGURES; MAX_POINTS];
-    let points = Columns {
-        settings: sheet.settings,
-        count: sheet.count,
-        keys: &sheet.table.keys,
-        idx: &sheet.table.idx,
-        x: &sheet.table.x,
-        y: &sheet.table.y,
-        strength: &sheet.table.strength,
-    };
-    let j = judging::judge(&points, &mut figures);
+    let j = judging::judge(&Columns::of(sheet), &mut figures);
     let counts = Counts {
         points: sheet.count,
         components: j.components,
@@ -62,10 +53,8 @@ pub fn keep_counted(file: &[u8], rows: &mut [u8]) -> Result<Kept, Refusal>
     ensures kept { numbered result ≡ kept_of file.now (length rows.old) }
     ensures rows { rows.new ≡ rows_after file.now rows.old }
 {
-    match &ruling::read(file, rows.len()) {
-        Ok(sheet) => Ok(keep_sheet(file, sheet, rows)),
-        Err(refusal) => Err(*refusal),
-    }
+    let sheet = ruling::read(file, rows.len())?;
+    Ok(keep_sheet(file, &sheet, rows))
 }
 
 // The call.

@@ -11,7 +11,7 @@ use lib.Ieee.{Float, lt, le}
 use borrow.Author.Tests.{lt-ltb, le-ltb}
 use Rattle.std.proofs.Common.{Some, None}
 use Rattle.folds.specs.Below.{first, first_in}
-use Rattle.folds.proofs.Below.{not-true, first_more, first-from}
+use Rattle.folds.proofs.Below.{first_more, first-from}
 use Rattle.folds.specs.Run.{run, up_to}
 use Rattle.folds.proofs.Run.{run-keeps}
 use Rattle.float.specs.Scalar.{abs_of, magnitude_of}
@@ -19,6 +19,7 @@ use Rattle.float.proofs.Order.{below-through, not-below-itself, below-at-most}
 use Rattle.float.proofs.Signless.{by-magnitude}
 use Rattle.linear.specs.Rows.{entry}
 use Rattle.linear.specs.Linear.{larger_than, better_row, next_larger, pivot_row}
+use Rattle.std.proofs.lemmas.Bool.{false_from_ne_true}
 
 -- ---- the search by larger entries
 
@@ -106,9 +107,9 @@ module _ (value : ℕ → Float) (i : ℕ) where
     inside = omega arith;
     largest = λ j a b.
         ⊎_elim (λ (q : j ≡ k). rw q (not-below-itself (value k)))
-        (λ (q : j < k). not-true (lt (abs_of (value k)) (abs_of (value j))) (λ t. smaller j a q (below-at-most (abs_of (value k)) (abs_of (value j)) t)))
+        (λ (q : j < k). false_from_ne_true (lt (abs_of (value k)) (abs_of (value j))) (λ t. smaller j a q (below-at-most (abs_of (value k)) (abs_of (value j)) t)))
         (eq-or-lt_of_le (omega arith));
-    earliest = λ j a q. not-true (le (abs_of (value k)) (abs_of (value j))) (smaller j a q);
+    earliest = λ j a q. false_from_ne_true (le (abs_of (value k)) (abs_of (value j))) (smaller j a q);
   }
     where
       smaller : (j : ℕ) → i ≤ j → j < k → le (abs_of (value k)) (abs_of (value j)) ≡ true → ⊥

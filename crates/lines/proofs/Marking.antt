@@ -10,7 +10,7 @@ use borrow.Author.Tests.{eq-eqb, ne_eqb, lt-ltb, le-ltb, le-leb, lt-leb}
 use lib.Dec.{eqb, ltb, leb}
 use lib.ListN.{length, get_or, set, replicate, length-replicate, get_or-eq_default}
 use Rattle.folds.specs.Below.{fold, some, tally}
-use Rattle.folds.proofs.Below.{some_one, some-no, some-ext, tally-ext, and-false, and-true}
+use Rattle.folds.proofs.Below.{some_one, some-no, some-ext, tally-ext}
 use Rattle.folds.specs.Lists.{over, gather}
 use Rattle.folds.proofs.Lists.{over_none, over-listed}
 use Rattle.std.proofs.lemmas.List.{take_all}
@@ -25,6 +25,7 @@ use Rattle.lines.specs.declared.Line.{Line}
 use Rattle.lines.specs.Flags.{LineRule, is_far, flagged_by, is_on, is_flagged, flag_count}
 use Rattle.lines.specs.Lines.{mark_if}
 use Rattle.marks.specs.Marks.{is_set}
+use Rattle.std.proofs.Math.Bool.{and-false, and-true}
 
 -- two tests that agree set the same marks
 over-ext : (f g : ℕ → Bool) (a l : List ℕ) → ((k : ℕ) → f k ≡ g k) → over (mark_if f) a l ≡ over (mark_if g) a l

@@ -1,9 +1,8 @@
 // Rows and columns of points: the line fitted to each, and the points that lie off it.
 #![tactic(auto)]
 
-ghost use Rattle.std.specs.Prelude.{◌≡◌, Bool, ℕ, ◌≤◌, ◌<◌, length, get_or};
-ghost use Rattle.folds.specs.Below.{first};
-ghost use Rattle.folds.specs.Lists.{Gathered, over};
+ghost use Rattle.std.specs.Prelude.{◌≡◌, ℕ, ◌≤◌, ◌<◌, length, get_or};
+ghost use Rattle.folds.specs.Lists.{gather, over};
 ghost use Rattle.folds.specs.Marked.{bit};
 ghost use Rattle.folds.specs.Column.{column as column_of};
 ghost use Rattle.folds.specs.Scattered.{Scattered, one_more};
@@ -11,8 +10,8 @@ ghost use Rattle.view.specs.View.{max_points};
 ghost use Rattle.view.specs.Seen.{view_in};
 ghost use Rattle.marks.specs.Marks.{is_set};
 ghost use Rattle.lines.specs.Fit.{value_at, larger_eigenvalue, direction_of, line_through, centre_of, line_around, fit_of, distance_of};
-ghost use Rattle.lines.specs.Flags.{is_far, flagged_by, is_flagged, flags_at};
-ghost use Rattle.lines.specs.Lines.{rule_in, Members, Numbered, Chained, Onward, Linked, mark_if};
+ghost use Rattle.lines.specs.Flags.{is_far, flagged_by, is_on, is_flagged, flags_at};
+ghost use Rattle.lines.specs.Lines.{rule_in, Members, Numbered, Chained, mark_if};
 
 use view::{Floats, Lattice, MAX_POINTS, Marks, Places, Positions, View};
 
@@ -40,11 +39,11 @@ struct Rule<'a> {
     minimum: u16,
 }
 
-// The ranks of each line, chained: the first on each line, and for each rank the next on its line; the count is none.
+// The ranks of each line, chained: the first on each line, and for each rank the next on its line.
 #[derive(Drop)]
 struct Chain {
-    heads: Places,
-    nexts: Places,
+    heads: [Option<u16>; MAX_POINTS],
+    nexts: [Option<u16>; MAX_POINTS],
 }
 
 fn larger_eigenvalue(sxx: f32, sxy: f32, syy: f32) -> f32
@@ -92,53 +91,53 @@ fn distance(line: Line, x: f32, y: f32) -> f32
     float::abs(dx * (-line.uy) + dy * line.ux)
 }
 
-// The centre of the points with these ranks.
-fn centre(seen: &Positions, members: &[u16]) -> Vector
-    requires { Members members.now }
-    ensures { result ≡ centre_of (value_at seen.now.x.now) (value_at seen.now.y.now) members.now }
-{
-    let mut cx = 0.0;
-    let mut cy = 0.0;
-    for j in members {
-        let j = usize::from(*j);
-        cx += seen.x[j];
-        cy += seen.y[j];
-    }
-    let n = members.len() as f32;
-    Vector {
-        x: cx / n,
-        y: cy / n,
-    }
-}
-
-// The line through v fitted to the points with these ranks.
-fn line_around(seen: &Positions, v: Vector, members: &[u16]) -> Line
-    requires { Members members.now }
-    ensures { result ≡ line_around (value_at seen.now.x.now) (value_at seen.now.y.now) v members.now }
-{
-    let mut sxx = 0.0;
-    let mut sxy = 0.0;
-    let mut syy = 0.0;
-    for j in members {
-        let j = usize::from(*j);
-        let dx = seen.x[j] - v.x;
-        let dy = seen.y[j] - v.y;
-        sxx += dx * dx;
-        sxy += dx * dy;
-        syy += dy * dy;
-    }
-    line_through(v, direction(sxx, sxy, syy))
-}
-
-// The line fitted to the points with these ranks.
-fn fit(seen: &Positions, members: &[u16]) -> Line
-    requires { Members members.now }
-    ensures { result ≡ fit_of (value_at seen.now.x.now) (value_at seen.now.y.now) members.now }
-{
-    line_around(seen, centre(seen, members), members)
-}
-
 impl Rule<'_> {
+    // The centre of the points with these ranks.
+    fn centre(&self, members: &[u16]) -> Vector
+        requires { Members members.now }
+        ensures { result ≡ centre_of (value_at self.now.seen.x.now) (value_at self.now.seen.y.now) members.now }
+    {
+        let mut cx = 0.0;
+        let mut cy = 0.0;
+        for j in members {
+            let j = usize::from(*j);
+            cx += self.seen.x[j];
+            cy += self.seen.y[j];
+        }
+        let n = members.len() as f32;
+        Vector {
+            x: cx / n,
+            y: cy / n,
+        }
+    }
+
+    // The line through v fitted to the points with these ranks.
+    fn line_around(&self, v: Vector, members: &[u16]) -> Line
+        requires { Members members.now }
+        ensures { result ≡ line_around (value_at self.now.seen.x.now) (value_at self.now.seen.y.now) v members.now }
+    {
+        let mut sxx = 0.0;
+        let mut sxy = 0.0;
+        let mut syy = 0.0;
+        for j in members {
+            let j = usize::from(*j);
+            let dx = self.seen.x[j] - v.x;
+            let dy = self.seen.y[j] - v.y;
+            sxx += dx * dx;
+            sxy += dx * dy;
+            syy += dy * dy;
+        }
+        line_through(v, direction(sxx, sxy, syy))
+    }
+
+    // The line fitted to the points with these ranks.
+    fn fit(&self, members: &[u16]) -> Line
+        requires { Members members.now }
+        ensures { result ≡ fit_of (value_at self.now.seen.x.now) (value_at self.now.seen.y.now) members.now }
+    {
+        self.line_around(self.centre(members), members)
+    }
+
     // Whether rank j is too far from a line.
     fn is_far(&self, line: Line, j: usize) -> bool
         requires { j < max_points }
@@ -155,7 +154,7 @@ impl Rule<'_> {
         if members.is_empty() || members.len() < usize::from(self.minimum) {
             return;
         }
-        let line = fit(&self.seen, members);
+        let line = self.fit(members);
         for j in members {
             let j = usize::from(*j);
             if self.is_far(line, j) {
@@ -171,29 +170,33 @@ fn chained<F: Fn(usize) -> usize>(lattice: &Lattice, line: F) -> Chain
     requires numbered { (g : ℕ → ℕ) × Numbered lattice.now.count (F.post line) g }
     ensures { (g : ℕ → ℕ) → Numbered lattice.now.count (F.post line) g → Chained lattice.now.count g 0 result.heads result.nexts }
 {
-    let mut heads = [lattice.count as u16; MAX_POINTS];
-    let mut nexts = [0u16; MAX_POINTS];
+    let mut heads = [None; MAX_POINTS];
+    let mut nexts = [None; MAX_POINTS];
     for i in (0..lattice.count).rev() {
         let number = line(i);
         nexts[i] = heads[number];
-        heads[number] = i as u16;
+        heads[number] = Some(i as u16);
     }
     Chain { heads, nexts }
 }
 
-// Writes the ranks from `from` on along the chain, and returns how many they are.
-fn members(lattice: &Lattice, nexts: &Places, from: usize, out: &mut Places) -> usize
-    requires { Onward lattice.now.count nexts.now × (from ≤ lattice.now.count) }
-    ensures { (p : ℕ → Bool) → Linked p lattice.now.count nexts.now → first p 0 lattice.now.count ≡ from → Gathered p lattice.now.count out.new result }
-{
-    let mut c: usize = 0;
-    let mut k = from;
-    while k < lattice.count {
-        out[c] = k as u16;
-        c += 1;
-        k = usize::from(nexts[k]);
+impl Chain {
+    // The ranks of the line with this number, rising, which it writes at the start of `room`.
+    fn members<'a>(&self, number: usize, room: &'a mut Places) -> &'a [u16]
+        requires small { number < max_points }
+        requires chained { (n : ℕ) × (line : ℕ → ℕ) × Chained n line 0 self.now.heads self.now.nexts }
+        ensures ranks { Members result.now }
+        ensures line { (n : ℕ) (line : ℕ → ℕ) → Chained n line 0 self.now.heads self.now.nexts → result.now ≡ gather (is_on line number) n }
+    {
+        let mut c: usize = 0;
+        let mut next = self.heads[number];
+        while let Some(k) = next {
+            room[c] = k;
+            c += 1;
+            next = self.nexts[usize::from(k)];
+        }
+        &room[..c]
     }
-    c
 }
 
 // 1 for each rank that its line flags, else 0; the lines are given by numbers that are ranks.
@@ -202,12 +205,11 @@ fn flagged<F: Fn(usize) -> usize>(rule: &Rule, lattice: &Lattice, line: F) -> Ma
     requires numbered { (g : ℕ → ℕ) × Numbered lattice.now.count (F.post line) g }
     ensures { (g : ℕ → ℕ) → Numbered lattice.now.count (F.post line) g → result ≡ column_of max_points 0 lattice.now.count (λ (k : ℕ). bit (is_flagged (rule_in rule.now) rule.now.minimum g lattice.now.count k)) }
 {
-    let Chain { heads, nexts } = chained(lattice, line);
-    let mut l = [0u16; MAX_POINTS];
+    let chain = chained(lattice, line);
+    let mut room = [0u16; MAX_POINTS];
     let mut out = [0u8; MAX_POINTS];
     for number in 0..lattice.count {
-        let c = members(lattice, &nexts, usize::from(heads[number]), &mut l);
-        rule.mark_flagged(&l[..c], &mut out);
+        rule.mark_flagged(chain.members(number, &mut room), &mut out);
     }
     out
 }
@@ -215,11 +217,11 @@ fn flagged<F: Fn(usize) -> usize>(rule: &Rule, lattice: &Lattice, line: F) -> Ma
 // Adds to the count of each index its ranks with a mark.
 fn count(view: &View, mark: &Marks, flags: &mut Places)
     requires { (m : ℕ) → m < max_points → get_or flags.old m 0 ≤ max_points }
-    ensures { Scattered 0 (view_in view.now).by_idx (is_set mark.now) one_more flags.old view.now.lattice.count flags.new }
+    ensures { Scattered 0 (view_in view.now).by_idx (is_set mark.now) one_more flags.old view.now.sheet.lattice.count flags.new }
 {
-    for k in 0..view.lattice.count {
+    for k in 0..view.sheet.lattice.count {
         if mark[k] == 1 {
-            flags[view.lattice.index(k)] += 1;
+            flags[view.sheet.lattice.index(k)] += 1;
         }
     }
 }
@@ -227,15 +229,15 @@ fn count(view: &View, mark: &Marks, flags: &mut Places)
 // How many flags each index has from the rows and columns of its cells, at the last of its ranks.
 #[inline(never)]
 pub fn line_flags(view: &View, scale: &Floats, tolerance: f32, minimum: u16) -> Places
-    ensures { result ≡ column_of max_points 0 view.now.lattice.count (flags_at (view_in view.now) (value_at scale.now) tolerance minimum) }
+    ensures { result ≡ column_of max_points 0 view.now.sheet.lattice.count (flags_at (view_in view.now) (value_at scale.now) tolerance minimum) }
 {
     let rule = Rule {
-        seen: view.positions(),
+        seen: view.seen,
         scale,
         tolerance,
         minimum,
     };
-    let lattice = &view.lattice;
+    let lattice = &view.sheet.lattice;
     let rows = flagged(&rule, lattice, |k| lattice.row(k));
     let columns = flagged(&rule, lattice, |k| lattice.column(k));
     let mut flags = [0u16; MAX_POINTS];

@@ -4,8 +4,7 @@
 mod fill;
 mod line;
 
-ghost use Rattle.std.specs.Prelude.{◌≡◌, List, ℕ, ◌≤◌, ◌<◌, get_or, Option};
-ghost use Rattle.view.specs.View.{max_points};
+ghost use Rattle.std.specs.Prelude.{◌≡◌, List, ℕ, ◌<◌, get_or, Option};
 ghost use Rattle.cells.specs.Cell.{cells_at};
 ghost use Rattle.marks.specs.Filters.{filter_count};
 ghost use Rattle.text.specs.Answer.{Shows};
@@ -17,28 +16,20 @@ ghost use Rattle.edge_shape.specs.declared.Reason.{Reason as EdgeReason};
 ghost use Rattle.judged.specs.Judged.{judged_from};
 ghost use Rattle.listing.specs.Listing.{head_text, lines_of, tally_text, fill_lines, listing_of, listing_size, count_text};
 
+use cells::Points;
 use edge_shape::Reason;
 use judged::Findings;
 use marks::Tally;
 use marks::filters::{FILTERS, Filter};
 use predict::Fills;
 use text::{NoRoom, Writer};
-use view::{MAX_POINTS, Marks, Words};
+use view::{MAX_POINTS, Marks};
 
 // A buffer of this size has room for every listing: the first line, a line for each point, the tally, a line for each dropped point.
 pub const LISTING_SIZE: usize = 40
     + (37 + FILTERS) * MAX_POINTS
     + (10 + 17 * FILTERS)
     + 33 * MAX_POINTS;
-
-// The points of a sheet in cell order: the keys of their cells, and their indices.
-#[derive(Clone, Copy)]
-pub struct Points<'a> {
-    pub keys: &'a Words,
-    pub idx: &'a Words,
-    pub count: usize,
-    ghost few: { count ≤ max_points },
-}
 
 // The number that the specifications use is the code's.
 pub fn listing_size() -> usize

@@ -8,12 +8,13 @@ use native.Mathlib.Omega.{arith}
 use lib.Dec.{ltb}
 use borrow.Author.Tests.{ltb-true, not-true}
 use Rattle.folds.specs.Below.{first}
-use Rattle.folds.proofs.Below.{first_more, first-before, first_holds, and_left, and_right, first-from}
+use Rattle.folds.proofs.Below.{first_more, first-before, first_holds, first-from}
 use Rattle.offsets.specs.declared.Offset.{Offset}
 use Rattle.view.specs.View.{View}
 use Rattle.local_h.specs.Order.{offset_at, same}
 use Rattle.local_h.specs.Base.{member_at, on_line, is_other_rank, is_other, is_serving, is_fourth, FourPlaces, places_of}
 use Rattle.local_h.proofs.Ordered.{offsets-differ}
+use Rattle.std.proofs.lemmas.Bool.{and_parts}
 
 -- four places of the order, rising, with points of other indices that are not all on one lattice line
 pub record FourOthers (w : View) (k : ℕ) (b : FourPlaces) : Type 0 where
@@ -51,8 +52,8 @@ module _ (w : View) (k : ℕ) where
       one = first_holds (is_other w k) 0 24 (omega (arith, ab, bc, cd));
       two = first_holds (is_other w k) (a + 1) 24 (omega (arith, bc, cd));
       three = first_holds (is_other w k) (b + 1) 24 (omega (arith, cd));
-      four = and_right (not (straight d)) (is_other w k d) (serves d (first_holds (is_fourth w k a b c) (c + 1) 24 h));
-      off-line = not-true (straight d) (and_left (not (straight d)) (is_other w k d) (serves d (first_holds (is_fourth w k a b c) (c + 1) 24 h)));
+      four = (and_parts (not (straight d)) (is_other w k d) (serves d (first_holds (is_fourth w k a b c) (c + 1) 24 h))).1;
+      off-line = not-true (straight d) (and_parts (not (straight d)) (is_other w k d) (serves d (first_holds (is_fourth w k a b c) (c + 1) 24 h))).0;
     };
     no_other = λ p l na nb. between p l na nb (dec_lt p a) (dec_lt p b);
     no-fourth = λ p l m. first-before (is_fourth w k a b c) (c + 1) 24 p (omega arith) m;
@@ -107,11 +108,11 @@ module _ (w : View) (k : ℕ) where
   -- a place with a point of another index has a rank
   pub other-rank : (p : ℕ) → is_other w k p ≡ true → member_at w k p < w.count
   unfolding is_other
-  other-rank p e = ltb-true (member_at w k p) w.count (and_left (ltb (member_at w k p) w.count) _ e)
+  other-rank p e = ltb-true (member_at w k p) w.count (and_parts (ltb (member_at w k p) w.count) _ e).0
 
   pub serving-rank : (leave : Bool) (e f : Offset) (p : ℕ) → is_serving w k leave e f p ≡ true → member_at w k p < w.count
   unfolding is_serving
-  serving-rank leave e f p h = other-rank p (and_right (not (leave && on_line e f (offset_at p))) (is_other w k p) h)
+  serving-rank leave e f p h = other-rank p (and_parts (not (leave && on_line e f (offset_at p))) (is_other w k p) h).1
 
 -- the nearest four are not all on one lattice line
 pub nearest-base : (w : View) (k : ℕ) → is_other_rank w k (member_at w k 0) ≡ true → is_other_rank w k (member_at w k 1) ≡ true → is_other_rank w k (member_at w k 2) ≡ true → is_other_rank w k (member_at w k 3) ≡ true

@@ -9,13 +9,14 @@ use native.Mathlib.Omega.{arith}
 use lib.IntN.{◌-ℤ◌, ◌*ℤ◌, +ℤ_invr, *ℤ-zero, zero-*ℤ}
 use borrow.Author.Tests.{ltb-false}
 use Rattle.folds.specs.Below.{every, first}
-use Rattle.folds.proofs.Below.{first-before, first-from, every-at, and_left, and_right, and_both}
+use Rattle.folds.proofs.Below.{first-before, first-from, every-at}
 use Rattle.offsets.specs.declared.Offset.{Offset}
 use Rattle.cells.proofs.Edges.{agree_same}
 use Rattle.view.specs.View.{View}
 use Rattle.local_h.specs.Order.{offset_at}
 use Rattle.local_h.specs.Base.{on_line, is_other, is_serving, is_fourth, FourPlaces, places_of, has_four}
 use Rattle.local_h.proofs.Bases.{FourOthers}
+use Rattle.std.proofs.lemmas.Bool.{and_from, and_parts}
 
 -- ---- lines through places of the order
 
@@ -98,7 +99,7 @@ module _ (w : View) (k : ℕ) where
           let la = not-before 0 p (omega arith) e in
           let lb = not-before (a + 1) p (omega (arith, la, f)) e in
           let lc = not-before (b + 1) p (omega (arith, lb, g)) e in
-          and_right (in_line a b c) (in_line a b p) (passed p (omega (arith, lc, i)) n m e)
+          (and_parts (in_line a b c) (in_line a b p) (passed p (omega (arith, lc, i)) n m e)).1
 
   pub fewer-than-four : has_four w k ≡ false → (o : FourPlaces) → FourOthers w k o → ⊥
   unfolding places_of
@@ -109,7 +110,7 @@ module _ (w : View) (k : ℕ) where
       let lc = not-before (b + 1) o.c (omega (arith, lb, f.second-third)) f.three in
       let ab = first-from (is_other w k) (a + 1) 24 in
       let bc = first-from (is_other w k) (b + 1) 24 in
-      let third = and_left (in_line a b c) (in_line a b o.d) (passed o.d (omega (arith, lc, f.third-fourth)) f.within m f.four) in
+      let third = (and_parts (in_line a b c) (in_line a b o.d) (passed o.d (omega (arith, lc, f.third-fourth)) f.within m f.four)).0 in
       let on : (p : ℕ) → p < 24 → is_other w k p ≡ true → in_line a b p ≡ true = in-line third m in
       let p = on o.a (omega (arith, f.first-second, f.second-third, f.third-fourth, f.within)) f.one in
       let q = on o.b (omega (arith, f.second-third, f.third-fourth, f.within)) f.two in
@@ -118,6 +119,6 @@ module _ (w : View) (k : ℕ) where
       let low : b < 24 = omega (arith, bc, lc, f.third-fourth, f.within) in
       true≢false
       (sym
-      (and_both _ _ (one_line a b o.a o.b o.c (omega (arith, ab)) low f.first-second f.second-third (omega (arith, f.third-fourth, f.within)) p q r)
+      (and_from _ _ (one_line a b o.a o.b o.c (omega (arith, ab)) low f.first-second f.second-third (omega (arith, f.third-fourth, f.within)) p q r)
       (one_line a b o.a o.b o.d (omega (arith, ab)) low f.first-second (omega (arith, f.second-third, f.third-fourth)) f.within p q s))
       ∙ f.off-line)

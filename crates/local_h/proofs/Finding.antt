@@ -8,7 +8,7 @@ use Rattle.std.proofs.lemmas.Option.{cond_some, none-some}
 use borrow.Author.Tests.{eq-eqb, ne_eqb, lt-ltb, le-ltb, ltb-true, ltb-false}
 use lib.Dec.{ltb}
 use Rattle.folds.specs.Below.{first}
-use Rattle.folds.proofs.Below.{first_more, first-end, first-from, and-false}
+use Rattle.folds.proofs.Below.{first_more, first-end, first-from}
 use Rattle.offsets.specs.declared.Offset.{Offset}
 use Rattle.cells.specs.Cell.{Cell}
 use Rattle.view.specs.View.{View, max_points, view_at, rank_at}
@@ -20,6 +20,7 @@ use Rattle.local_h.specs.Base.{member_at, on_line, is_other, is_serving, is_four
 use Rattle.local_h.specs.Finding.{place_at, other_at, found_at, found_from, found_base, place_in}
 use Rattle.local_h.specs.Residual.{residual_from, residual_at}
 use Rattle.local_h.proofs.Bases.{FourOthers, base-four, other-rank, nearest-base}
+use Rattle.std.proofs.Math.Bool.{and-false}
 
 -- ---- one place
 

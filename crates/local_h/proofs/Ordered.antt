@@ -5,8 +5,7 @@ use mathlib.Core.Bool.{true, false, not, ◌&&◌, true≢false}
 use mathlib.Core.List.{List, [], ◌∷◌}
 use Prim.Native.Nat.{ℕ, ◌<◌}
 use lib.Dec.{eqb}
-use lib.IntN.{ℤ, pos, negsuc}
-use lib.Signed.{lt_z}
+use lib.IntN.{ℤ, pos}
 use lib.ListN.{length, get_or, set, length-set}
 use lib.Seq.{get_or-set_same, get_or-set_other}
 use native.Mathlib.Omega.{arith}
@@ -14,13 +13,15 @@ use borrow.Author.Tests.{eqb-true, le-ltb}
 use borrow.Author.Tests as tests
 use Rattle.folds.specs.Below.{every, tally}
 use Rattle.folds.specs.Marked.{bit}
-use Rattle.folds.proofs.Below.{every-at, and_left, and_right, and-false, not-true}
+use Rattle.folds.proofs.Below.{every-at}
 use Rattle.offsets.specs.declared.Offset.{Offset}
 use Rattle.offsets.specs.Offsets.{−2, −1, ±0, +1, offset, own, is_near, place_of, offset_of, places}
 use Rattle.offsets.proofs.Places.{place-below, place-offset}
 use Rattle.cells.specs.Cell.{agree}
-use Rattle.cells.proofs.Edges.{agree-true}
+use Rattle.cells.proofs.Edges.{agree-true, not-below-itself}
 use Rattle.local_h.specs.Order.{nearest_first, offset_at, same, square_of, comes_first, is_ordered, is_around, are_around, each_once, is_nearest_first}
+use Rattle.std.proofs.Math.Bool.{and-false}
+use Rattle.std.proofs.lemmas.Bool.{and_parts, false_from_ne_true}
 
 pub order-right : is_nearest_first nearest_first ≡ true
 unfolding is_nearest_first
@@ -29,8 +30,8 @@ order-right = refl
 tested : (l : List Offset) → is_nearest_first l ≡ true → (is_ordered l ≡ true) × (are_around l ≡ true) × (each_once l ≡ true)
 unfolding is_nearest_first
 tested l t =
-    let r = and_right (is_ordered l) (are_around l && each_once l) t in
-    (and_left (is_ordered l) (are_around l && each_once l) t, and_left (are_around l) (each_once l) r, and_right (are_around l) (each_once l) r)
+    let r = (and_parts (is_ordered l) (are_around l && each_once l) t).1 in
+    ((and_parts (is_ordered l) (are_around l && each_once l) t).0, (and_parts (are_around l) (each_once l) r).0, (and_parts (are_around l) (each_once l) r).1)
 
 -- in a table that passes each entry comes before all after it
 ordered_at : (l : List Offset) → is_nearest_first l ≡ true → (p q : ℕ) → p < q → q < length l → comes_first (get_or l p own) (get_or l q own) ≡ true
@@ -47,22 +48,18 @@ offsets-ordered p q h l = ordered_at nearest_first order-right p q h l
 pub never-before : (o : Offset) → comes_first o o ≡ false
 never-before o =
     let s = square_of o in
-    rw (le-ltb s s (omega arith), not-under o.dv, not-under o.du, and-false (agree o.dv o.dv)) (and-false (eqb s s))
-  where
-    not-under : (z : ℤ) → lt_z z z ≡ false
-    not-under (pos n) = le-ltb n n (omega arith)
-    not-under (negsuc n) = le-ltb n n (omega arith)
+    rw (le-ltb s s (omega arith), not-below-itself o.dv, not-below-itself o.du, and-false (agree o.dv o.dv)) (and-false (eqb s s))
 
 -- so no two places have one offset
 pub offsets-differ : (p q : ℕ) → p < q → q < 24 → same (offset_at p) (offset_at q) ≡ false
 offsets-differ p q h l =
-    not-true (same (offset_at p) (offset_at q))
+    false_from_ne_true (same (offset_at p) (offset_at q))
     (λ e. true≢false (sym (offsets-ordered p q h l) ∙ ap (comes_first (offset_at p)) (sym (one (offset_at p) (offset_at q) e)) ∙ never-before (offset_at p)))
   where
     one : (a b : Offset) → same a b ≡ true → a ≡ b
     one a b e =
-        ap (λ (z : ℤ). offset z a.dv) (agree-true a.du b.du (and_left (agree a.du b.du) (agree a.dv b.dv) e))
-        ∙ ap (offset b.du) (agree-true a.dv b.dv (and_right (agree a.du b.du) (agree a.dv b.dv) e))
+        ap (λ (z : ℤ). offset z a.dv) (agree-true a.du b.du (and_parts (agree a.du b.du) (agree a.dv b.dv) e).0)
+        ∙ ap (offset b.du) (agree-true a.dv b.dv (and_parts (agree a.du b.du) (agree a.dv b.dv) e).1)
 
 -- "the 24 cells within 2": each place leads to one of them
 pub offset-around : (p : ℕ) → p < 24 → is_around (offset_at p) ≡ true
@@ -70,7 +67,7 @@ unfolding are_around
 offset-around p h = every-at (λ (p : ℕ). is_around (offset_at p)) 24 (tested nearest_first order-right).1 p h
 
 pub entry-near : (p : ℕ) → p < 24 → is_near (offset_at p) ≡ true
-entry-near p h = and_left (is_near (offset_at p)) (not (same (offset_at p) own)) (offset-around p h)
+entry-near p h = (and_parts (is_near (offset_at p)) (not (same (offset_at p) own)) (offset-around p h)).0
 
 -- and each of them stands at one place
 abbrev count : Offset → ℕ
@@ -84,7 +81,7 @@ counted l t d h =
 
 pub stands-once : (o : Offset) → is_around o ≡ true → count o ≡ 1
 stands-once o h =
-    let n = and_left (is_near o) (not (same o own)) h in
+    let n = (and_parts (is_near o) (not (same o own)) h).0 in
     subst (λ (o : Offset). count o ≡ bit (is_around o)) (place-offset o n) (counted nearest_first (tested nearest_first order-right).2 (place_of o) (place-below o n)) ∙ ap bit h
 
 -- ---- what fails the test
@@ -107,7 +104,7 @@ not_back p q h l =
 
 -- a table fails if its entry at p does not come before that at q
 fails_by : (l : List Offset) (a b : Offset) (p q : ℕ) → p < q → q < length l → get_or l p own ≡ a → get_or l q own ≡ b → comes_first a b ≡ false → is_nearest_first l ≡ false
-fails_by l a b p q h m ea eb e = not-true (is_nearest_first l) (λ t. true≢false (sym (ordered_at l t p q h m) ∙ rw (ea, eb) e))
+fails_by l a b p q h m ea eb e = false_from_ne_true (is_nearest_first l) (λ t. true≢false (sym (ordered_at l t p q h m) ∙ rw (ea, eb) e))
 
 module _ (p q : ℕ) (h : p < q) (l : q < 24) where
   pub exchanged-fails : is_nearest_first (exchanged p q) ≡ false

@@ -12,13 +12,13 @@ use mir.Val.{to_z, of_z, SFits}
 use mir.ValLaws.{to_z-of_z}
 use borrow.Author.Rules.{sfits_of}
 use borrow.Author.Tests.{eqb-true, eq-eqb}
-use Rattle.folds.proofs.Below.{both_ways}
 use Rattle.offsets.specs.declared.Offset.{Offset}
 use Rattle.offsets.specs.Offsets.{−2, −1, ±0, +1, +2, is_within2, is_near}
 use Rattle.offsets.proofs.Places.{each-within-2, within-u, within-v}
 use Rattle.cells.specs.Cell.{agree}
 use Rattle.cells.proofs.Edges.{agree_same, agree-true}
 use Rattle.local_h.specs.Base.{step_product}
+use Rattle.std.specs.Cmp.{both_ways}
 
 -- a difference is at most 4
 pub difference-small : (x y : ℤ) → is_within2 x ≡ true → is_within2 y ≡ true → nat_abs (x -ℤ y) ≤ 4

@@ -5,7 +5,7 @@ ghost use Rattle.std.specs.Prelude.{◌≡◌, Bool, true, List, ℕ, [], ◌+�
 ghost use Rattle.offsets.specs.declared.Offset.{Offset};
 ghost use Rattle.offsets.specs.Offsets.{is_within2, is_near, place_of};
 ghost use Rattle.view.specs.View.{max_points, view_at};
-ghost use Rattle.view.specs.Seen.{lattice_in, below};
+ghost use Rattle.view.specs.Seen.{lattice_in, seen_in, below};
 ghost use Rattle.cells.specs.Points.{bias};
 ghost use Rattle.cells.specs.Cell.{cell_of_key, cells_at};
 ghost use Rattle.local_h.specs.Order.{offset_at};
@@ -16,7 +16,7 @@ ghost use Rattle.local_h.specs.Residual.{coordinate, cell_point, seen_at, residu
 use float::Distance;
 use homography::{Homography, PlanePoint};
 use offsets::Offset;
-use view::{Floats, Lattice, MAX_POINTS, Ranks, Words};
+use view::{Lattice, MAX_POINTS, Positions, Ranks, Words};
 
 // The base of a corner: its members' places in the order of the 24 cells round it. Where one is missing, so are those after it.
 pub type Base = [Option<usize>; 4];
@@ -39,8 +39,7 @@ pub type ResidualColumn = [Residual; MAX_POINTS];
 #[derive(Clone, Copy)]
 pub struct Seen<'a> {
     pub keys: &'a Words,
-    pub x: &'a Floats,
-    pub y: &'a Floats,
+    pub positions: Positions<'a>,
 }
 
 // The 24 offsets within 2, nearest first, then by smaller dv, then by smaller du.
@@ -93,11 +92,11 @@ pub fn present_member(lattice: &Lattice, k: usize, p: usize) -> Option<usize>
     ensures value { result ≡ below lattice.now.count (member_at (lattice_in lattice.now) k p) }
     ensures inside { IfSome result (λ j. j < lattice.now.count) }
 {
-    let j = member(lattice.ranks, k, p);
-    if j < lattice.count { Some(j) } else { None }
+    lattice.neighbour(k, offset_at(p))
 }
 
 // Place p with the rank there, if there is a point and its index is not rank k's.
+#[inline(always)]
 fn other(lattice: &Lattice, k: usize, p: usize) -> Option<Found>
     requires { (k < lattice.now.count) × (p < 24) }
     ensures value { result ≡ other_at (lattice_in lattice.now) k p }
@@ -184,6 +183,7 @@ fn search_base(lattice: &Lattice, k: usize) -> [Option<Found>; 4]
 }
 
 // The same, without a search where the nearest four cells have points of other indices: they are the base.
+#[inline(always)]
 fn find_base(lattice: &Lattice, k: usize) -> [Option<Found>; 4]
     requires { k < lattice.now.count }
     ensures { (xs ys : List Float) → result ≡ found_base (view_at lattice.now.count lattice.now.ranks.now xs ys) k }
@@ -246,11 +246,11 @@ impl Seen<'_> {
     // Where rank k is seen.
     fn point(&self, k: usize) -> PlanePoint
         requires { k < max_points }
-        ensures { result ≡ seen_at (view_at 0 [] self.now.x.now self.now.y.now) k }
+        ensures { result ≡ seen_at (view_at 0 [] self.now.positions.x.now self.now.positions.y.now) k }
     {
         PlanePoint {
-            x: self.x[k],
-            y: self.y[k],
+            x: self.positions.x[k],
+            y: self.positions.y[k],
         }
     }
 }
@@ -269,7 +269,7 @@ fn residual_by(fit: Option<Homography>, p: PlanePoint, q: PlanePoint) -> Residua
 // The residual of rank k by the ranks of its base.
 fn residual_from(seen: &Seen, k: usize, base: [usize; 4]) -> Residual
     requires { (k < max_points) × ((i : ℕ) → i < 4 → get_or base i 0 < max_points) }
-    ensures { result ≡ residual_from (view_at 0 [] seen.now.x.now seen.now.y.now) (cells_at seen.now.keys.now) k (get_or base 0 0) (get_or base 1 0) (get_or base 2 0) (get_or base 3 0) }
+    ensures { result ≡ residual_from (view_at 0 [] seen.now.positions.x.now seen.now.positions.y.now) (cells_at seen.now.keys.now) k (get_or base 0 0) (get_or base 1 0) (get_or base 2 0) (get_or base 3 0) }
 {
     let [i, j, l, m] = base;
     let cells = [seen.cell(i), seen.cell(j), seen.cell(l), seen.cell(m)];
@@ -281,7 +281,7 @@ fn residual_from(seen: &Seen, k: usize, base: [usize; 4]) -> Residual
 // The residual of rank k.
 pub fn local_h_residual(lattice: &Lattice, seen: &Seen, k: usize) -> Residual
     requires { k < lattice.now.count }
-    ensures { result ≡ residual_at (view_at lattice.now.count lattice.now.ranks.now seen.now.x.now seen.now.y.now) (cells_at seen.now.keys.now) k }
+    ensures { result ≡ residual_at (seen_in lattice.now seen.now.positions) (cells_at seen.now.keys.now) k }
 {
     let [a, b, c, d] = find_base(lattice, k);
     let (Some(a), Some(b), Some(c), Some(d)) = (a, b, c, d) else {

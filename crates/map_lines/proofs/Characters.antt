@@ -10,13 +10,14 @@ use borrow.Author.Tests.{lt-ltb, le-ltb, eqb-true, eq-eqb}
 use lib.Dec.{eqb}
 use lib.ListN.{length, get_or}
 use Rattle.folds.specs.Below.{every}
-use Rattle.folds.proofs.Below.{fold-kept, fold-last, fold-keeps, every-at, and_left, and_right, not-true, first-before, first-hit}
+use Rattle.folds.proofs.Below.{fold-kept, fold-last, fold-keeps, every-at, first-before, first-hit}
 use Rattle.cells.specs.Cell.{Cell, coincide}
 use Rattle.cells.proofs.Edges.{coincide-same, coincide-true}
 use Rattle.marks.specs.Filters.{filter_at, filter_count}
 use Rattle.marks.specs.Byte.{has_mark, first_mark}
 use Rattle.text.specs.Text.{bytes}
 use Rattle.map_lines.specs.Map.{point_character, cell_character}
+use Rattle.std.proofs.lemmas.Bool.{and_parts, false_from_ne_true}
 
 -- ---- of a point's marks
 
@@ -48,13 +49,13 @@ pub letter : (f : ℕ) → f < filter_count → Letter (bytes (filter_at f).lett
 letter f l =
     let t = bytes (filter_at f).letter in
     let a = letters f l in
-    let b = and_right (eqb (length t) 1) (other 35 t && (other 46 t && other 10 t)) a in
-    let c = and_right (other 35 t) (other 46 t && other 10 t) b in
+    let b = (and_parts (eqb (length t) 1) (other 35 t && (other 46 t && other 10 t)) a).1 in
+    let c = (and_parts (other 35 t) (other 46 t && other 10 t) b).1 in
     record {
-      one = eqb-true (length t) 1 (and_left (eqb (length t) 1) (other 35 t && (other 46 t && other 10 t)) a);
-      not-kept = λ e. differs 35 t (and_left (other 35 t) (other 46 t && other 10 t) b) (ap (λ (s : List ℕ). get_or s 0 0) e);
-      not_none = λ e. differs 46 t (and_left (other 46 t) (other 10 t) c) (ap (λ (s : List ℕ). get_or s 0 0) e);
-      not-newline = differs 10 t (and_right (other 46 t) (other 10 t) c);
+      one = eqb-true (length t) 1 (and_parts (eqb (length t) 1) (other 35 t && (other 46 t && other 10 t)) a).0;
+      not-kept = λ e. differs 35 t (and_parts (other 35 t) (other 46 t && other 10 t) b).0 (ap (λ (s : List ℕ). get_or s 0 0) e);
+      not_none = λ e. differs 46 t (and_parts (other 46 t) (other 10 t) c).0 (ap (λ (s : List ℕ). get_or s 0 0) e);
+      not-newline = differs 10 t (and_parts (other 46 t) (other 10 t) c).1;
     }
 
 module _ (m : ℕ) where
@@ -103,7 +104,7 @@ module _ (n : ℕ) (cell : ℕ → Cell) (marks : List ℕ) (c : Cell) where
   shown k = point_character (get_or marks k 0)
 
   not-here : (k : ℕ) → (cell k ≡ c → ⊥) → here k ≡ false
-  not-here k f = not-true (here k) (λ e. f (coincide-true (cell k) c e))
+  not-here k f = false_from_ne_true (here k) (λ e. f (coincide-true (cell k) c e))
 
   -- the cell of one rank alone has the character of that rank's marks
   pub point-shown : (k : ℕ) → k < n → cell k ≡ c → ((j : ℕ) → j < n → cell j ≡ c → j ≡ k) → cell_character n cell marks c ≡ shown k

@@ -9,19 +9,20 @@ use lib.Dec.{eqb, ltb}
 use lib.IntN.{ℤ, pos, neg_ℤ, ◌+ℤ◌, ◌-ℤ◌}
 use lib.ListN.{length, get_or, set, replicate, length-replicate, length-set}
 use lib.Seq.{get_or-set_same, get_or-set_other}
-use Rattle.folds.proofs.Below.{fold-none, fold_more, both_ways, or-none, and_left, and_right, and_both}
+use Rattle.folds.proofs.Below.{fold-none, fold_more}
 use Rattle.folds.proofs.Lists.{get_d_any}
 use Rattle.folds.proofs.Column.{replicate-at}
 use Rattle.cells.specs.Points.{bias, stride}
 use Rattle.cells.specs.Cell.{Cell, agree, coincide, cell_of_key, cells_at}
-use Rattle.cells.proofs.Edges.{agree-moved}
+use Rattle.cells.proofs.Edges.{agree-moved, moves-swap}
 use Rattle.text.specs.Text.{bytes, each}
 use Rattle.text.proofs.Stores.{each-ext}
 use Rattle.map_lines.specs.Map.{columns, most_lines, smallest_v, span_u, span_v, too_wide, cell_from, cell_in, point_character, cell_character, line_text, lines_from, line_characters, map_of}
 use Rattle.map_lines.specs.Page.{Spans, OnPage, Drawn, page_line}
 use Rattle.offsets.specs.declared.axis.Axis.TheVariants.{AlongU, AlongV}
 use Rattle.map_lines.specs.declared.spans.Span.{Span}
-use Rattle.map_lines.proofs.Whole.{moves-swap}
+use Rattle.std.proofs.lemmas.Bool.{and_from, and_parts, or_parts}
+use Rattle.std.specs.Cmp.{both_ways}
 
 -- a coordinate from its part of a key, and one that is some cells further
 same-coordinate : (a u j : ℕ) → agree (pos a -ℤ pos bias) ((pos u -ℤ pos bias) +ℤ pos j) ≡ eqb a (u + j)
@@ -41,12 +42,12 @@ module _ (key u v : ℕ) (in-columns : (u ≤ key / stride) × (key / stride < u
       rw (same-coordinate (key / stride) u j, same-coordinate (key % stride) v i)
       (both_ways (eqb (key / stride) (u + j) && eqb (key % stride) (v + i)) (eqb (place_on_page key u v) (columns * i + j))
       (λ e.
-      let f = eqb-true (key / stride) (u + j) (and_left (eqb (key / stride) (u + j)) (eqb (key % stride) (v + i)) e) in
-      let g = eqb-true (key % stride) (v + i) (and_right (eqb (key / stride) (u + j)) (eqb (key % stride) (v + i)) e) in
+      let f = eqb-true (key / stride) (u + j) (and_parts (eqb (key / stride) (u + j)) (eqb (key % stride) (v + i)) e).0 in
+      let g = eqb-true (key % stride) (v + i) (and_parts (eqb (key / stride) (u + j)) (eqb (key % stride) (v + i)) e).1 in
       eq-eqb (place_on_page key u v) (columns * i + j) (omega arith))
       (λ e.
       let f = eqb-true (place_on_page key u v) (columns * i + j) e in
-      and_both (eqb (key / stride) (u + j)) (eqb (key % stride) (v + i)) (eq-eqb (key / stride) (u + j) (omega (arith, in-columns, in_lines))) (eq-eqb (key % stride) (v + i) (omega (arith, in-columns, in_lines)))))
+      and_from (eqb (key / stride) (u + j)) (eqb (key % stride) (v + i)) (eq-eqb (key / stride) (u + j) (omega (arith, in-columns, in_lines))) (eq-eqb (key % stride) (v + i) (omega (arith, in-columns, in_lines)))))
 
 module _ (cell : ℕ → Cell) (marks : List ℕ) where
   character-none : (c : Cell) → cell_character 0 cell marks c ≡ bytes "."
@@ -105,7 +106,7 @@ drawn-more keys marks n k u v byte page on h e d =
 module _ (keys : List ℕ) (n : ℕ) (u v : Span) (U : Spans AlongU keys n u) (W : Spans AlongV keys n v) (narrow : too_wide n (cells_at keys) ≡ false) where
   widths : (u.count ≤ columns) × (v.count ≤ most_lines)
   widths =
-      let w = or-none (ltb columns (span_u n (cells_at keys))) (ltb most_lines (span_v n (cells_at keys))) narrow in
+      let w = or_parts (ltb columns (span_u n (cells_at keys))) (ltb most_lines (span_v n (cells_at keys))) narrow in
       (rw U.count-is (ltb-false columns (span_u n (cells_at keys)) w.0), rw W.count-is (ltb-false most_lines (span_v n (cells_at keys)) w.1))
 
   pub lines_fit : v.count ≤ most_lines

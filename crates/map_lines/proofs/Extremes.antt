@@ -11,16 +11,14 @@ use lib.Dec.{ltb, leb}
 use lib.IntN.{ℤ, pos, negsuc, sub_ℕ, nat_abs, ◌+ℤ◌, ◌-ℤ◌}
 use lib.Signed.{lt_z}
 use Rattle.folds.specs.Below.{fold}
-use Rattle.folds.proofs.Below.{fold-keeps, and_left, and_both}
+use Rattle.folds.proofs.Below.{fold-keeps}
 use Rattle.cells.specs.Cell.{within}
 use Rattle.map_lines.specs.Map.{smallest, largest, span}
 use Rattle.map_lines.proofs.Whole.{distance}
+use Rattle.std.proofs.lemmas.Bool.{and_from, and_parts}
+use Rattle.cells.proofs.Edges.{not-below-itself}
 
 -- ---- the order of whole numbers
-
-pub not-below-itself : (a : ℤ) → lt_z a a ≡ false
-not-below-itself (pos a) = le-ltb a a (omega arith)
-not-below-itself (negsuc a) = le-ltb a a (omega arith)
 
 not-both : (a b : ℤ) → lt_z a b ≡ true → lt_z b a ≡ false
 not-both (pos a) (pos b) e = le-ltb b a (omega (arith, ltb-true a b e))
@@ -110,7 +108,7 @@ between (pos a) (negsuc b) i p q e h = absurd (true≢false e)
 between (negsuc a) (pos b) i p q e h = go (ltb i (suc a)) refl
   where
     go : (t : Bool) → ltb i (suc a) ≡ t → within (cond t (negsuc (suc a - suc i)) (pos (i - suc a))) ≡ true
-    go true f = and_both (leb (suc a - suc i) 7999) true (le-leb (suc a - suc i) 7999 (omega (arith, leb-true a 7999 (and_left (leb a 7999) true p)))) refl
+    go true f = and_from (leb (suc a - suc i) 7999) true (le-leb (suc a - suc i) 7999 (omega (arith, leb-true a 7999 (and_parts (leb a 7999) true p).0))) refl
     go false f = le-leb (i - suc a) 8000 (omega (arith, leb-true b 8000 q))
 between (negsuc a) (negsuc b) i p q e h = go (ltb i (suc a)) refl
   where
@@ -118,7 +116,7 @@ between (negsuc a) (negsuc b) i p q e h = go (ltb i (suc a)) refl
     far = rw (le-ltb (suc a) (suc b) (omega (arith, ltb-false a b e))) (omega arith)
 
     go : (t : Bool) → ltb i (suc a) ≡ t → within (cond t (negsuc (suc a - suc i)) (pos (i - suc a))) ≡ true
-    go true f = and_both (leb (suc a - suc i) 7999) true (le-leb (suc a - suc i) 7999 (omega (arith, leb-true a 7999 (and_left (leb a 7999) true p)))) refl
+    go true f = and_from (leb (suc a - suc i) 7999) true (le-leb (suc a - suc i) 7999 (omega (arith, leb-true a 7999 (and_parts (leb a 7999) true p).0))) refl
     go false f = le-leb (i - suc a) 8000 (omega (arith, ltb-false i (suc a) f, far))
 
 module _ (z : ℕ → ℤ) (n : ℕ) where

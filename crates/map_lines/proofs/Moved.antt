@@ -11,11 +11,10 @@ use lib.IntN.{ℤ, pos, ◌+ℤ◌, +ℤ_idr}
 use lib.ListN.{get_or}
 use Rattle.folds.proofs.Below.{fold-ext}
 use Rattle.cells.specs.Cell.{Cell, moved, coincide}
-use Rattle.cells.proofs.Edges.{agree-moved, same-cell}
+use Rattle.cells.proofs.Edges.{agree-moved, same-cell, moves-swap}
 use Rattle.text.specs.Text.{bytes, each}
 use Rattle.text.proofs.Stores.{each_none}
 use Rattle.map_lines.specs.Map.{columns, most_lines, cell_in, smallest_u, smallest_v, span, span_u, span_v, too_wide, point_character, cell_character, line_text, lines_from, line_characters, map_of}
-use Rattle.map_lines.proofs.Whole.{moves-swap}
 use Rattle.map_lines.proofs.Ends.{smallest-moved, span-moved}
 use Rattle.map_lines.proofs.Extremes.{span_none}
 use Rattle.map_lines.proofs.Size.{characters-are}

@@ -8,7 +8,7 @@ use borrow.Author.Tests.{ltb-false, leb-true}
 use lib.Dec.{ltb, leb}
 use lib.IntN.{ℤ, pos, negsuc, ◌+ℤ◌}
 use lib.ListN.{length, get_or, length-append}
-use Rattle.folds.proofs.Below.{fold-keeps, and_left, or-none}
+use Rattle.folds.proofs.Below.{fold-keeps}
 use Rattle.folds.specs.Lists.{All}
 use Rattle.cells.specs.Cell.{Cell, within}
 use Rattle.text.specs.Text.{bytes, each, decimal, whole, spaces, right_aligned}
@@ -17,6 +17,7 @@ use Rattle.text.proofs.Stores.{each_long, right-length}
 use Rattle.map_lines.specs.Map.{label_width, columns, line_length, most_lines, smallest_v, span_u, span_v, too_wide, cell_in, cell_character, line_of, line_text, lines_from, line_characters, map_of, map_size}
 use Rattle.map_lines.proofs.Extremes.{line-within}
 use Rattle.map_lines.proofs.Characters.{one-character, no-newline, by-points}
+use Rattle.std.proofs.lemmas.Bool.{and_parts, or_parts}
 
 -- ---- no newline
 
@@ -55,7 +56,7 @@ right-inner width t h = inner-then (spaces (width - length t)) t (inner-each (λ
 pub whole-short : (v : ℤ) → within v ≡ true → length (whole v) ≤ 5
 unfolding whole
 whole-short (pos n) e = omega (arith, decimal-length 3 n (omega (arith, leb-true n 8000 e)))
-whole-short (negsuc n) e = omega (arith, decimal-length 3 (suc n) (omega (arith, leb-true n 7999 (and_left (leb n 7999) true e))))
+whole-short (negsuc n) e = omega (arith, decimal-length 3 (suc n) (omega (arith, leb-true n 7999 (and_parts (leb n 7999) true e).0)))
 
 line-long : (v : ℤ) (characters : List ℕ) → within v ≡ true → length characters ≡ columns → length (line_of v characters) ≡ line_length
 line-long v characters e l = simp length-append (omega (arith, right-length label_width (whole v) (omega (arith, whole-short v e)), l))
@@ -71,10 +72,10 @@ line-inner v characters h =
 
 -- a map that is not too wide has at most 60 lines
 pub few-lines : (n : ℕ) (cell : ℕ → Cell) → too_wide n cell ≡ false → span_v n cell ≤ most_lines
-few-lines n cell e = ltb-false most_lines (span_v n cell) (or-none (ltb columns (span_u n cell)) (ltb most_lines (span_v n cell)) e).1
+few-lines n cell e = ltb-false most_lines (span_v n cell) (or_parts (ltb columns (span_u n cell)) (ltb most_lines (span_v n cell)) e).1
 
 pub few-columns : (n : ℕ) (cell : ℕ → Cell) → too_wide n cell ≡ false → span_u n cell ≤ columns
-few-columns n cell e = ltb-false columns (span_u n cell) (or-none (ltb columns (span_u n cell)) (ltb most_lines (span_v n cell)) e).0
+few-columns n cell e = ltb-false columns (span_u n cell) (or_parts (ltb columns (span_u n cell)) (ltb most_lines (span_v n cell)) e).0
 
 module _ (n : ℕ) (cell : ℕ → Cell) (marks : List ℕ) where
   pub cell-long : (c : Cell) → length (cell_character n cell marks c) ≡ 1

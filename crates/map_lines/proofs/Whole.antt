@@ -7,7 +7,7 @@ use borrow.Author.Tests.{lt-ltb, le-ltb, ltb-true}
 use lib.Dec.{ltb}
 use lib.IntN.{ℤ, pos, negsuc, sub_ℕ, nat_abs, neg_ℤ, ◌+ℤ◌, ◌-ℤ◌, +ℤ_assoc, +ℤ_comm, +ℤ_invr, +ℤ_idr, neg_ℤ-+ℤ}
 use lib.Signed.{lt_z, non_neg}
-use Rattle.folds.proofs.Below.{both_ways}
+use Rattle.std.specs.Cmp.{both_ways}
 
 below-by-difference : (a b : ℕ) → ltb a b ≡ not (non_neg (sub_ℕ a b))
 below-by-difference a b = go (ltb a b)
@@ -37,10 +37,6 @@ difference-moved a b c =
 -- moved numbers have the order of the numbers
 pub less-moved : (a b c : ℤ) → lt_z (a +ℤ c) (b +ℤ c) ≡ lt_z a b
 less-moved a b c = less-by-difference (a +ℤ c) (b +ℤ c) ∙ ap (λ (z : ℤ). not (non_neg z)) (difference-moved a b c) ∙ sym (less-by-difference a b)
-
--- two moves in the other order
-pub moves-swap : (a b c : ℤ) → (a +ℤ b) +ℤ c ≡ (a +ℤ c) +ℤ b
-moves-swap a b c = +ℤ_assoc a b c ∙ ap (λ (z : ℤ). a +ℤ z) (+ℤ_comm b c) ∙ sym (+ℤ_assoc a c b)
 
 -- the distance of two numbers that are not below 0
 pub distance : (a b : ℕ) → b ≤ a → nat_abs (pos a -ℤ pos b) ≡ a - b

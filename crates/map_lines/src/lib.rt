@@ -79,9 +79,7 @@ fn put_characters(w: &mut Writer, page: &Page, i: usize)
     requires { i < most_lines }
     ensures { Stored w.old (page_line page.now i) w.new }
 {
-    for j in 0..COLUMNS {
-        w.byte(page[COLUMNS * i + j]);
-    }
+    w.text(&page[COLUMNS * i..COLUMNS * (i + 1)]);
 }
 
 // Line i, which is that of v, plus BIAS.

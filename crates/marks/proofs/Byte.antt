@@ -10,11 +10,13 @@ use lib.ListN.{get_or, replicate}
 use borrow.Author.Tests.{eqb-true, eq-eqb, ltb-true}
 use Rattle.folds.specs.Among.{any_in}
 use Rattle.folds.specs.Below.{some, every}
-use Rattle.folds.proofs.Below.{some-yes, some-ext, every-at, not-true, and_left, and_right, or-none, or-false, not-false}
+use Rattle.folds.proofs.Below.{some-yes, some-ext, every-at}
 use Rattle.folds.proofs.Column.{column-at, column-ext, replicate-at}
 use Rattle.view.specs.View.{max_points}
 use Rattle.marks.specs.Filters.{filter_count, leaf, component}
 use Rattle.marks.specs.Byte.{has_mark, with_mark, marked_by, Marking, marked_by_all, first_mark}
+use Rattle.std.proofs.Math.Bool.{or-false}
+use Rattle.std.proofs.lemmas.Bool.{and_parts, false_from_ne_true, not-false, or_parts, not-true}
 
 -- ---- one byte
 
@@ -26,13 +28,9 @@ pub not-not : (b : Bool) → not (not b) ≡ b
 not-not true = refl
 not-not false = refl
 
-unset : (b : Bool) → not b ≡ true → b ≡ false
-unset true e = absurd (true≢false (sym e))
-unset false e = refl
-
 alike_is : (a b : Bool) → alike a b ≡ true → a ≡ b
 alike_is true b e = sym e
-alike_is false b e = sym (unset b e)
+alike_is false b e = sym (not-true b e)
 
 -- filter f's bit set in the byte m: it is set, no other bit changes, and the byte is one, and not 0
 abbrev others : ℕ → ℕ → ℕ → Bool
@@ -50,26 +48,26 @@ module _ (m f : ℕ) (small : m < 256) (listed : f < filter_count) where
   at_right = every-at (right m) filter_count (every-at (λ (m : ℕ). every (right m) filter_count) 256 all_right m small) f listed
 
   first-half : has_mark f (with_mark f m) && every (others m f) filter_count ≡ true
-  first-half = and_left (has_mark f (with_mark f m) && every (others m f) filter_count) (ltb (with_mark f m) 256 && not (eqb (with_mark f m) 0)) at_right
+  first-half = (and_parts (has_mark f (with_mark f m) && every (others m f) filter_count) (ltb (with_mark f m) 256 && not (eqb (with_mark f m) 0)) at_right).0
 
   second-half : ltb (with_mark f m) 256 && not (eqb (with_mark f m) 0) ≡ true
-  second-half = and_right (has_mark f (with_mark f m) && every (others m f) filter_count) (ltb (with_mark f m) 256 && not (eqb (with_mark f m) 0)) at_right
+  second-half = (and_parts (has_mark f (with_mark f m) && every (others m f) filter_count) (ltb (with_mark f m) 256 && not (eqb (with_mark f m) 0)) at_right).1
 
   pub own-set : has_mark f (with_mark f m) ≡ true
-  own-set = and_left (has_mark f (with_mark f m)) (every (others m f) filter_count) first-half
+  own-set = (and_parts (has_mark f (with_mark f m)) (every (others m f) filter_count) first-half).0
 
   pub other-stays : (g : ℕ) → g < filter_count → eqb f g ≡ false → has_mark g (with_mark f m) ≡ has_mark g m
-  other-stays g h e = alike_is (has_mark g (with_mark f m)) (has_mark g m) (go (eqb f g) e (every-at (others m f) filter_count (and_right (has_mark f (with_mark f m)) (every (others m f) filter_count) first-half) g h))
+  other-stays g h e = alike_is (has_mark g (with_mark f m)) (has_mark g m) (go (eqb f g) e (every-at (others m f) filter_count (and_parts (has_mark f (with_mark f m)) (every (others m f) filter_count) first-half).1 g h))
     where
       go : (b : Bool) → b ≡ false → b || alike (has_mark g (with_mark f m)) (has_mark g m) ≡ true → alike (has_mark g (with_mark f m)) (has_mark g m) ≡ true
       go true q r = absurd (true≢false q)
       go false q r = r
 
   pub set-fits : with_mark f m < 256
-  set-fits = ltb-true (with_mark f m) 256 (and_left (ltb (with_mark f m) 256) (not (eqb (with_mark f m) 0)) second-half)
+  set-fits = ltb-true (with_mark f m) 256 (and_parts (ltb (with_mark f m) 256) (not (eqb (with_mark f m) 0)) second-half).0
 
   pub set-not-zero : eqb (with_mark f m) 0 ≡ false
-  set-not-zero = unset (eqb (with_mark f m) 0) (and_right (ltb (with_mark f m) 256) (not (eqb (with_mark f m) 0)) second-half)
+  set-not-zero = not-true (eqb (with_mark f m) 0) (and_parts (ltb (with_mark f m) 256) (not (eqb (with_mark f m) 0)) second-half).1
 
 -- bit 4 is the leaf filter's and bit 3 the component filter's; the first of them is that of the table, not that of the lower bit
 leaf-alone : with_mark leaf 0 ≡ 16
@@ -95,7 +93,7 @@ own-changes e = true≢false e
 -- 0 has no mark
 none-set : (f : ℕ) → f < filter_count → has_mark f 0 ≡ false
 unfolding every
-none-set f h = unset (has_mark f 0) (every-at (λ (f : ℕ). not (has_mark f 0)) filter_count refl f h)
+none-set f h = not-true (has_mark f 0) (every-at (λ (f : ℕ). not (has_mark f 0)) filter_count refl f h)
 
 -- the same of a filter that marks or does not
 abbrev turned : Bool → ℕ → ℕ → ℕ
@@ -149,7 +147,7 @@ module _ (n k : ℕ) (inside : k < n) where
 
   head : (g : Marking) (l : List Marking) → Listed (g ∷ l) → (g.filter < filter_count) × Listed l
   head g l e =
-      let w = or-none (not (ltb g.filter filter_count)) (any_in (λ (g : Marking). not (ltb g.filter filter_count)) l) e in
+      let w = or_parts (not (ltb g.filter filter_count)) (any_in (λ (g : Marking). not (ltb g.filter filter_count)) l) e in
       (ltb-true g.filter filter_count (not-false (ltb g.filter filter_count) w.0), w.1)
 
   module _ (g : Marking) (marks : List ℕ) (small : get_or marks k 0 < 256) (listed : g.filter < filter_count) where
@@ -180,7 +178,7 @@ module _ (n k : ℕ) (inside : k < n) where
   not-marked [] marks f i e a h = refl
   not-marked (g ∷ l) marks f i e a h =
       let w = head g l e in
-      let v = or-none (eqb g.filter f) (any_in (λ (g : Marking). eqb g.filter f) l) a in
+      let v = or_parts (eqb g.filter f) (any_in (λ (g : Marking). eqb g.filter f) l) a in
       not-marked l (next g marks h w.0) f i w.1 v.1 (next_small g marks h w.0) ∙ next-other g marks h w.0 f i v.0
 
   -- the mark of a filter that is in it once, given the bytes before it
@@ -247,7 +245,7 @@ module _ (n k : ℕ) (inside : k < n) where
       go : (f : ℕ) → f < filter_count → (b : Bool) → eqb f g.filter ≡ b → get_or (marked_by_all n l []) k 0 < 256
           → not b && has_mark f (get_or (marked_by_all n (l ++ g ∷ []) []) k 0) ≡ has_mark f (get_or (marked_by_all n l []) k 0)
       go f h true q s = sym (rw (eqb-true f g.filter q) (not-marked n k inside l [] g.filter i e a (omega arith) ∙ none-set g.filter i))
-      go f h false q s = ap (λ (m : List ℕ). has_mark f (get_or m k 0)) (one-more n l g []) ∙ next-other n k inside g (marked_by_all n l []) s i f h (not-true (eqb g.filter f) (λ r. true≢false (sym (eq-eqb f g.filter (sym (eqb-true g.filter f r))) ∙ q)))
+      go f h false q s = ap (λ (m : List ℕ). has_mark f (get_or m k 0)) (one-more n l g []) ∙ next-other n k inside g (marked_by_all n l []) s i f h (false_from_ne_true (eqb g.filter f) (λ r. true≢false (sym (eq-eqb f g.filter (sym (eqb-true g.filter f r))) ∙ q)))
 
 -- filters that mark the same ranks leave the same bytes
 pub by-same : (n f : ℕ) (t u : ℕ → Bool) (marks : List ℕ) → ((k : ℕ) → k < n → t k ≡ u k) → marked_by n f t marks ≡ marked_by n f u marks

@@ -11,7 +11,7 @@ use lib.Dec.{eqb, ltb}
 use borrow.Author.Tests.{lt-ltb, le-ltb, ne_eqb}
 use lib.ListN.{replicate}
 use Rattle.folds.specs.Below.{some}
-use Rattle.folds.proofs.Below.{some-ext, some-no, and-false}
+use Rattle.folds.proofs.Below.{some-ext, some-no}
 use Rattle.folds.specs.Column.{column}
 use Rattle.folds.proofs.Column.{column-ext, column-at}
 use Rattle.folds.specs.Marked.{bit, Marked}
@@ -19,6 +19,7 @@ use Rattle.folds.proofs.Marked.{bit_is, marked-column}
 use Rattle.view.specs.View.{View, max_points, alike, index_has}
 use Rattle.view.specs.Seen.{below}
 use Rattle.marks.specs.Marks.{is_set, is_at, index_marks}
+use Rattle.std.proofs.Math.Bool.{and-false}
 
 pub guard : (a m n : ℕ) → m < n → ltb a n && eqb a m ≡ eqb a m
 guard a m n h = elim (ℕ_discrete a m) [ yes e ↦ rw (lt-ltb a n (omega arith)) | no f ↦ rw (ne_eqb a m f) (and-false (ltb a n)) ]

@@ -1,5 +1,5 @@
 // The filters, in the order of the table of specs/Filters.antt: the value of each one's bit, its letter and its word.
-ghost use Rattle.std.specs.Prelude.{◌≡◌, [], ◌∷◌, ◌++◌, ◌<◌, ◌≤◌, ◌^◌};
+ghost use Rattle.std.specs.Prelude.{◌≡◌, [], ◌∷◌, ◌++◌, ◌<◌, ◌^◌};
 ghost use Rattle.text.specs.Text.{bytes};
 ghost use Rattle.marks.specs.Filters.{filter_at, filter_count};
 ghost use Rattle.marks.specs.Places.{place, place_in};

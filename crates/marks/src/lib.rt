@@ -3,7 +3,7 @@
 
 pub mod filters;
 
-ghost use Rattle.std.specs.Prelude.{◌≡◌, cond, ◌&&◌, List, [], ℕ, ◌+◌, ◌≤◌, ◌<◌, eqb, ltb, Float, IfSome};
+ghost use Rattle.std.specs.Prelude.{◌≡◌, cond, List, ℕ, ◌≤◌, ◌<◌, eqb, Float, IfSome};
 ghost use Rattle.folds.specs.Column.{column};
 ghost use Rattle.folds.specs.Marked.{bit, Marked};
 ghost use Rattle.view.specs.View.{max_points, view_at};
@@ -17,34 +17,6 @@ ghost use Rattle.marks.specs.Tally.{counts_of};
 use filters::{FILTERS, Filter};
 use view::{Lattice, MAX_POINTS, Marks, SheetLattice};
 
-// A mark as a number.
-pub fn bit_of(b: bool) -> u8
-    ensures { result ≡ bit b }
-{
-    if b { 1 } else { 0 }
-}
-
-// One more, if t.
-pub fn one_more(t: bool, c: usize) -> usize
-    requires { c < max_points }
-    ensures { result ≡ cond t (c + 1) c }
-{
-    if t { c + 1 } else { c }
-}
-
-// Sets the mark m, if it is to be set and m is below n.
-pub fn set_if(set: bool, m: usize, n: usize, mark: &mut Marks)
-    requires { n ≤ max_points }
-    ensures { Marked (λ (i : ℕ). set && (ltb m n && eqb m i)) mark.old mark.new }
-{
-    if set {
-        if m < n {
-            mark[m] = 1;
-            return;
-        }
-    }
-}
-
 // Sets the mark at a place, if there is one.
 pub fn set(mark: &mut Marks, at: Option<usize>)
     requires { IfSome at (λ m. m < max_points) }
@@ -56,12 +28,14 @@ pub fn set(mark: &mut Marks, at: Option<usize>)
 }
 
 // The marks, each at the place of its index.
-fn at_index(lattice: &Lattice, mark: &Marks) -> Marks
-    ensures { result ≡ column max_points 0 lattice.now.count (λ (m : ℕ). bit (place_has (lattice_in lattice.now) mark.now m)) }
+fn at_index(sheet: &SheetLattice, mark: &Marks) -> Marks
+    ensures { result ≡ column max_points 0 sheet.now.lattice.count (λ (m : ℕ). bit (place_has (lattice_in sheet.now.lattice) mark.now m)) }
 {
     let mut out = [0u8; MAX_POINTS];
-    for k in 0..lattice.count {
-        set_if(mark[k] == 1, lattice.index(k), lattice.count, &mut out);
+    for k in 0..sheet.lattice.count {
+        if mark[k] == 1 {
+            out[sheet.lattice.index(k)] = 1;
+        }
     }
     out
 }
@@ -70,7 +44,7 @@ fn at_index(lattice: &Lattice, mark: &Marks) -> Marks
 pub fn by_index(sheet: &SheetLattice, mark: &Marks) -> Marks
     ensures { (xs ys : List Float) → result ≡ index_marks (view_at sheet.now.lattice.count sheet.now.lattice.ranks.now xs ys) mark.now }
 {
-    let held = at_index(&sheet.lattice, mark);
+    let held = at_index(sheet, mark);
     let mut out = [0u8; MAX_POINTS];
     sheet.spread(&held, &mut out);
     out

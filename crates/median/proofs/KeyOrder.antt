@@ -5,9 +5,8 @@ use mathlib.Core.Bool.{Bool, true, false}
 use mathlib.Core.List.{[], ◌∷◌, map}
 use Prim.Native.Nat.{ℕ, zero, suc, ◌+◌, ◌-◌, ◌*◌, ◌/◌, ◌^◌, ◌≤◌, ◌<◌}
 use native.Mathlib.Nat.{zero-mul, zero-div, zero-lt-suc, mul-pos, eq-or-lt_of_le}
-use native.Mathlib.Decide.{dec_lt}
 use native.Mathlib.Omega.{arith}
-use Prim.{yes, no}
+use Prim.{no}
 use lib.IntN.{ℤ}
 use lib.Dec.{T, ltb, lt→ltb}
 use borrow.Author.Tests.{lt-ltb, le-ltb, ltb-true, ltb-false}
@@ -19,6 +18,8 @@ use Rattle.folds.specs.Arith.{f32, zero_f}
 use Rattle.float.specs.Constants.{sign_bit, one, minus_one}
 use Rattle.float.proofs.Bits.{bits-order}
 use Rattle.median.specs.Keys.{Number, rising_of}
+use Rattle.float.proofs.Signless.{no-size}
+use Rattle.folds.proofs.Below.{ltb_as}
 
 -- ---- patterns of finite numbers
 
@@ -47,25 +48,19 @@ bits-some m e f =
 
 -- ---- the order of numbers
 
-none : (e d : ℤ) → 0 * up e * down d ≡ 0
-none e d = ap (λ (x : ℕ). x * down d) (zero-mul (up e)) ∙ zero-mul (down d)
-
 some : (m : ℕ) (e d : ℤ) → 0 < suc m * up e * down d
 some m e d = mul-pos (mul-pos (zero-lt-suc m) (up_pos e)) (down_pos d)
 
 some_bits : (m : ℕ) (e d : ℤ) → T (fits binary32 (fin false m e)) → ltb 0 (m * up e * down d) ≡ ltb 0 (bits_of m e)
-some_bits zero e d f = rw (none e d, bits-zero e)
+some_bits zero e d f = rw (no-size e d, bits-zero e)
 some_bits (suc m) e d f = lt-ltb 0 (suc m * up e * down d) (some m e d) ∙ sym (lt-ltb 0 (bits_of (suc m) e) (bits-some m e f))
 
 -- magnitudes are ordered as their patterns
 sizes : (m n : ℕ) (e d : ℤ) → T (fits binary32 (fin false m e)) → T (fits binary32 (fin false n d)) → ltb (m * up e * down d) (n * up d * down e) ≡ ltb (bits_of m e) (bits_of n d)
 unfolding lt
-sizes zero n e d f g = rw (none e d, bits-zero e) (some_bits n d e g)
-sizes (suc m) zero e d f g = rw (none d e, bits-zero d) (le-ltb (suc m * up e * down d) 0 (omega arith) ∙ sym (le-ltb (bits_of (suc m) e) 0 (omega arith)))
+sizes zero n e d f g = rw (no-size e d, bits-zero e) (some_bits n d e g)
+sizes (suc m) zero e d f g = rw (no-size d e, bits-zero d) (le-ltb (suc m * up e * down d) 0 (omega arith) ∙ sym (le-ltb (bits_of (suc m) e) 0 (omega arith)))
 sizes (suc m) (suc n) e d f g = bits-order (fin false (suc m) e) (fin false (suc n) d) (lt→ltb 0 (suc m) (zero-lt-suc m)) (lt→ltb 0 (suc n) (zero-lt-suc n)) f g
-
-same_test : (p q r s : ℕ) → (p < q → r < s) → (q ≤ p → s ≤ r) → ltb p q ≡ ltb r s
-same_test p q r s f g = elim (dec_lt p q) [ yes h ↦ lt-ltb p q h ∙ sym (lt-ltb r s (f h)) | no h ↦ (let l : q ≤ p = omega arith in le-ltb p q l ∙ sym (le-ltb r s (g l))) ]
 
 -- a number with the sign is below one without it, but for two zeros
 across : (a b p q : ℕ) → p < sign_bit → ltb 0 a ≡ ltb 0 p → ltb 0 b ≡ ltb 0 q → ltb 0 (a + b) ≡ ltb (sign_bit - p) (sign_bit + q)
@@ -92,12 +87,12 @@ module _ (m n : ℕ) (e d : ℤ) (f : T (fits binary32 (fin false m e))) (g : T 
   by-signs : (s t : Bool) → lt (fin s m e) (fin t n d) ≡ ltb (rising_of (fin s m e)) (rising_of (fin t n d))
   unfolding lt
   by-signs false false =
-      rw (key-up m e f, key-up n d g) (sizes m n e d f g ∙ same_test (bits_of m e) (bits_of n d) (sign_bit + bits_of m e) (sign_bit + bits_of n d) (λ h. omega arith) (λ h. omega arith))
+      rw (key-up m e f, key-up n d g) (sizes m n e d f g ∙ ltb_as (bits_of m e) (bits_of n d) (sign_bit + bits_of m e) (sign_bit + bits_of n d) (λ h. omega arith) (λ h. omega arith))
   by-signs false true = rw (key-up m e f, key-down n d g) (sym (le-ltb (sign_bit + bits_of m e) (sign_bit - bits_of n d) (omega arith)))
   by-signs true false = rw (key-down m e f, key-up n d g) (across (m * up e * down d) (n * up d * down e) (bits_of m e) (bits_of n d) (bits_small m e f) (some_bits m e d f) (some_bits n d e g))
   by-signs true true =
       rw (key-down m e f, key-down n d g)
-      (sizes n m d e g f ∙ same_test (bits_of n d) (bits_of m e) (sign_bit - bits_of m e) (sign_bit - bits_of n d) (λ h. omega (arith, bits_small m e f)) (λ h. omega arith))
+      (sizes n m d e g f ∙ ltb_as (bits_of n d) (bits_of m e) (sign_bit - bits_of m e) (sign_bit - bits_of n d) (λ h. omega (arith, bits_small m e f)) (λ h. omega arith))
 
 cleared : (s : Bool) (m : ℕ) (e : ℤ) → T (fits binary32 (fin s m e)) → T (fits binary32 (fin false m e))
 unfolding neg

@@ -7,13 +7,13 @@ use native.Mathlib.Nat.{eq-or-lt_of_le}
 use mathlib.Core.Logic.{⊎_elim}
 use native.Mathlib.Omega.{arith}
 use lib.Dec.{T, ltb}
-use lib.ListN.{length, get_or, take, drop, get_or-append}
+use lib.ListN.{length, get_or, length-map}
 use lib.Ieee.{Float, nan, binary32, lt, fits, to_bits}
 use lib.Ieee.Positive.{above}
 use Rattle.folds.specs.Below.{tally}
 use Rattle.folds.proofs.Below.{tally-turn}
 use Rattle.folds.specs.Lists.{All, listed}
-use Rattle.folds.proofs.Lists.{all_listed, listed_more, listed-length}
+use Rattle.folds.proofs.Lists.{all_listed, listed_more}
 use Rattle.sort.specs.Sorted.{sort}
 use Rattle.view.specs.View.{max_points}
 use Rattle.sort.proofs.Sorted.{sort-length, sort-all, sort-map}
@@ -61,26 +61,30 @@ at_all [] al i h = absurd (omega arith)
 at_all (a ∷ l) al zero h = al.0
 at_all (a ∷ l) al (suc i) h = at_all l al.1 i (omega arith)
 
--- after the sort of the first c
-module _ (v : List Float) (n c : ℕ) (a b : List ℕ) (p : Packed v n c a) (some : 0 < c) (s : b ≡ sort ltb (take c a) ++ drop c a) where
+pub patterns-length : (l : List Float) {b : List ℕ} → b ≡ patterns l → length l ≡ length b
+patterns-length l e = sym (ap length e ∙ length-map l (to_bits binary32))
+
+-- after the sort of the patterns
+module _ (v : List Float) (n : ℕ) (a b : List ℕ) (p : a ≡ patterns (positives v n)) (float : (j : ℕ) → j < n → T (fits binary32 (get_or v j nan))) (some : length a ≡ 0 → ⊥) (s : b ≡ sort ltb a) where
   all-ok : All AboveZero (positives v n)
   unfolding positives
-  all-ok = all_listed AboveZero (positive_at v) (λ (j : ℕ). get_or v j nan) n (λ k l e. (above_zero (get_or v k nan) e, p.float k l))
+  all-ok = all_listed AboveZero (positive_at v) (λ (j : ℕ). get_or v j nan) n (λ k i e. (above_zero (get_or v k nan) e, float k i))
 
-  long : length (positives v n) ≡ c
-  unfolding positives
-  long = listed-length (positive_at v) (λ (k : ℕ). get_or v k nan) n ∙ sym p.count
+  long : length (positives v n) ≡ length b
+  long = patterns-length (positives v n) p ∙ sym (ap length s ∙ sort-length ltb a)
 
-  inside : c / 2 < length (sort lt (positives v n))
-  inside = omega (arith, sort-length lt (positives v n), long)
+  inside : length b / 2 < length (sort lt (positives v n))
+  inside = omega (arith, sort-length lt (positives v n), long, patterns-length (positives v n) p, some)
 
-  pub middle-is : get_or b (c / 2) 0 ≡ to_bits binary32 (median_of (positives v n))
+  sorted-at : (i : ℕ) → i < length (sort lt (positives v n)) → get_or b i 0 ≡ to_bits binary32 (get_or (sort lt (positives v n)) i nan)
+  sorted-at i h =
+      rw (s, p, sort-map (to_bits binary32) lt ltb (positives v n) (agree-all (to_bits binary32) lt ltb AboveZero (λ a b p q. bits-order a b p.0 q.0 p.1 q.1) (positives v n) all-ok))
+      (at_map (sort lt (positives v n)) i h)
+
+  pub middle-is : get_or b (length b / 2) 0 ≡ to_bits binary32 (median_of (positives v n))
   unfolding median_of
-  middle-is =
-      rw (s, p.taken, sort-map (to_bits binary32) lt ltb (positives v n) (agree-all (to_bits binary32) lt ltb AboveZero (λ a b p q. bits-order a b p.0 q.0 p.1 q.1) (positives v n) all-ok))
-      (get_or-append (patterns (sort lt (positives v n))) (drop c a) 0 (c / 2) (omega (arith, lib.ListN.length-map (sort lt (positives v n)) (to_bits binary32), inside))
-      ∙ at_map (sort lt (positives v n)) (c / 2) inside ∙ rw long)
+  middle-is = rw long (sorted-at (length b / 2) inside)
 
   pub middle-fits : AboveZero (median_of (positives v n))
   unfolding median_of
-  middle-fits = rw long (at_all (sort lt (positives v n)) (sort-all lt AboveZero (positives v n) all-ok) (c / 2) inside)
+  middle-fits = rw long (at_all (sort lt (positives v n)) (sort-all lt AboveZero (positives v n) all-ok) (length b / 2) inside)

@@ -6,7 +6,7 @@ use Rattle.std.specs.Float.Ieee.Scale.{finite}
 use Rattle.folds.specs.Column.{column}
 use Rattle.float.specs.Constants.{sign_bit}
 use Rattle.view.specs.View.{max_points}
-use Rattle.sort.specs.Packed.{packed, in_order_of}
+use Rattle.sort.specs.Packed.{in_order_of}
 
 -- a finite f32
 pub record Number (x : Float) : Type 0 where
@@ -28,12 +28,7 @@ pub record RisingKey (x : Float) (r : ℕ) : Type 0 where
 abbrev pub key_at : List Float → ℕ → ℕ
 key_at v k = rising_of (get_or v k nan)
 
--- the first n keys, each packed with its place, and that the numbers are f32
-pub record Keyed (v : List Float) (n : ℕ) (r : List ℕ) : Type 0 where
-  pub is : r ≡ column max_points 0 n (packed (key_at v))
-  pub numbers : (k : ℕ) → k < n → Number (get_or v k nan)
-
--- the same in rising order
+-- the first n keys, each packed with its place, in rising order, and that the numbers are f32
 pub record KeyedInOrder (v : List Float) (n : ℕ) (r : List ℕ) : Type 0 where
   pub is : r ≡ column max_points 0 n (λ (i : ℕ). get_or (in_order_of (key_at v) n) i 0)
   pub numbers : (k : ℕ) → k < n → Number (get_or v k nan)

@@ -1,12 +1,14 @@
 // The median of numbers: of the positive ones, by a sort of their bit patterns; of all, by a sort of keys that rise with them.
 #![tactic(auto)]
 
-ghost use Rattle.std.specs.Prelude.{◌≡◌, ◌≤◌, ◌<◌, T};
+ghost use Rattle.std.specs.Prelude.{◌≡◌, ℕ, ◌≤◌, ◌<◌, T, get_or};
+ghost use Rattle.std.specs.Float.{nan, binary32};
+ghost use Rattle.std.specs.Float.Ieee.{fits};
 ghost use Rattle.std.specs.Float.Ieee.Scale.{finite};
 ghost use Rattle.view.specs.View.{max_points, Finite};
 ghost use Rattle.median.specs.Median.{median_of, first_of};
-ghost use Rattle.median.specs.Packed.{positives, Put, Packed};
-ghost use Rattle.median.specs.Keys.{RisingKey, Keyed, KeyedInOrder};
+ghost use Rattle.median.specs.Packed.{positives, patterns, Put};
+ghost use Rattle.median.specs.Keys.{RisingKey, KeyedInOrder};
 
 use view::{Floats, MAX_POINTS, Words};
 
@@ -30,29 +32,29 @@ fn put(x: f32, c: usize, a: &mut Words) -> usize
     c
 }
 
-// The patterns of the positive ones, from the front of a.
-fn pack(v: &Numbers, a: &mut Words) -> usize
-    ensures packed { Packed v.now.values.now v.now.count result a.new }
-    ensures few { result ≤ v.now.count }
+// The patterns of the positive ones, put at the front of a.
+fn pack<'a>(v: &Numbers, a: &'a mut Words) -> &'a mut [u32]
+    ensures packed { result.now ≡ patterns (positives v.now.values.now v.now.count) }
+    ensures floats { (j : ℕ) → j < v.now.count → T (fits binary32 (get_or v.now.values.now j nan)) }
 {
     let mut c = 0;
     for k in 0..v.count {
         c = put(v.values[k], c, a);
     }
-    c
+    &mut a[..c]
 }
 
 // The median of the positive ones; NaN where there is none.
 pub fn middle(v: &Numbers) -> f32
     ensures { result ≡ median_of (positives v.now.values.now v.now.count) }
 {
-    let mut a = [0; MAX_POINTS];
-    let c = pack(v, &mut a);
-    if c == 0 {
+    let mut room = [0; MAX_POINTS];
+    let a = pack(v, &mut room);
+    if a.is_empty() {
         return f32::NAN;
     }
-    a[..c].sort_unstable();
-    f32::from_bits(a[c / 2])
+    a.sort_unstable();
+    f32::from_bits(a[a.len() / 2])
 }
 
 // A number that rises with x, which is finite.
@@ -67,26 +69,13 @@ fn rising(x: f32) -> u64
     0x1_0000_0000 - b
 }
 
-// The key and the place of each number, packed into one.
-fn keys(v: &Numbers) -> [u64; MAX_POINTS]
-    requires { Finite v.now.count v.now.values.now }
-    ensures { Keyed v.now.values.now v.now.count result }
-{
-    let mut out = [0; MAX_POINTS];
-    for k in 0..v.count {
-        out[k] = rising(v.values[k]) * sort::PACKED_PLACES + k as u64;
-    }
-    out
-}
-
-// The same in rising order: entry i, taken modulo `sort::PACKED_PLACES`, is the place of the number that is i-th in the order of numbers.
+// The key of each number, packed with its place, in rising order: entry i, taken modulo `sort::PACKED_PLACES`, is the place of the number that
+// is i-th in the order of numbers.
 pub fn keys_in_order(v: &Numbers) -> [u64; MAX_POINTS]
     requires { Finite v.now.count v.now.values.now }
     ensures { KeyedInOrder v.now.values.now v.now.count result }
 {
-    let mut a = keys(v);
-    sort::sort(&mut a[..v.count]);
-    a
+    sort::in_order(v.count, |k| rising(v.values[k]))
 }
 
 // The median of the numbers, which are finite; NaN where there is none.

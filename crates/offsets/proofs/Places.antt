@@ -10,9 +10,9 @@ use lib.ListN.{length, get_or}
 use mir.Syntax.{w8}
 use mir.Val.{to_z, of_z}
 use borrow.Author.Tests.{leb-true}
-use Rattle.folds.proofs.Below.{and_left, and_right, and_both}
 use Rattle.offsets.specs.declared.Offset.{Offset}
 use Rattle.offsets.specs.Offsets.{−2, −1, ±0, +1, +2, offset, own, prev_uv, square_sides, is_within2, is_near, up_by2, place_of, offset_of, places}
+use Rattle.std.proofs.lemmas.Bool.{and_from, and_parts}
 
 -- ---- the whole numbers from −2 to 2
 
@@ -20,7 +20,7 @@ use Rattle.offsets.specs.Offsets.{−2, −1, ±0, +1, +2, offset, own, prev_uv,
 pub each-within-2 : (P : ℤ → Type 0) → P −2 → P −1 → P ±0 → P +1 → P +2 → (z : ℤ) → is_within2 z ≡ true → P z
 each-within-2 P a b c d e (negsuc zero) h = b
 each-within-2 P a b c d e (negsuc (suc zero)) h = a
-each-within-2 P a b c d e (negsuc (suc (suc n))) h = absurd (omega (arith, leb-true (suc (suc n)) 1 (and_left (leb (suc (suc n)) 1) true h)))
+each-within-2 P a b c d e (negsuc (suc (suc n))) h = absurd (omega (arith, leb-true (suc (suc n)) 1 (and_parts (leb (suc (suc n)) 1) true h).0))
 each-within-2 P a b c d e (pos zero) h = c
 each-within-2 P a b c d e (pos (suc zero)) h = d
 each-within-2 P a b c d e (pos (suc (suc zero))) h = e
@@ -50,10 +50,10 @@ down-within (suc (suc (suc (suc (suc e))))) h = absurd (omega arith)
 
 module _ (o : Offset) (h : is_near o ≡ true) where
   pub within-u : is_within2 o.du ≡ true
-  within-u = and_left (is_within2 o.du) (is_within2 o.dv) h
+  within-u = (and_parts (is_within2 o.du) (is_within2 o.dv) h).0
 
   pub within-v : is_within2 o.dv ≡ true
-  within-v = and_right (is_within2 o.du) (is_within2 o.dv) h
+  within-v = (and_parts (is_within2 o.du) (is_within2 o.dv) h).1
 
   -- a part that was stored as 8 bits
   pub held-u : to_z w8 (of_z w8 o.du) ≡ o.du
@@ -80,7 +80,7 @@ module _ (o : Offset) (h : is_near o ≡ true) where
 
 -- each of the 25 places has an offset within 2
 pub offset_near : (d : ℕ) → d < 25 → is_near (offset_of d) ≡ true
-offset_near d h = and_both _ _ (down-within (d / 5) (omega arith)) (down-within (d % 5) (omega arith))
+offset_near d h = and_from _ _ (down-within (d / 5) (omega arith)) (down-within (d % 5) (omega arith))
 
 -- a place follows from its offset
 pub offset-place : (d : ℕ) → place_of (offset_of d) ≡ d

@@ -5,7 +5,7 @@ use Prim.{Dec, yes, no}
 use native.Mathlib.Decide.{ℕ_discrete}
 use lib.ListN.{replicate}
 use Rattle.folds.specs.Below.{some, tally}
-use Rattle.folds.proofs.Below.{some-ext, tally-ext, and-false, and-swap}
+use Rattle.folds.proofs.Below.{some-ext, tally-ext}
 use Rattle.folds.specs.Column.{column}
 use Rattle.folds.proofs.Column.{column-at, column-ext}
 use Rattle.folds.specs.Marked.{bit, Marked}
@@ -17,6 +17,7 @@ use Rattle.orientation.specs.declared.Side.{Side}
 use Rattle.orientation.specs.declared.Side.TheVariants.{Positive, Negative}
 use Rattle.orientation.specs.Orientation.{vote_at, of_vote, votes_for, side_member, turned, orientation_mark, orientation_of}
 use Rattle.orientation.specs.Voters.{vote_of, side_number, is_for, votes_of, voters, voters_at}
+use Rattle.std.proofs.Math.Bool.{and-false, and_comm}
 
 -- a vote is for the side whose number it is
 for-is : (s : Side) (v : ℕ) → is_for s (vote_of v) ≡ eqb v (side_number s)
@@ -61,7 +62,7 @@ module _ (w : View) (vote : List (Option Side)) (e : vote ≡ votes_of w) where
   unfolding side_member of_vote
   members-are s m =
       some-ext (λ (k : ℕ). voters_at w vote s k m) (λ (k : ℕ). of_vote w k m && eqb (vote_at w k) (side_number s)) w.count
-      (λ k h. rw (for-at s k h) (and-swap (eqb (vote_at w k) (side_number s)) ((eqb k m || eqb (rank_at w k next_u) m) || eqb (rank_at w k next_v) m)))
+      (λ k h. rw (for-at s k h) (and_comm (eqb (vote_at w k) (side_number s)) ((eqb k m || eqb (rank_at w k next_u) m) || eqb (rank_at w k next_v) m)))
 
   -- the marks of the indices that have a member of the side
   abbrev Members : Side → List ℕ → List ℕ → Type 0

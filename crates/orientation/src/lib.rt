@@ -47,20 +47,20 @@ fn cross_of(ax: f32, ay: f32, bx: f32, by: f32) -> f32
 
 // The vote of rank k, if it casts one.
 fn vote_at(view: &View, k: usize) -> Option<Side>
-    requires { k < view.now.lattice.count }
+    requires { k < view.now.sheet.lattice.count }
     ensures { result ≡ vote_of (vote_at (view_in view.now) k) }
 {
-    let a = view.lattice.neighbour(k, NEXT_U)?;
-    let b = view.lattice.neighbour(k, NEXT_V)?;
-    let x = view.x;
-    let y = view.y;
+    let a = view.sheet.lattice.neighbour(k, NEXT_U)?;
+    let b = view.sheet.lattice.neighbour(k, NEXT_V)?;
+    let x = view.seen.x;
+    let y = view.seen.y;
     vote_by(cross_of(x[a] - x[k], y[a] - y[k], x[b] - x[k], y[b] - y[k]))
 }
 
 fn votes(view: &View) -> Votes
     ensures { result ≡ votes_of (view_in view.now) }
 {
-    view::filled(None, view.lattice.count, |k| vote_at(view, k))
+    view::filled(None, view.sheet.lattice.count, |k| vote_at(view, k))
 }
 
 impl Side {
@@ -76,31 +76,27 @@ impl Side {
 fn votes_for(lattice: &Lattice, vote: &Votes, side: Side) -> usize
     ensures { result ≡ tally (λ (k : ℕ). is_for side (get_or vote.now k None)) lattice.now.count }
 {
-    let mut c = 0;
-    for k in 0..lattice.count {
-        c = marks::one_more(side.is_of(vote[k]), c);
-    }
-    c
+    view::counted(lattice.count, |k| side.is_of(vote[k]))
 }
 
 // Marks the three points of rank k's vote, if it is for the side.
 fn mark_voters(view: &View, vote: &Votes, side: Side, k: usize, mark: &mut Marks)
-    requires { k < view.now.lattice.count }
+    requires { k < view.now.sheet.lattice.count }
     ensures { Marked (voters (view_in view.now) vote.now side k) mark.old mark.new }
 {
     if side.is_of(vote[k]) {
         marks::set(mark, Some(k));
-        marks::set(mark, view.lattice.neighbour(k, NEXT_U));
-        marks::set(mark, view.lattice.neighbour(k, NEXT_V));
+        marks::set(mark, view.sheet.lattice.neighbour(k, NEXT_U));
+        marks::set(mark, view.sheet.lattice.neighbour(k, NEXT_V));
     }
 }
 
 // The members of the side.
 fn side_members(view: &View, vote: &Votes, side: Side) -> Marks
-    ensures { result ≡ column max_points 0 view.now.lattice.count (λ (m : ℕ). bit (some (λ (k : ℕ). voters_at (view_in view.now) vote.now side k m) view.now.lattice.count)) }
+    ensures { result ≡ column max_points 0 view.now.sheet.lattice.count (λ (m : ℕ). bit (some (λ (k : ℕ). voters_at (view_in view.now) vote.now side k m) view.now.sheet.lattice.count)) }
 {
     let mut out = [0u8; MAX_POINTS];
-    for k in 0..view.lattice.count {
+    for k in 0..view.sheet.lattice.count {
         mark_voters(view, vote, side, k, &mut out);
     }
     out
@@ -140,12 +136,12 @@ fn combined(lattice: &Lattice, np: usize, nn: usize, p: &Marks, q: &Marks) -> Ma
 pub fn lattice_orientation_drops(view: &View) -> Marks
     ensures { result ≡ orientation_of (view_in view.now) }
 {
-    let lattice = &view.lattice;
+    let sheet = &view.sheet;
+    let lattice = &sheet.lattice;
     let vote = votes(view);
     let np = votes_for(lattice, &vote, Side::Positive);
     let nn = votes_for(lattice, &vote, Side::Negative);
-    let sheet = view.sheet();
-    let positive = marks::by_index(&sheet, &side_members(view, &vote, Side::Positive));
-    let negative = marks::by_index(&sheet, &side_members(view, &vote, Side::Negative));
+    let positive = marks::by_index(sheet, &side_members(view, &vote, Side::Positive));
+    let negative = marks::by_index(sheet, &side_members(view, &vote, Side::Negative));
     combined(lattice, np, nn, &positive, &negative)
 }

@@ -1,6 +1,6 @@
 -- Labels agree just where one survivor is reached from the other, where the table of neighbours is mirrored and the list has each offset's
 -- opposite; and labels depend on the survivors and on the neighbours of points alone. Assumes nothing.
-use mathlib.Core.Path.{◌≡◌, refl, sym, ap, ◌∙◌, fun_ext}
+use mathlib.Core.Path.{◌≡◌, refl, ap, ◌∙◌, fun_ext}
 use mathlib.Core.Bool.{Bool, true}
 use mathlib.Core.List.{List}
 use Prim.Native.Nat.{ℕ, ◌+◌, ◌-◌, ◌*◌, ◌≤◌, ◌<◌}
@@ -9,11 +9,11 @@ use borrow.Author.Tests.{eqb-true}
 use lib.Dec.{eqb}
 use lib.ListN.{length, get_or}
 use Rattle.folds.specs.Below.{some}
-use Rattle.folds.proofs.Below.{some_at, every-at, and-under, both_ways}
+use Rattle.folds.proofs.Below.{some_at, every-at, and-under}
 use Rattle.patches.specs.Patches.{survives, touches, linked, via, labels_by, labels_of}
 use Rattle.patches.specs.Reach.{Reach, here, step, Mirrored, paired}
 use Rattle.patches.specs.Search.{NearPlaces}
-use Rattle.patches.proofs.Surviving.{survives-lt, link-from, link-to, link-side, link-by}
+use Rattle.patches.proofs.Surviving.{survives-lt, link-from, link-to, link-side, link-by, survive-alike}
 use Rattle.patches.proofs.Closure.{reach-trans, reach-from, reach-to}
 use Rattle.patches.proofs.Labelling.{joins, label-some}
 
@@ -65,14 +65,11 @@ pub labels-depend : (n : ℕ) (near near' : ℕ → ℕ) (sides sides' dropped d
     → ((a b : ℕ) → a < n → b < n → touches near sides a b ≡ touches near' sides' a b) → labels_of n near sides dropped ≡ labels_of n near' sides' dropped'
 unfolding labels_of
 labels-depend n near near' sides sides' dropped dropped' s t =
-    let p = fun_ext alike in
+    let p = fun_ext (survive-alike n dropped dropped' s) in
     let q = fun_ext (λ (a : ℕ). fun_ext (joined a)) in
     ap (λ (f : ℕ → Bool). labels_by n (via n f (linked n near sides dropped) n)) p ∙ ap (λ (f : ℕ → ℕ → Bool). labels_by n (via n (survives n dropped') f n)) q
   where
-    alike : (k : ℕ) → survives n dropped k ≡ survives n dropped' k
-    alike k = both_ways (survives n dropped k) (survives n dropped' k) (λ e. sym (s k (survives-lt n dropped k e)) ∙ e) (λ e. s k (survives-lt n dropped' k e) ∙ e)
-
     joined : (a b : ℕ) → linked n near sides dropped a b ≡ linked n near' sides' dropped' a b
     joined a b =
         and-under (survives n dropped a) (λ e. and-under (survives n dropped b) (λ f. t a b (survives-lt n dropped a e) (survives-lt n dropped b f)))
-        ∙ rw (alike a, alike b) refl
+        ∙ rw (survive-alike n dropped dropped' s a, survive-alike n dropped dropped' s b) refl

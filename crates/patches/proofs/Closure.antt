@@ -11,11 +11,12 @@ use native.Mathlib.Omega.{arith}
 use borrow.Author.Tests.{eq-eqb, eqb-true}
 use lib.Dec.{eqb}
 use Rattle.folds.specs.Below.{first}
-use Rattle.folds.proofs.Below.{or_left, or_right, or_cases, and_left, and_right, and_both, not-true, first-hit, first-miss, first_holds, first-before}
+use Rattle.folds.proofs.Below.{first-hit, first-miss, first_holds, first-before}
 use Rattle.folds.specs.Lists.{list_of}
 use Rattle.folds.proofs.Lists.{list_at}
 use Rattle.patches.specs.Patches.{test, test_table, via}
 use Rattle.patches.specs.Reach.{Reach, here, step, Labelled}
+use Rattle.std.proofs.lemmas.Bool.{and_from, and_parts, false_from_ne_true, or_cases, or_left, or_right}
 
 pub reach-trans : {alive : ℕ → Bool} {link : ℕ → ℕ → Bool} {a b c : ℕ} → Reach alive link a b → Reach alive link b c → Reach alive link a c
 reach-trans r (here e) = r
@@ -43,12 +44,12 @@ module _ (n : ℕ) (alive : ℕ → Bool) (link : ℕ → ℕ → Bool) where
     by-up e = by-more i a b h g ∙ or_left (by i a b) (by i a i && by i i b) e
 
     by-at : by i a i ≡ true → by i i b ≡ true → by (suc i) a b ≡ true
-    by-at p q = by-more i a b h g ∙ or_right (by i a b) (by i a i && by i i b) (and_both (by i a i) (by i i b) p q)
+    by-at p q = by-more i a b h g ∙ or_right (by i a b) (by i a i && by i i b) (and_from (by i a i) (by i i b) p q)
 
     by_cases : by (suc i) a b ≡ true → (by i a b ≡ true) ⊎ ((by i a i ≡ true) × (by i i b ≡ true))
     by_cases e = elim (or_cases (by i a b) (by i a i && by i i b) (sym (by-more i a b h g) ∙ e)) [
       | inl p ↦ inl p
-      | inr p ↦ inr (and_left (by i a i) (by i i b) p, and_right (by i a i) (by i i b) p)
+      | inr p ↦ inr ((and_parts (by i a i) (by i i b) p).0, (and_parts (by i a i) (by i i b) p).1)
     ]
 
   by-start : (i a b : ℕ) → a < n → b < n → (eqb a b && alive a) || link a b ≡ true → by i a b ≡ true
@@ -95,7 +96,7 @@ module _ (n : ℕ) (alive : ℕ → Bool) (link : ℕ → ℕ → Bool) where
 
     by-sound : (i a b : ℕ) → i ≤ n → a < n → b < n → by i a b ≡ true → Reach alive link a b
     by-sound zero a b k h g e = elim (or_cases (eqb a b && alive a) (link a b) (sym (by-none a b h g) ∙ e)) [
-      | inl p ↦ subst (Reach alive link a) (eqb-true a b (and_left (eqb a b) (alive a) p)) (here (and_right (eqb a b) (alive a) p))
+      | inl p ↦ subst (Reach alive link a) (eqb-true a b (and_parts (eqb a b) (alive a) p).0) (here (and_parts (eqb a b) (alive a) p).1)
       | inr p ↦ step (here (j.from a b p)) p
     ]
     by-sound (suc i) a b k h g e = elim (by_cases i a b h g e) [
@@ -104,7 +105,7 @@ module _ (n : ℕ) (alive : ℕ → Bool) (link : ℕ → ℕ → Bool) where
     ]
 
     by-complete : {a b : ℕ} → Reach alive link a b → by n a b ≡ true
-    by-complete {a} (here e) = let h = j.rank a e in by-start n a a h h (or_left (eqb a a && alive a) (link a a) (and_both (eqb a a) (alive a) (eq-eqb a a refl) e))
+    by-complete {a} (here e) = let h = j.rank a e in by-start n a a h h (or_left (eqb a a && alive a) (link a a) (and_from (eqb a a) (alive a) (eq-eqb a a refl) e))
     by-complete {a} {b = c} (step {b} r e) =
         let h = j.rank a (reach-from r) in
         let m = j.rank b (j.from b c e) in
@@ -120,10 +121,10 @@ module _ (n : ℕ) (alive : ℕ → Bool) (link : ℕ → ℕ → Bool) where
     first-label k v l =
         let g = j.rank k (reach-to l.reached) in
         let h = j.rank v (reach-from l.reached) in
-        first-hit (λ (a : ℕ). by n a k) n v h (by-complete l.reached) (λ a b. not-true (by n a k) (λ e. omega (arith, b, l.least a (by-sound n a k (omega arith) (omega arith) g e))))
+        first-hit (λ (a : ℕ). by n a k) n v h (by-complete l.reached) (λ a b. false_from_ne_true (by n a k) (λ e. omega (arith, b, l.least a (by-sound n a k (omega arith) (omega arith) g e))))
 
     pub first-none : (k : ℕ) → k < n → (alive k ≡ true → ⊥) → first (λ (a : ℕ). test (via n alive link n) a k) 0 n ≡ n
-    first-none k g f = first-miss (λ (a : ℕ). by n a k) n (λ a h. not-true (by n a k) (λ e. f (reach-to (by-sound n a k (omega arith) h g e))))
+    first-none k g f = first-miss (λ (a : ℕ). by n a k) n (λ a h. false_from_ne_true (by n a k) (λ e. f (reach-to (by-sound n a k (omega arith) h g e))))
 
     -- the definition's label is the least rank from which k is reached
     pub first-labelled : (k : ℕ) → alive k ≡ true → Labelled alive link k (first (λ (a : ℕ). test (via n alive link n) a k) 0 n)

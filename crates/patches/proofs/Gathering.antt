@@ -10,12 +10,14 @@ use borrow.Author.Tests.{eqb-true, lt-ltb, le-ltb, ltb-true}
 use lib.Dec.{eqb, ltb}
 use lib.ListN.{get_or, set, replicate, length-replicate, get_or-eq_default}
 use Rattle.folds.specs.Below.{fold, turn}
-use Rattle.folds.proofs.Below.{fold-kept, fold-ext, not-true, and_left, and_right, and-under, and-true}
+use Rattle.folds.proofs.Below.{fold-kept, fold-ext, and-under}
 use Rattle.folds.specs.Column.{column}
 use Rattle.folds.proofs.Column.{filled, replicate-at}
 use Rattle.folds.specs.Scattered.{Scattered, counts}
 use Rattle.folds.proofs.Scattered.{scattered-none, scattered-put, scattered-skip}
 use Rattle.view.specs.View.{max_points}
+use Rattle.std.proofs.Math.Bool.{and-true}
+use Rattle.std.proofs.lemmas.Bool.{and_parts, false_from_ne_true}
 
 module _ (labels : List ℕ) where
   abbrev label : ℕ → ℕ
@@ -54,9 +56,9 @@ module _ (labels : List ℕ) where
         all s h k = and-under (eqb (label k) s) {y = true} (λ e. lt-ltb (label k) n (omega (arith, eqb-true (label k) s e))) ∙ and-true (eqb (label k) s)
 
         none : (s : ℕ) → n ≤ s → (k : ℕ) → k < n → has s k ≡ false
-        none s h k l = not-true (has s k) (λ e.
-            let same = eqb-true (label k) s (and_left (eqb (label k) s) (ltb (label k) n) e) in
-            let low = ltb-true (label k) n (and_right (eqb (label k) s) (ltb (label k) n) e) in
+        none s h k l = false_from_ne_true (has s k) (λ e.
+            let same = eqb-true (label k) s (and_parts (eqb (label k) s) (ltb (label k) n) e).0 in
+            let low = ltb-true (label k) n (and_parts (eqb (label k) s) (ltb (label k) n) e).1 in
             omega arith)
 
         rest : (s : ℕ) → n ≤ s → Dec (s < max_points) → get_or a s 0 ≡ get_or (replicate max_points 0) s 0

@@ -7,3 +7,4 @@ pub mod Lattices
 pub mod Gathering
 pub mod Outermost
 pub mod Sheets
+pub mod InOrder

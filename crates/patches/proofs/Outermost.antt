@@ -10,7 +10,7 @@ use lib.IntN.{pos, negsuc, ◌-ℤ◌}
 use lib.Signed.{lt_z}
 use lib.ListN.{get_or}
 use Rattle.folds.specs.Below.{fold, turn, some}
-use Rattle.folds.proofs.Below.{some-ext, and-under, both_ways}
+use Rattle.folds.proofs.Below.{some-ext, and-under, ltb_as}
 use Rattle.folds.proofs.Column.{column-at}
 use Rattle.folds.specs.Scattered.{larger}
 use Rattle.folds.proofs.Scattered.{fold-above}
@@ -23,9 +23,6 @@ use Rattle.patches.specs.declared.boxes.Way.{Way}
 use Rattle.patches.specs.declared.boxes.Way.TheVariants.{MoreU, LessU, MoreV, LessV}
 use Rattle.patches.specs.declared.boxes.Extents.{Extents}
 
-same-order : (x y a b : ℕ) → (x < y → a < b) → (a < b → x < y) → ltb x y ≡ ltb a b
-same-order x y a b f g = both_ways (ltb x y) (ltb a b) (λ e. lt-ltb a b (f (ltb-true x y e))) (λ e. lt-ltb x y (g (ltb-true a b e)))
-
 -- the order of whole numbers less the bias
 less-bias : (x y : ℕ) → lt_z (pos x -ℤ pos bias) (pos y -ℤ pos bias) ≡ ltb x y
 less-bias x y = go (ltb x bias) (ltb y bias) refl refl
@@ -34,17 +31,17 @@ less-bias x y = go (ltb x bias) (ltb y bias) refl refl
     go true true e f =
         let h = ltb-true x bias e in
         let g = ltb-true y bias f in
-        same-order (bias - suc y) (bias - suc x) x y (λ l. omega arith) (λ l. omega arith)
+        ltb_as (bias - suc y) (bias - suc x) x y (λ l. omega arith) (λ l. omega arith)
     go true false e f = sym (lt-ltb x y (omega (arith, ltb-true x bias e, ltb-false y bias f)))
     go false true e f = sym (le-ltb x y (omega (arith, ltb-false x bias e, ltb-true y bias f)))
     go false false e f =
         let h = ltb-false x bias e in
         let g = ltb-false y bias f in
-        same-order (x - bias) (y - bias) x y (λ l. omega arith) (λ l. omega arith)
+        ltb_as (x - bias) (y - bias) x y (λ l. omega arith) (λ l. omega arith)
 
 -- the other way round
 turned : (x y : ℕ) → x ≤ far_end → y ≤ far_end → ltb (far_end - x) (far_end - y) ≡ ltb y x
-turned x y h g = same-order (far_end - x) (far_end - y) y x (λ l. omega arith) (λ l. omega arith)
+turned x y h g = ltb_as (far_end - x) (far_end - y) y x (λ l. omega arith) (λ l. omega arith)
 
 module _ (n : ℕ) (labels keys : List ℕ) where
   abbrev key : ℕ → ℕ

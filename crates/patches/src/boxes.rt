@@ -8,6 +8,7 @@ ghost use Rattle.patches.specs.Search.{AreNear};
 ghost use Rattle.patches.specs.Boxes.{CellKeys, boundary_among, boundary_of};
 ghost use Rattle.patches.specs.Extents.{extent, farthest_of, at_end, Reaching, at_some_end};
 
+use crate::labelled::LabelledCells;
 use crate::labels;
 use offsets::Offset;
 use view::{MAX_POINTS, Marks, Places, SheetLattice, Words};
@@ -41,15 +42,15 @@ impl Way {
     }
 
     // How far the patch of each label reaches this way.
-    fn farthest(self, keys: &Words, label: &Places, n: usize) -> Places
-        requires { (n ≤ max_points) × CellKeys n keys.now }
-        ensures { result ≡ farthest_of n label.now keys.now self }
+    fn farthest(self, points: &LabelledCells) -> Places
+        ensures { result ≡ farthest_of points.now.sheet.lattice.count points.now.label points.now.keys.now self }
     {
+        let n = points.sheet.lattice.count;
         let mut far = [0; MAX_POINTS];
         for i in 0..n {
-            let v = usize::from(label[i]);
+            let v = usize::from(points.label[i]);
             if v < n {
-                far[v] = far[v].max(self.extent(keys[i]));
+                far[v] = far[v].max(self.extent(points.keys[i]));
             }
         }
         far
@@ -74,15 +75,14 @@ struct Extents {
 }
 
 impl Extents {
-    fn new(keys: &Words, label: &Places, n: usize) -> Extents
-        requires { (n ≤ max_points) × CellKeys n keys.now }
-        ensures { Reaching n label.now keys.now result }
+    fn new(points: &LabelledCells) -> Extents
+        ensures { Reaching points.now.sheet.lattice.count points.now.label points.now.keys.now result }
     {
         Extents {
-            more_u: Way::MoreU.farthest(keys, label, n),
-            less_u: Way::LessU.farthest(keys, label, n),
-            more_v: Way::MoreV.farthest(keys, label, n),
-            less_v: Way::LessV.farthest(keys, label, n),
+            more_u: Way::MoreU.farthest(points),
+            less_u: Way::LessU.farthest(points),
+            more_v: Way::MoreV.farthest(points),
+            less_v: Way::LessV.farthest(points),
         }
     }
 
@@ -99,16 +99,15 @@ impl Extents {
 }
 
 // 1 at each rank whose index has its place on the boundary of the box of its patch, given the labels.
-fn boundary_among(sheet: &SheetLattice, keys: &Words, label: &Places) -> Marks
-    requires { CellKeys sheet.now.lattice.count keys.now }
-    ensures { (xs ys : List Float) → result ≡ boundary_among (view_at sheet.now.lattice.count sheet.now.lattice.ranks.now xs ys) label.now (cells_at keys.now) }
+fn boundary_among(points: &LabelledCells) -> Marks
+    ensures { (xs ys : List Float) → result ≡ boundary_among (view_at points.now.sheet.lattice.count points.now.sheet.lattice.ranks.now xs ys) points.now.label (cells_at points.now.keys.now) }
 {
-    let n = sheet.lattice.count;
-    let extents = Extents::new(keys, label, n);
+    let n = points.sheet.lattice.count;
+    let extents = Extents::new(points);
     view::filled(0, n, |i| {
-        let m = sheet.lattice.index(i);
-        let s = usize::from(label[m]);
-        u8::from(s < n && extents.has_end(s, keys[m]))
+        let m = points.sheet.lattice.index(i);
+        let s = usize::from(points.label[m]);
+        u8::from(s < n && extents.has_end(s, points.keys[m]))
     })
 }
 
@@ -118,6 +117,9 @@ pub fn boundary(sheet: &SheetLattice, keys: &Words, sides: &[Offset]) -> Marks
     requires { AreNear sides.now × CellKeys sheet.now.lattice.count keys.now }
     ensures { (xs ys : List Float) → result ≡ boundary_of (view_at sheet.now.lattice.count sheet.now.lattice.ranks.now xs ys) (places sides.now) (cells_at keys.now) }
 {
-    let label = labels(&sheet.lattice, &[0; MAX_POINTS], sides);
-    boundary_among(sheet, keys, &label)
+    boundary_among(&LabelledCells {
+        sheet: *sheet,
+        keys,
+        label: labels(&sheet.lattice, &[0; MAX_POINTS], sides),
+    })
 }

@@ -2,6 +2,7 @@
 #![tactic(auto)]
 
 pub mod boxes;
+mod labelled;
 mod search;
 
 ghost use Rattle.std.specs.Prelude.{◌≡◌, List, Float};

@@ -1,5 +1,5 @@
 -- Laws of chains: one rank more in its chain, and what the next rank of a chain is. Assumes nothing.
-use Rattle.std.proofs.Common.{◌≡◌, refl, sym, ap, ◌∙◌, Bool, true, false, cond, List, ℕ, zero, suc, ◌+◌, ◌≤◌, ◌<◌, None, Some, get_or, set, replicate, arith, add-one, length-set, eq-eqb, ne_eqb}
+use Rattle.std.proofs.Common.{◌≡◌, refl, sym, ap, ◌∙◌, Bool, true, false, cond, List, ℕ, zero, suc, ◌+◌, ◌≤◌, ◌<◌, Option, None, Some, get_or, set, replicate, arith, add-one, length-set, eq-eqb, ne_eqb}
 use Prim.{yes, no}
 use mathlib.Core.Logic.{⊎_elim}
 use native.Mathlib.Nat.{eq-or-lt_of_le}
@@ -8,12 +8,17 @@ use lib.ListN.{length-replicate}
 use lib.Seq.{get_or-set_same, get_or-set_other}
 use Rattle.folds.proofs.Column.{replicate-at}
 use Rattle.view.specs.View.{max_points}
-use Rattle.peel.specs.Work.{index_at, last_below, past, with_index, Chained}
+use Rattle.peel.specs.Work.{index_at, last_below, with_index, Chained}
+
+-- one more than a number, or 0 where there is none
+abbrev pub past : Option ℕ → ℕ
+past None = 0
+past (Some k) = k + 1
 
 module _ (p : ℕ → Bool) where
-  last-more : (i : ℕ) → past (last_below p (i + 1)) ≡ cond (p i) (i + 1) (past (last_below p i))
+  last-more : (i : ℕ) → last_below p (i + 1) ≡ cond (p i) (Some i) (last_below p i)
   unfolding last_below
-  last-more i = rw (add-one i) (elim (p i) as (λ b. past (cond b (Some i) (last_below p i)) ≡ cond b (suc i) (past (last_below p i))) [ true ↦ add-one i | false ↦ refl ])
+  last-more i = rw (add-one i) refl
 
   pub past-le : (m : ℕ) → past (last_below p m) ≤ m
   unfolding last_below
@@ -55,26 +60,26 @@ module _ (p : ℕ → Bool) where
 -- ---- one rank more
 
 module _ {ranks : List ℕ} where
-  pub chain-none : Chained ranks 0 (replicate max_points 0) (replicate max_points 0)
+  pub chain-none : Chained ranks 0 (replicate max_points None) (replicate max_points None)
   unfolding last_below
   chain-none = record {
-    last_long = length-replicate {A = ℕ} max_points 0;
-    before_long = length-replicate {A = ℕ} max_points 0;
-    heads = λ b h. replicate-at {A = ℕ} max_points 0 b;
+    last_long = length-replicate {A = Option ℕ} max_points None;
+    before_long = length-replicate {A = Option ℕ} max_points None;
+    heads = λ b h. replicate-at {A = Option ℕ} max_points None b;
     nexts = λ k h. absurd (omega arith);
   }
 
-  pub chain-put : {i b : ℕ} {last before : List ℕ} → Chained ranks i last before → b ≡ index_at ranks i → b < max_points → i < max_points
-      → Chained ranks (i + 1) (set last b (i + 1)) (set before i (get_or last b 0))
+  pub chain-put : {i b : ℕ} {last before : List (Option ℕ)} → Chained ranks i last before → b ≡ index_at ranks i → b < max_points → i < max_points
+      → Chained ranks (i + 1) (set last b (Some i)) (set before i (get_or last b None))
   chain-put {i} {b} {last} {before} c e l h = record {
-    last_long = length-set last b (i + 1) ∙ c.last_long;
-    before_long = length-set before i (get_or last b 0) ∙ c.before_long;
+    last_long = length-set last b (Some i) ∙ c.last_long;
+    before_long = length-set before i (get_or last b None) ∙ c.before_long;
     heads = λ m r. elim (ℕ_discrete m b) [
-      | yes d ↦ rw (d, get_or-set_same last b (i + 1) 0 (omega (arith, c.last_long))) (sym (last-more (with_index ranks b) i ∙ rw (eq-eqb (index_at ranks i) b (sym e))))
-      | no d ↦ get_or-set_other last b m (i + 1) 0 d ∙ c.heads m r ∙ sym (last-more (with_index ranks m) i ∙ rw (ne_eqb (index_at ranks i) m (λ z. d (sym z ∙ sym e))))
+      | yes d ↦ rw (d, get_or-set_same last b (Some i) None (omega (arith, c.last_long))) (sym (last-more (with_index ranks b) i ∙ rw (eq-eqb (index_at ranks i) b (sym e))))
+      | no d ↦ get_or-set_other last b m (Some i) None d ∙ c.heads m r ∙ sym (last-more (with_index ranks m) i ∙ rw (ne_eqb (index_at ranks i) m (λ z. d (sym z ∙ sym e))))
     ];
     nexts = λ k r. ⊎_elim
-        (λ (d : k ≡ i). rw d (get_or-set_same before i (get_or last b 0) 0 (omega (arith, c.before_long)) ∙ c.heads b l ∙ ap (λ (m : ℕ). past (last_below (with_index ranks m) i)) e))
-        (λ (d : k < i). get_or-set_other before i k (get_or last b 0) 0 (λ z. omega (arith, z, d)) ∙ c.nexts k d)
+        (λ (d : k ≡ i). rw d (get_or-set_same before i (get_or last b None) None (omega (arith, c.before_long)) ∙ c.heads b l ∙ ap (λ (m : ℕ). last_below (with_index ranks m) i) e))
+        (λ (d : k < i). get_or-set_other before i k (get_or last b None) None (λ z. omega (arith, z, d)) ∙ c.nexts k d)
         (eq-or-lt_of_le (omega arith));
   }

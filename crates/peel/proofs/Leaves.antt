@@ -9,41 +9,43 @@ use native.Mathlib.Omega.{arith}
 use borrow.Author.Tests.{lt-ltb, ltb-true, ltb-false}
 use lib.Dec.{ltb}
 use lib.ListN.{length, get_or}
-use Rattle.folds.proofs.Below.{tally-ext, and_left, and_right, and_both, and-false, not-true}
+use Rattle.folds.proofs.Below.{tally-ext}
 use Rattle.folds.proofs.Column.{column-at, column-over}
 use Rattle.view.specs.View.{max_points}
 use Rattle.peel.specs.Peel.{live, live_sides, leaf}
 use Rattle.peel.specs.Work.{state_of, states_of, is_live, is_weak, lives_at, near_at, index_at, live_beside, leaf_at}
 use Rattle.peel.specs.declared.state.State.{State}
 use Rattle.peel.specs.declared.state.State.TheVariants.{Dead}
-use Rattle.folds.proofs.Counting.{not_yes, tally-lost}
+use Rattle.folds.proofs.Counting.{tally-lost}
 use Rattle.peel.proofs.Rounds.{Ends}
+use Rattle.std.proofs.Math.Bool.{and-false, and_assoc}
+use Rattle.std.proofs.lemmas.Bool.{and_from, and_parts, false_from_ne_true, not-true}
 
 module _ (alive : ℕ → Bool) (by_idx : ℕ → ℕ) (gone : ℕ → Bool) (k : ℕ) where
   pub live-alive : live alive by_idx gone k ≡ true → alive k ≡ true
-  live-alive e = and_left (alive k) (not (gone (by_idx k))) e
+  live-alive e = (and_parts (alive k) (not (gone (by_idx k))) e).0
 
   pub live-stays : live alive by_idx gone k ≡ true → gone (by_idx k) ≡ false
-  live-stays e = not_yes (gone (by_idx k)) (and_right (alive k) (not (gone (by_idx k))) e)
+  live-stays e = not-true (gone (by_idx k)) (and_parts (alive k) (not (gone (by_idx k))) e).1
 
   pub live-is : alive k ≡ true → gone (by_idx k) ≡ false → live alive by_idx gone k ≡ true
-  live-is a e = and_both (alive k) (not (gone (by_idx k))) a (ap not e)
+  live-is a e = and_from (alive k) (not (gone (by_idx k))) a (ap not e)
 
 module _ (alive : ℕ → Bool) (near by_idx : ℕ → ℕ) (sides : List ℕ) (weak : ℕ → Bool) where
   module _ (gone : ℕ → Bool) (k : ℕ) where
     pub leaf-live : leaf alive near by_idx sides weak gone k ≡ true → live alive by_idx gone k ≡ true
     unfolding leaf
-    leaf-live e = and_left (live alive by_idx gone k) _ e
+    leaf-live e = (and_parts (live alive by_idx gone k) _ e).0
 
     leaf-rest : leaf alive near by_idx sides weak gone k ≡ true → weak k && ltb (live_sides alive near by_idx sides gone k) 2 ≡ true
     unfolding leaf
-    leaf-rest e = and_right (live alive by_idx gone k) _ e
+    leaf-rest e = (and_parts (live alive by_idx gone k) _ e).1
 
     pub leaf-weak : leaf alive near by_idx sides weak gone k ≡ true → weak k ≡ true
-    leaf-weak e = and_left (weak k) (ltb (live_sides alive near by_idx sides gone k) 2) (leaf-rest e)
+    leaf-weak e = (and_parts (weak k) (ltb (live_sides alive near by_idx sides gone k) 2) (leaf-rest e)).0
 
     pub leaf-few : leaf alive near by_idx sides weak gone k ≡ true → live_sides alive near by_idx sides gone k < 2
-    leaf-few e = ltb-true (live_sides alive near by_idx sides gone k) 2 (and_right (weak k) _ (leaf-rest e))
+    leaf-few e = ltb-true (live_sides alive near by_idx sides gone k) 2 (and_parts (weak k) _ (leaf-rest e)).1
 
     -- a live weak rank that is no end has two live neighbours or more
     pub leaf-many : leaf alive near by_idx sides weak gone k ≡ false → live alive by_idx gone k ≡ true → weak k ≡ true → 2 ≤ live_sides alive near by_idx sides gone k
@@ -64,7 +66,7 @@ module _ (alive : ℕ → Bool) (near by_idx : ℕ → ℕ) (sides : List ℕ) (
   unfolding live_sides
   leaf-new g g' more k e f =
       let l = leaf-live g' k f in
-      let s = not-true (g (by_idx k)) (λ t. true≢false (sym (more (by_idx k) t) ∙ live-stays alive by_idx g' k l)) in
+      let s = false_from_ne_true (g (by_idx k)) (λ t. true≢false (sym (more (by_idx k) t) ∙ live-stays alive by_idx g' k l)) in
       tally-lost _ _ (length sides) (omega (arith, leaf-few g' k f, leaf-many g k e (live-is alive by_idx g k (live-alive alive by_idx g' k l) s) (leaf-weak g' k f)))
 
 -- ---- the states of ranks
@@ -86,7 +88,7 @@ module _ (n : ℕ) (lives weak : ℕ → Bool) where
     read : (t : State → Bool) (u : Bool → Bool → Bool) → ((l w : Bool) → t (state_of l w) ≡ u l w) → t Dead ≡ false → ((w : Bool) → u false w ≡ false) → (k : ℕ) → t (get_or (states_of n lives weak) k Dead) ≡ u (lives k) (weak k)
     read t u e z f k = elim (dec_lt k n) [
       | yes h ↦ ap t (states-at k h) ∙ e (lives k) (weak k)
-      | no g ↦ ap t (states-over k (omega (arith, g))) ∙ z ∙ sym (ap (λ (l : Bool). u l (weak k)) (not-true (lives k) (λ e. g (below k e))) ∙ f (weak k))
+      | no g ↦ ap t (states-over k (omega (arith, g))) ∙ z ∙ sym (ap (λ (l : Bool). u l (weak k)) (false_from_ne_true (lives k) (λ e. g (below k e))) ∙ f (weak k))
     ]
 
     lives-is : (k : ℕ) → lives_at (states_of n lives weak) k ≡ lives k
@@ -120,7 +122,7 @@ unfolding leaf leaf_at live_sides
 leaf-is n alive weak gone below ranks sides k =
     ap (λ (x : Bool). x && ltb (live_beside n ranks states sides (length sides) k) 2) (weak-is n lives weak within k)
     ∙ ap (λ (m : ℕ). (lives k && weak k) && ltb m 2) (tally-ext _ _ (length sides) (λ i h. lives-below n lives weak within (near_at ranks (25 * k + get_or sides i 0))))
-    ∙ regroup (lives k) (weak k) _
+    ∙ and_assoc (lives k) (weak k) _
   where
     lives : ℕ → Bool
     lives = live alive (index_at ranks) gone
@@ -130,7 +132,3 @@ leaf-is n alive weak gone below ranks sides k =
 
     within : (k : ℕ) → lives k ≡ true → k < n
     within k e = below k (live-alive alive (index_at ranks) gone k e)
-
-    regroup : (a b c : Bool) → (a && b) && c ≡ a && (b && c)
-    regroup true b c = refl
-    regroup false b c = refl

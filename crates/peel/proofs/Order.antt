@@ -11,7 +11,7 @@ use borrow.Author.Tests.{eq-eqb, eqb-true, ne_eqb}
 use lib.Dec.{eqb}
 use lib.ListN.{length, get_or, set, replicate, length-set, length-replicate}
 use lib.Seq.{get_or-set_same, get_or-set_other}
-use Rattle.folds.proofs.Below.{some-yes, some_at, both_ways, or_cases, or-true, and_left}
+use Rattle.folds.proofs.Below.{some-yes, some_at}
 use Rattle.folds.specs.Lists.{over}
 use Rattle.folds.proofs.Lists.{length-list, list_at, is-list}
 use Rattle.folds.specs.Among.{any_in}
@@ -24,6 +24,9 @@ use Rattle.peel.specs.Peel.{goes, gone_after, peeled_in, leaf_of, peeled_of}
 use Rattle.peel.specs.Theorems.{Placed, visit, round_by, gone_by, peeled_by, HasEach}
 use Rattle.peel.proofs.Rounds.{Ends}
 use Rattle.peel.proofs.Theorems.{known}
+use Rattle.std.proofs.Math.Bool.{or-true}
+use Rattle.std.proofs.lemmas.Bool.{and_parts, or_cases}
+use Rattle.std.specs.Cmp.{both_ways}
 
 -- where some element passes, one does
 any-one : (t : ℕ → Bool) (l : List ℕ) → any_in t l ≡ true → (k : ℕ) × (t k ≡ true)
@@ -88,7 +91,7 @@ module _ (n : ℕ) (by_idx : ℕ → ℕ) (ends : (ℕ → Bool) → ℕ → Boo
     any-goes : (g visits : List ℕ) (b : ℕ) → HasEach n visits → any_in (hits g b) visits ≡ goes n by_idx ends (is_set g) b
     any-goes g visits b each =
         both_ways (any_in (hits g b) visits) (goes n by_idx ends (is_set g) b)
-        (λ e. let w = any-one (hits g b) visits e in some-yes (hits g b) n w.0 (is.rank (is_set g) w.0 (and_left (ends (is_set g) w.0) _ w.1)) w.1)
+        (λ e. let w = any-one (hits g b) visits e in some-yes (hits g b) n w.0 (is.rank (is_set g) w.0 (and_parts (ends (is_set g) w.0) _ w.1).0) w.1)
         (λ e. let w = some_at (hits g b) n e in any_of (hits g b) w.0 visits (each w.0 w.1) w.2)
 
     -- a round by visits to each rank is a round

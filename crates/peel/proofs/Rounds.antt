@@ -13,13 +13,14 @@ use native.Mathlib.Omega.{arith}
 use borrow.Author.Tests.{eq-eqb, eqb-true}
 use lib.Dec.{eqb}
 use Rattle.folds.specs.Below.{tally}
-use Rattle.folds.proofs.Below.{some-yes, some_at, some-no, tally-le, first-le, first_holds, first-before, first-hit, first-miss, and_left, and_right, and_both, or_left, or_right, not-true, not-false}
+use Rattle.folds.proofs.Below.{some-yes, some_at, some-no, tally-le, first-le, first_holds, first-before, first-hit, first-miss}
 use Rattle.folds.proofs.Lists.{list_at, list_over}
 use Rattle.folds.proofs.Column.{replicate-at}
 use Rattle.folds.proofs.Marked.{bit_is}
 use Rattle.marks.specs.Marks.{is_set}
 use Rattle.peel.specs.Peel.{goes, gone_after, ended, rounds_in}
 use Rattle.folds.proofs.Counting.{tally-grows, tally-full}
+use Rattle.std.proofs.lemmas.Bool.{and_from, and_parts, false_from_ne_true, not-false, or_left, or_right}
 
 -- what is asked of the test: an end is a rank whose index has not gone, and the places of indices are ranks
 pub record Ends (n : ℕ) (by_idx : ℕ → ℕ) (ends : (ℕ → Bool) → ℕ → Bool) : Type 0 where
@@ -30,12 +31,12 @@ pub record Ends (n : ℕ) (by_idx : ℕ → ℕ) (ends : (ℕ → Bool) → ℕ 
 module _ (n : ℕ) (by_idx : ℕ → ℕ) (ends : (ℕ → Bool) → ℕ → Bool) where
   -- the index of an end goes, and one that goes has an end
   pub end_goes : (gone : ℕ → Bool) (k : ℕ) → k < n → ends gone k ≡ true → goes n by_idx ends gone (by_idx k) ≡ true
-  end_goes gone k h e = some-yes _ n k h (and_both (ends gone k) (eqb (by_idx k) (by_idx k)) e (eq-eqb (by_idx k) (by_idx k) refl))
+  end_goes gone k h e = some-yes _ n k h (and_from (ends gone k) (eqb (by_idx k) (by_idx k)) e (eq-eqb (by_idx k) (by_idx k) refl))
 
   pub goes_end : (gone : ℕ → Bool) (b : ℕ) → goes n by_idx ends gone b ≡ true → (k : ℕ) × (k < n) × (ends gone k ≡ true) × (by_idx k ≡ b)
   goes_end gone b e =
       let w = some_at (λ (k : ℕ). ends gone k && eqb (by_idx k) b) n e in
-      (w.0, w.1, and_left (ends gone w.0) (eqb (by_idx w.0) b) w.2, eqb-true (by_idx w.0) b (and_right (ends gone w.0) (eqb (by_idx w.0) b) w.2))
+      (w.0, w.1, (and_parts (ends gone w.0) (eqb (by_idx w.0) b) w.2).0, eqb-true (by_idx w.0) b (and_parts (ends gone w.0) (eqb (by_idx w.0) b) w.2).1)
 
 module _ (n : ℕ) (by_idx : ℕ → ℕ) (ends : (ℕ → Bool) → ℕ → Bool) (known : Ends n by_idx ends) where
   abbrev after : ℕ → List ℕ
@@ -71,7 +72,7 @@ module _ (n : ℕ) (by_idx : ℕ → ℕ) (ends : (ℕ → Bool) → ℕ → Boo
     | yes h ↦ ap (λ (m : ℕ). eqb m 1) (list_at n _ b 0 h) ∙ bit_is (out r b || goes n by_idx ends (out r) b)
     | no f ↦
         ap (λ (m : ℕ). eqb m 1) (list_over n _ b 0 (omega (arith, f)))
-        ∙ sym (rw (not-true (out r b) (λ t. f (gone-below r b t)), not-true (goes n by_idx ends (out r) b) (λ t. f (goes-within (out r) b t))))
+        ∙ sym (rw (false_from_ne_true (out r b) (λ t. f (gone-below r b t)), false_from_ne_true (goes n by_idx ends (out r) b) (λ t. f (goes-within (out r) b t))))
   ])
 
   module _ (r : ℕ) where
@@ -87,10 +88,10 @@ module _ (n : ℕ) (by_idx : ℕ → ℕ) (ends : (ℕ → Bool) → ℕ → Boo
     not-over k e = ap not (some-yes (is_end r) n k (known.rank (out r) k e) e)
 
     pub is-over : ((k : ℕ) → is_end r k ≡ true → ⊥) → over r ≡ true
-    is-over f = ap not (some-no (is_end r) n (λ k h. not-true (is_end r k) (f k)))
+    is-over f = ap not (some-no (is_end r) n (λ k h. false_from_ne_true (is_end r k) (f k)))
 
     pub over_none : over r ≡ true → (k : ℕ) → is_end r k ≡ false
-    over_none e k = not-true (is_end r k) (λ t. true≢false (sym e ∙ not-over k t))
+    over_none e k = false_from_ne_true (is_end r k) (λ t. true≢false (sym e ∙ not-over k t))
 
     some_end : over r ≡ false → (k : ℕ) × (k < n) × (is_end r k ≡ true)
     some_end e = some_at (is_end r) n (not-false _ e)

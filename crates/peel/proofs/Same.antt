@@ -1,13 +1,13 @@
 -- The answer depends on the number of points, on their neighbours and the places of their indices, and on which are dropped and which weak.
 -- Assumes nothing.
-use mathlib.Core.Path.{◌≡◌, refl, sym, ap, ◌∙◌, fun_ext}
+use mathlib.Core.Path.{◌≡◌, refl, ap, ◌∙◌, fun_ext}
 use mathlib.Core.Bool.{Bool, not, ◌&&◌, ◌||◌}
 use mathlib.Core.List.{List}
 use Prim.Native.Nat.{ℕ, zero, suc, ◌+◌, ◌*◌, ◌<◌}
 use native.Mathlib.Omega.{arith}
 use lib.Dec.{eqb, ltb}
 use lib.ListN.{length, get_or}
-use Rattle.folds.proofs.Below.{some-ext, tally-ext, and-under, both_ways}
+use Rattle.folds.proofs.Below.{some-ext, tally-ext, and-under}
 use Rattle.folds.specs.Lists.{list_of}
 use Rattle.folds.proofs.Lists.{list_ext}
 use Rattle.folds.proofs.Column.{column-ext}
@@ -16,7 +16,7 @@ use Rattle.view.specs.View.{View, max_points}
 use Rattle.marks.specs.Marks.{is_set}
 use Rattle.patches.specs.Patches.{survives}
 use Rattle.patches.specs.Search.{NearPlaces}
-use Rattle.patches.proofs.Surviving.{survives-lt}
+use Rattle.patches.proofs.Surviving.{survives-lt, survive-alike}
 use Rattle.peel.specs.Peel.{live, live_sides, leaf, goes, gone_after, rounds_in, peeled, peeled_in, peeled_of}
 use Rattle.peel.proofs.Leaves.{live-alive}
 
@@ -43,13 +43,10 @@ module _ (n : ℕ) (by_idx by_idx' : ℕ → ℕ) (index : (k : ℕ) → k < n �
 
   module _ (near near' : ℕ → ℕ) (sides dropped dropped' weak weak' : List ℕ) (placed : NearPlaces sides) (beside : (i : ℕ) → i < 25 * n → near i ≡ near' i)
       (kept : (k : ℕ) → k < n → survives n dropped k ≡ survives n dropped' k) (faint : (k : ℕ) → k < n → is_set weak k ≡ is_set weak' k) where
-    alive-same : (k : ℕ) → survives n dropped k ≡ survives n dropped' k
-    alive-same k = both_ways (survives n dropped k) (survives n dropped' k) (λ e. sym (kept k (survives-lt n dropped k e)) ∙ e) (λ e. kept k (survives-lt n dropped' k e) ∙ e)
-
     live_same : (gone : ℕ → Bool) (k : ℕ) → live (survives n dropped) by_idx gone k ≡ live (survives n dropped') by_idx' gone k
     live_same gone k =
         and-under (survives n dropped k) (λ e. ap (λ (b : ℕ). not (gone b)) (index k (survives-lt n dropped k e)))
-        ∙ ap (λ (t : Bool). t && not (gone (by_idx' k))) (alive-same k)
+        ∙ ap (λ (t : Bool). t && not (gone (by_idx' k))) (survive-alike n dropped dropped' kept k)
 
     sides-same : (gone : ℕ → Bool) (k : ℕ) → k < n → live_sides (survives n dropped) near by_idx sides gone k ≡ live_sides (survives n dropped') near' by_idx' sides gone k
     unfolding live_sides

@@ -14,13 +14,14 @@ use borrow.Author.Tests.{eq-eqb, ne_eqb, eqb-true, lt-ltb, ltb-true}
 use lib.Dec.{ltb}
 use lib.ListN.{length, get_or, set, length-set, get_or-eq_default}
 use lib.Seq.{get_or-set_same, get_or-set_other}
-use Rattle.folds.proofs.Below.{tally-le, and_left, and_right, and_both}
-use Rattle.folds.proofs.Counting.{either, tally-grows, tally-below}
+use Rattle.folds.proofs.Below.{tally-le}
+use Rattle.folds.proofs.Counting.{tally-grows, tally-below}
 use Rattle.view.specs.View.{max_points}
 use Rattle.marks.specs.Marks.{is_set}
 use Rattle.peel.specs.declared.state.State.{State}
 use Rattle.peel.specs.Work.{index_at, leaf_at, last_below, with_index, Queued, point_has, Whole, Searched, near_at, Beside, BesideQueued}
 use Rattle.peel.proofs.Chaining.{Last, last-none}
+use Rattle.std.proofs.lemmas.Bool.{and_from, and_parts, cases_Bool}
 
 -- ---- the queue
 
@@ -96,7 +97,7 @@ pub record Putting (n : ℕ) (ranks : List ℕ) (b m : ℕ) (marks queue : List 
   pub listed : (x : ℕ) → m ≤ x → point_has n ranks b x ≡ true → (p : ℕ) × (tail ≤ p) × (p < tail') × (get_or queue' p 0 ≡ x)
 
 is-below : (n : ℕ) (ranks : List ℕ) (b x : ℕ) → point_has n ranks b x ≡ true → x < n
-is-below n ranks b x e = ltb-true x n (and_left (ltb x n) (with_index ranks b x) e)
+is-below n ranks b x e = ltb-true x n (and_parts (ltb x n) (with_index ranks b x) e).0
 
 module _ {n : ℕ} {ranks : List ℕ} {b : ℕ} where
   pub put-start : {marks queue : List ℕ} {tail : ℕ} → ((x : ℕ) → point_has n ranks b x ≡ true → get_or marks x 0 ≡ 1 → ⊥) → Putting n ranks b n marks queue tail marks queue tail
@@ -115,7 +116,7 @@ module _ {n : ℕ} {ranks : List ℕ} {b : ℕ} where
   module _ {m x : ℕ} {marks queue : List ℕ} {tail : ℕ} {marks' queue' : List ℕ} {tail' : ℕ} (g : Putting n ranks b m marks queue tail marks' queue' tail')
       (l : Last (with_index ranks b) m x) where
     own : point_has n ranks b x ≡ true
-    own = and_both _ (with_index ranks b x) (lt-ltb x n (omega (arith, l.below, g.within))) l.has
+    own = and_from _ (with_index ranks b x) (lt-ltb x n (omega (arith, l.below, g.within))) l.has
 
     -- the next has no mark yet
     pub put-new : get_or marks' x 0 ≡ 1 → ⊥
@@ -127,7 +128,7 @@ module _ {n : ℕ} {ranks : List ℕ} {b : ℕ} where
         (λ (d : x ≡ y). inr (sym d))
         (λ (d : x < y). elim (dec_le m y) [
           | yes f ↦ inl f
-          | no f ↦ absurd (true≢false (sym (and_right _ (with_index ranks b y) e) ∙ l.none y d (omega (arith, f))))
+          | no f ↦ absurd (true≢false (sym (and_parts _ (with_index ranks b y) e).1 ∙ l.none y d (omega (arith, f))))
         ])
         (eq-or-lt_of_le h)
 
@@ -175,18 +176,18 @@ pub put-end : {n : ℕ} {ranks : List ℕ} {state : List State} {sides marks que
     → last_below (with_index ranks b) m ≡ None → Putting n ranks b m marks queue tail marks' queue' tail' → Searched n ranks state sides (λ (j : ℕ). j ≡ k) marks queue tail marks' queue' tail'
 put-end {n} {ranks} {state} {sides} {marks} {queue} {tail} {marks'} {queue'} {tail'} {m} {k} {b} w end point own done g = record {
   whole = record {
-    points = λ x e. ⊎_elim (λ (t : has x ≡ true). is-below n ranks b x t) (λ (f : has x ≡ false). w.points x (sym (g.other x f) ∙ e)) (either (has x));
+    points = λ x e. ⊎_elim (λ (t : has x ≡ true). is-below n ranks b x t) (λ (f : has x ≡ false). w.points x (sym (g.other x f) ∙ e)) (cases_Bool (has x));
     shared = λ i j p q e m. ⊎_elim
-        (λ (t : has i ≡ true). all j (and_both _ (with_index ranks b j) (lt-ltb j n q) (eq-eqb (index_at ranks j) b (sym e ∙ eqb-true (index_at ranks i) b (and_right _ (with_index ranks b i) t)))))
+        (λ (t : has i ≡ true). all j (and_from _ (with_index ranks b j) (lt-ltb j n q) (eq-eqb (index_at ranks j) b (sym e ∙ eqb-true (index_at ranks i) b (and_parts _ (with_index ranks b i) t).1))))
         (λ (f : has i ≡ false). keeps j (w.shared i j p q e (sym (g.other i f) ∙ m)))
-        (either (has i));
+        (cases_Bool (has i));
   };
   kept = keeps;
   longer = g.longer;
   front = g.front;
-  ending = λ p l h. (k, end, sym own ∙ sym (eqb-true (index_at ranks (get_or queue' p 0)) b (and_right _ (with_index ranks b (get_or queue' p 0)) (g.entries p l h))));
-  listed = λ x e. ⊎_elim (λ (t : has x ≡ true). inr (g.listed x (late x t) t)) (λ (f : has x ≡ false). inl (sym (g.other x f) ∙ e)) (either (has x));
-  met = λ j l d e. rw d (all k (and_both _ (with_index ranks b k) (lt-ltb k n point) (eq-eqb (index_at ranks k) b (sym own))));
+  ending = λ p l h. (k, end, sym own ∙ sym (eqb-true (index_at ranks (get_or queue' p 0)) b (and_parts _ (with_index ranks b (get_or queue' p 0)) (g.entries p l h)).1));
+  listed = λ x e. ⊎_elim (λ (t : has x ≡ true). inr (g.listed x (late x t) t)) (λ (f : has x ≡ false). inl (sym (g.other x f) ∙ e)) (cases_Bool (has x));
+  met = λ j l d e. rw d (all k (and_from _ (with_index ranks b k) (lt-ltb k n point) (eq-eqb (index_at ranks k) b (sym own))));
 }
   where
     has : ℕ → Bool
@@ -195,14 +196,14 @@ put-end {n} {ranks} {state} {sides} {marks} {queue} {tail} {marks'} {queue'} {ta
     late : (x : ℕ) → has x ≡ true → m ≤ x
     late x t = elim (dec_le m x) [
       | yes h ↦ h
-      | no f ↦ absurd (true≢false (sym (and_right _ (with_index ranks b x) t) ∙ last-none (with_index ranks b) m done x (omega (arith, f))))
+      | no f ↦ absurd (true≢false (sym (and_parts _ (with_index ranks b x) t).1 ∙ last-none (with_index ranks b) m done x (omega (arith, f))))
     ]
 
     all : (x : ℕ) → has x ≡ true → get_or marks' x 0 ≡ 1
     all x t = g.put x (late x t) t
 
     keeps : (x : ℕ) → get_or marks x 0 ≡ 1 → get_or marks' x 0 ≡ 1
-    keeps x e = ⊎_elim (λ (t : has x ≡ true). all x t) (λ (f : has x ≡ false). g.other x f ∙ e) (either (has x))
+    keeps x e = ⊎_elim (λ (t : has x ≡ true). all x t) (λ (f : has x ≡ false). g.other x f ∙ e) (cases_Bool (has x))
 
 -- ---- one search after another
 

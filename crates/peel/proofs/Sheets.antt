@@ -5,29 +5,17 @@ use mathlib.Core.List.{List, [], ◌∷◌}
 use Prim.Native.Nat.{ℕ, ◌+◌, ◌/◌, ◌%◌}
 use lib.Dec.{eqb}
 use lib.Ieee.{nan}
-use lib.ListN.{length, get_or, take}
+use lib.ListN.{take}
 use Rattle.folds.specs.Below.{some, tally, first, first_in}
 use Rattle.folds.specs.Lists.{up_from, list_of, over}
 use Rattle.folds.specs.Column.{column}
-use Rattle.offsets.specs.Offsets.{square_sides, up_by2, offset_of, places}
+use Rattle.offsets.specs.Offsets.{square_sides, places}
 use Rattle.view.specs.View.{View}
 use Rattle.patches.proofs.Lattices.{hex_sides}
 use Rattle.peel.specs.Peel.{live_sides, leaf, gone_after, rounds_in, peeled_in, peeled_of}
 use Rattle.peel.specs.Theorems.{left_sides, round_by, gone_by, peeled_by}
 use Rattle.peel.specs.declared.Peeled.{Peeled}
-
--- the view of cells in order, u and v from 2 on, with the place of each cell's index: entry 25 * k + d is the rank of the cell at the offset with place d
-unfoldable sheet : List ℕ → List ℕ → List ℕ → View
-unfolding first first_in
-sheet us vs lasts = record {
-  count = length us;
-  near = λ i. first (λ (j : ℕ). eqb (get_or us j 0 + 2) (get_or us (i / 25) 0 + up_by2 (offset_of (i % 25)).du) && eqb (get_or vs j 0 + 2) (get_or vs (i / 25) 0 + up_by2 (offset_of (i % 25)).dv)) 0 (length us);
-  row = λ k. 0;
-  column = λ k. 0;
-  by_idx = λ k. get_or lasts k 0;
-  x = λ k. nan;
-  y = λ k. nan;
-}
+use Rattle.patches.proofs.InOrder.{sheet}
 
 -- the rounds and the marks of the first n ranks
 abbrev shown : ℕ → Peeled → List ℕ

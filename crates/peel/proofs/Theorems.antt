@@ -12,7 +12,7 @@ use borrow.Author.Tests.{eq-eqb, eqb-true}
 use lib.Dec.{eqb, ltb}
 use lib.ListN.{length, get_or, replicate}
 use Rattle.folds.specs.Below.{tally}
-use Rattle.folds.proofs.Below.{tally-ext, tally-mono, and_right, and_both, and-under, or_cases, not-true, some-no, first-hit, first-end}
+use Rattle.folds.proofs.Below.{tally-ext, tally-mono, and-under, some-no, first-hit, first-end}
 use Rattle.folds.specs.Column.{column}
 use Rattle.folds.proofs.Column.{column-at, filled, replicate-at}
 use Rattle.folds.specs.Marked.{bit}
@@ -27,6 +27,7 @@ use Rattle.peel.specs.declared.Peeled.{Peeled}
 use Rattle.folds.proofs.Counting.{tally-has}
 use Rattle.peel.proofs.Rounds.{Ends, goes_end, gone-first, gone-next, over_none, rounds-gone, rounds-few, rounds-end}
 use Rattle.peel.proofs.Leaves.{live-alive, leaf-live, leaf-weak, leaf-many, leaf-ends}
+use Rattle.std.proofs.lemmas.Bool.{and_from, and_parts, false_from_ne_true, or_cases}
 
 module _ (w : View) (sides dropped weak : List ℕ) where
   abbrev answer : Peeled
@@ -104,7 +105,7 @@ module _ (w : View) (sides dropped weak : List ℕ) where
     removed-own shared k h e = let v = removed-weak k h e in sym (shared v.0 k v.1 h v.2) ∙ v.3
 
     pub removed-live : ((j k : ℕ) → j < w.count → k < w.count → w.by_idx j ≡ w.by_idx k → get_or dropped j 0 ≡ get_or dropped k 0) → (k : ℕ) → k < w.count → is_set answer.marks k ≡ true → get_or dropped k 0 ≡ 0
-    removed-live shared k h e = let v = removed-weak k h e in sym (shared v.0 k v.1 h v.2) ∙ eqb-true (get_or dropped v.0 0) 0 (and_right (ltb v.0 w.count) _ v.4)
+    removed-live shared k h e = let v = removed-weak k h e in sym (shared v.0 k v.1 h v.2) ∙ eqb-true (get_or dropped v.0 0) 0 (and_parts (ltb v.0 w.count) _ v.4).1
 
     -- ---- how many rounds
 
@@ -127,7 +128,7 @@ module _ (w : View) (sides dropped weak : List ℕ) where
         place b h e =
             let v = gone-marked b e in
             let s : w.by_idx b ≡ b = ap w.by_idx (sym v.2) ∙ own v.0 v.1 ∙ v.2 in
-            and_both (is_set answer.marks b) (eqb (w.by_idx b) b) (mark-is b h ∙ ap (out answer.rounds) s ∙ e) (eq-eqb (w.by_idx b) b s)
+            and_from (is_set answer.marks b) (eqb (w.by_idx b) b) (mark-is b h ∙ ap (out answer.rounds) s ∙ e) (eq-eqb (w.by_idx b) b s)
 
     -- THEOREM: there are no rounds exactly when nothing is removed
     pub rounds-none : answer.rounds ≡ 0 → (k : ℕ) → k < w.count → is_set answer.marks k ≡ false
@@ -146,7 +147,7 @@ module _ (w : View) (sides dropped weak : List ℕ) where
 
   module _ (few : w.count ≤ max_points) (strong : (k : ℕ) → k < w.count → is_set weak k ≡ false) where
     no_end : (k : ℕ) → k < w.count → ends (out 0) k ≡ false
-    no_end k h = not-true (ends (out 0) k) (λ e. true≢false (sym (leaf-weak (survives w.count dropped) w.near w.by_idx sides (is_set weak) (out 0) k e) ∙ strong k h))
+    no_end k h = false_from_ne_true (ends (out 0) k) (λ e. true≢false (sym (leaf-weak (survives w.count dropped) w.near w.by_idx sides (is_set weak) (out 0) k e) ∙ strong k h))
 
     no-round : answer.rounds ≡ 0
     unfolding rounds_in

@@ -11,7 +11,6 @@ use borrow.Author.Tests.{lt-ltb}
 use lib.Dec.{eqb}
 use lib.Ieee.{Float}
 use lib.ListN.{length, get_or, replicate, length-replicate}
-use Rattle.folds.proofs.Below.{and-true, or_cases, both_ways, not-true}
 use Rattle.folds.specs.Column.{column}
 use Rattle.folds.proofs.Column.{column-ext, filled, replicate-at}
 use Rattle.folds.specs.Marked.{bit}
@@ -26,9 +25,11 @@ use Rattle.peel.specs.Peel.{live, leaf, goes, gone_after, ended, rounds_in, peel
 use Rattle.peel.specs.declared.state.State.{State}
 use Rattle.peel.specs.declared.state.State.TheVariants.{Dead}
 use Rattle.peel.specs.Work.{state_of, states_of, near_at, index_at, leaf_at, Queued, Whole, Searched, Beside, BesideQueued, Removed}
-use Rattle.folds.proofs.Counting.{either}
 use Rattle.peel.proofs.Rounds.{Ends, goes_end, gone-first, gone-next, gone-more, end-gone, not-over, is-over, rounds-are}
 use Rattle.peel.proofs.Leaves.{live-alive, live-stays, live-is, leaf-live, leaf-ends, leaf-new, states-at, states-over, leaf-is}
+use Rattle.std.proofs.Math.Bool.{and-true}
+use Rattle.std.proofs.lemmas.Bool.{cases_Bool, false_from_ne_true, or_cases}
+use Rattle.std.specs.Cmp.{both_ways}
 
 -- ---- a sheet with neighbours both ways, the ends, and the states after r rounds
 
@@ -136,11 +137,11 @@ module _ (n : ℕ) (ranks sides dropped weak : List ℕ) where
         -- what is not on the queue stays as it was
         unmoved : (k : ℕ) → k < n → get_or state' k Dead ≡ get_or state k Dead → lives r k ≡ lives (r + 1) k
         unmoved k h o = both_ways (lives r k) (lives (r + 1) k)
-            (λ e. live-is (survives n dropped) (index_at ranks) (gone (r + 1)) k (live-alive (survives n dropped) (index_at ranks) (gone r) k e) (not-true (gone (r + 1) (index_at ranks k)) (λ t. ⊎_elim
+            (λ e. live-is (survives n dropped) (index_at ranks) (gone (r + 1)) k (live-alive (survives n dropped) (index_at ranks) (gone r) k e) (false_from_ne_true (gone (r + 1) (index_at ranks k)) (λ t. ⊎_elim
             (λ (f : gone r (index_at ranks k) ≡ true). true≢false (sym f ∙ live-stays (survives n dropped) (index_at ranks) (gone r) k e))
             (λ w. two (is_set weak k) (sym (sym (removed.entries w.0 w.1 w.2) ∙ ap (λ (m : ℕ). get_or state' m Dead) w.3 ∙ o ∙ held k h ∙ ap (λ (b : Bool). state_of b (is_set weak k)) e)))
             (ready.listed k (next-old k h t)))))
-            (λ e. live-is (survives n dropped) (index_at ranks) (gone r) k (live-alive (survives n dropped) (index_at ranks) (gone (r + 1)) k e) (not-true (gone r (index_at ranks k)) (λ t. true≢false (sym (gone-more n (index_at ranks) ends known r (index_at ranks k) t) ∙ live-stays (survives n dropped) (index_at ranks) (gone (r + 1)) k e))))
+            (λ e. live-is (survives n dropped) (index_at ranks) (gone r) k (live-alive (survives n dropped) (index_at ranks) (gone (r + 1)) k e) (false_from_ne_true (gone r (index_at ranks k)) (λ t. true≢false (sym (gone-more n (index_at ranks) ends known r (index_at ranks k) t) ∙ live-stays (survives n dropped) (index_at ranks) (gone (r + 1)) k e))))
           where
             held : (k : ℕ) → k < n → get_or state k Dead ≡ state_of (lives r k) (is_set weak k)
             held k h = ap (λ (s : List State). get_or s k Dead) ready.made.is ∙ states-at n (lives r) (is_set weak) k h
@@ -165,7 +166,7 @@ module _ (n : ℕ) (ranks sides dropped weak : List ℕ) where
         }
           where
             dead : (k : ℕ) → gone (r + 1) (index_at ranks k) ≡ true → lives (r + 1) k ≡ false
-            dead k e = not-true (lives (r + 1) k) (λ t. true≢false (sym e ∙ live-stays (survives n dropped) (index_at ranks) (gone (r + 1)) k t))
+            dead k e = false_from_ne_true (lives (r + 1) k) (λ t. true≢false (sym e ∙ live-stays (survives n dropped) (index_at ranks) (gone (r + 1)) k t))
 
       -- where x is at a side of k, k is at a side of x
       beside_back : (k x : ℕ) → survives n dropped k ≡ true → survives n dropped x ≡ true → (i : ℕ) → i < length sides → near_at ranks (25 * k + get_or sides i 0) ≡ x → Beside ranks sides (length sides) x k
@@ -180,7 +181,7 @@ module _ (n : ℕ) (ranks sides dropped weak : List ℕ) where
         where
           w : (i : ℕ) × (i < length sides) × (lives r (near_at ranks (25 * k + get_or sides i 0)) ≡ true) × (lives (r + 1) (near_at ranks (25 * k + get_or sides i 0)) ≡ false)
           w = leaf-new (survives n dropped) (near_at ranks) (index_at ranks) sides (is_set weak) (gone r) (gone (r + 1)) (gone-more n (index_at ranks) ends known r) k
-              (not-true (is_end r k) (λ t. true≢false (sym (end-gone n (index_at ranks) ends known r k t) ∙ known.stays (gone (r + 1)) k e))) e
+              (false_from_ne_true (is_end r k) (λ t. true≢false (sym (end-gone n (index_at ranks) ends known r k t) ∙ known.stays (gone (r + 1)) k e))) e
 
           x : ℕ
           x = near_at ranks (25 * k + get_or sides w.0 0)
@@ -189,7 +190,7 @@ module _ (n : ℕ) (ranks sides dropped weak : List ℕ) where
           alive = live-alive (survives n dropped) (index_at ranks) (gone r) x w.2
 
           went : gone (r + 1) (index_at ranks x) ≡ true
-          went = ⊎_elim (λ t. t) (λ f. absurd (true≢false (sym (live-is (survives n dropped) (index_at ranks) (gone (r + 1)) x alive f) ∙ w.3))) (either (gone (r + 1) (index_at ranks x)))
+          went = ⊎_elim (λ t. t) (λ f. absurd (true≢false (sym (live-is (survives n dropped) (index_at ranks) (gone (r + 1)) x alive f) ∙ w.3))) (cases_Bool (gone (r + 1) (index_at ranks x)))
 
       -- nothing is on the queue: the rounds have ended
       module _ (queued : Queued marks queue tail) (l : tail ≤ from) where
@@ -209,7 +210,7 @@ module _ (n : ℕ) (ranks sides dropped weak : List ℕ) where
               (λ (z : get_or marks k 0 ≡ 0). z ∙ sym (ap bit f))
               (λ (o : get_or marks k 0 ≡ 1). absurd (true≢false (sym (out-only k o) ∙ f)))
               (zero_or_one (get_or marks k 0) (queued.bits k)))
-              (either (out r k));
+              (cases_Bool (out r k));
           left = λ k h. ⊎_elim
               (λ (z : get_or marks k 0 ≡ 0). z ∙ sym (replicate-at {A = ℕ} max_points 0 k))
               (λ (o : get_or marks k 0 ≡ 1). absurd (omega (arith, h, ready.whole.points k o)))

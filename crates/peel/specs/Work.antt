@@ -53,21 +53,16 @@ unfoldable pub last_below : (ℕ → Bool) → ℕ → Option ℕ
 last_below p zero = None
 last_below p (suc m) = cond (p m) (Some m) (last_below p m)
 
--- one more than a number, or 0 where there is none
-abbrev pub past : Option ℕ → ℕ
-past None = 0
-past (Some k) = k + 1
-
 -- rank k has the index at place b
 abbrev pub with_index : List ℕ → ℕ → ℕ → Bool
 with_index ranks b k = eqb (index_at ranks k) b
 
--- the ranks below m: at the place of an index one more than the last of its ranks, and at each rank one more than the one before it with the same index
-pub record Chained (ranks : List ℕ) (m : ℕ) (last before : List ℕ) : Type 0 where
+-- the ranks below m: at the place of an index the last of its ranks, and at each rank the one before it with the same index
+pub record Chained (ranks : List ℕ) (m : ℕ) (last before : List (Option ℕ)) : Type 0 where
   pub last_long : length last ≡ max_points
   pub before_long : length before ≡ max_points
-  pub heads : (b : ℕ) → b < max_points → get_or last b 0 ≡ past (last_below (with_index ranks b) m)
-  pub nexts : (k : ℕ) → k < m → get_or before k 0 ≡ past (last_below (with_index ranks (index_at ranks k)) k)
+  pub heads : (b : ℕ) → b < max_points → get_or last b None ≡ last_below (with_index ranks b) m
+  pub nexts : (k : ℕ) → k < m → get_or before k None ≡ last_below (with_index ranks (index_at ranks k)) k
 
 -- ---- a round
 

@@ -4,16 +4,16 @@ ghost use Rattle.peel.specs.Work.{Chained};
 
 use crate::state::States;
 use offsets::Offset;
-use view::{MAX_POINTS, Places, SheetLattice};
+use view::{MAX_POINTS, SheetLattice};
 
-// The points, the offsets that lead over a shared edge, and the chains of the ranks of each index: at the place of the index one more than the last
-// of them, and at each rank one more than the one before it; 0 where there is none.
+// The points, the offsets that lead over a shared edge, and the chains of the ranks of each index: at the place of the index the last of them, and at
+// each rank the one before it.
 #[derive(Drop)]
 pub struct Links<'a> {
     pub sheet: SheetLattice<'a>,
     pub sides: &'a [Offset],
-    last: Places,
-    before: Places,
+    last: [Option<u16>; MAX_POINTS],
+    before: [Option<u16>; MAX_POINTS],
     ghost near: { AreNear sides.now },
     ghost chained: { Chained sheet.lattice.ranks.now sheet.lattice.count last before },
 }
@@ -29,12 +29,12 @@ impl<'a> Links<'a> {
         ensures sheet { result.sheet ≡ sheet.now }
         ensures sides { result.sides.now ≡ sides.now }
     {
-        let mut last = [0; MAX_POINTS];
-        let mut before = [0; MAX_POINTS];
+        let mut last = [None; MAX_POINTS];
+        let mut before = [None; MAX_POINTS];
         for k in 0..sheet.lattice.count {
             let b = sheet.lattice.index(k);
             before[k] = last[b];
-            last[b] = (k + 1) as u16;
+            last[b] = Some(k as u16);
         }
         Links {
             sheet: *sheet,
@@ -49,7 +49,7 @@ impl<'a> Links<'a> {
         requires { k < self.now.sheet.lattice.count }
         ensures { result ≡ last_below (with_index self.now.sheet.lattice.ranks.now (index_at self.now.sheet.lattice.ranks.now k)) self.now.sheet.lattice.count }
     {
-        usize::from(self.last[self.sheet.lattice.index(k)]).checked_sub(1)
+        self.last[self.sheet.lattice.index(k)].map(usize::from)
     }
 
     // The rank before rank k with the same index.
@@ -57,7 +57,7 @@ impl<'a> Links<'a> {
         requires { k < self.now.sheet.lattice.count }
         ensures { result ≡ last_below (with_index self.now.sheet.lattice.ranks.now (index_at self.now.sheet.lattice.ranks.now k)) k }
     {
-        usize::from(self.before[k]).checked_sub(1)
+        self.before[k].map(usize::from)
     }
 
     // Rank k is live and weak, and has at most one live neighbour.

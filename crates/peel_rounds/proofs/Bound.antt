@@ -13,7 +13,7 @@ use borrow.Author.Tests.{eq-eqb, eqb-true}
 use lib.Dec.{eqb}
 use lib.ListN.{length, get_or}
 use Rattle.folds.specs.Below.{tally}
-use Rattle.folds.proofs.Below.{some_at, every-at, not-true}
+use Rattle.folds.proofs.Below.{some_at, every-at}
 use Rattle.folds.proofs.Counting.{tally-has-two, tally-has-three, tally-two-at}
 use Rattle.view.specs.View.{View}
 use Rattle.patches.specs.Reach.{paired}
@@ -23,6 +23,7 @@ use Rattle.peel.specs.Theorems.{Placed}
 use Rattle.peel.specs.declared.Peeled.{Peeled}
 use Rattle.peel_rounds.specs.Rounds.{none_twice, Neighbours, left_count}
 use Rattle.peel_rounds.proofs.Ends.{lives, is_end, lives-lt, end-lives, end-weak, end-few, many-sides, some_end, end-out, out-dead, lived, before_last, left_after}
+use Rattle.std.proofs.lemmas.Bool.{false_from_ne_true}
 
 -- ---- the list of offsets
 
@@ -93,7 +94,7 @@ module _ (w : View) (sides dropped weak : List ℕ) (placed : Placed w) where
       never : ⊥
       unfolding live_sides
       never =
-          let many = many-sides w sides dropped weak r y (not-true _ (λ e. y-waits y e refl)) y-alive (end-weak w sides dropped weak (r + 1) y ey) in
+          let many = many-sides w sides dropped weak r y (false_from_ne_true _ (λ e. y-waits y e refl)) y-alive (end-weak w sides dropped weak (r + 1) y ey) in
           let t = tally-two-at (λ (i : ℕ). alive (beside y i)) (length sides) many in
           let h : t.0 < length sides = omega arith in
           let a = opposite sides nb.opposites t.0 h in

@@ -6,8 +6,8 @@ use mathlib.Core.List.{List}
 use Prim.Native.Nat.{ℕ, zero, suc, ◌+◌, ◌≤◌, ◌<◌}
 use native.Mathlib.Omega.{arith}
 use Rattle.folds.specs.Below.{tally}
-use Rattle.folds.proofs.Below.{some_at, tally-mono, not-true, not-false}
-use Rattle.folds.proofs.Counting.{either, tally-grows}
+use Rattle.folds.proofs.Below.{some_at, tally-mono}
+use Rattle.folds.proofs.Counting.{tally-grows}
 use Rattle.view.specs.View.{View}
 use Rattle.marks.specs.Marks.{is_set}
 use Rattle.patches.specs.Patches.{survives}
@@ -18,6 +18,7 @@ use Rattle.peel.proofs.Rounds.{gone-more, end-gone, busy-before}
 use Rattle.peel.proofs.Leaves.{live-alive, live-stays, live-is, leaf-live, leaf-weak, leaf-few, leaf-many}
 use Rattle.peel.proofs.Theorems.{known}
 use Rattle.peel_rounds.specs.Rounds.{left_count}
+use Rattle.std.proofs.lemmas.Bool.{cases_Bool, false_from_ne_true, not-false}
 
 module _ (w : View) (sides dropped weak : List ℕ) where
   abbrev alive : ℕ → Bool
@@ -66,7 +67,7 @@ module _ (w : View) (sides dropped weak : List ℕ) where
     many-sides = leaf-many alive w.near w.by_idx sides (is_set weak) (out r) k
 
     pub end_is : lives r k ≡ true → is_set weak k ≡ true → sides_live r k < 2 → is_end r k ≡ true
-    end_is e f h = ⊎_elim (λ t. t) (λ t. absurd (omega (arith, h, many-sides t e f))) (either (is_end r k))
+    end_is e f h = ⊎_elim (λ t. t) (λ t. absurd (omega (arith, h, many-sides t e f))) (cases_Bool (is_end r k))
 
   pub some_end : (r : ℕ) → GoesOn r → (k : ℕ) × (k < w.count) × (is_end r k ≡ true)
   some_end r e = some_at (is_end r) w.count (not-false _ e)
@@ -78,12 +79,12 @@ module _ (w : View) (sides dropped weak : List ℕ) where
       end-out = end-gone w.count w.by_idx ends (known w sides dropped weak placed) r k
 
       pub out-dead : out r (w.by_idx k) ≡ true → lives r k ≡ false
-      out-dead e = not-true (lives r k) (λ t. true≢false (sym e ∙ live-stays alive w.by_idx (out r) k t))
+      out-dead e = false_from_ne_true (lives r k) (λ t. true≢false (sym e ∙ live-stays alive w.by_idx (out r) k t))
 
       pub lived : lives (r + 1) k ≡ true → lives r k ≡ true
       lived e =
           live-is alive w.by_idx (out r) k (live-alive alive w.by_idx (out (r + 1)) k e)
-          (not-true (out r (w.by_idx k))
+          (false_from_ne_true (out r (w.by_idx k))
           (λ t. true≢false (sym (gone-more w.count w.by_idx ends (known w sides dropped weak placed) r (w.by_idx k) t) ∙ live-stays alive w.by_idx (out (r + 1)) k e)))
 
     -- before the last round there is always one more

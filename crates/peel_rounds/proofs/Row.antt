@@ -10,7 +10,6 @@ use native.Mathlib.Omega.{arith}
 use borrow.Author.Tests.{eq-eqb, lt-ltb, le-ltb, ltb-false}
 use lib.Dec.{eqb, ltb}
 use lib.ListN.{get_or}
-use Rattle.folds.proofs.Below.{and_both, or-false, or_right, not-true}
 use Rattle.folds.proofs.Counting.{tally-has-two}
 use Rattle.folds.specs.Marked.{bit}
 use Rattle.folds.proofs.Marked.{bit_le, tally-four}
@@ -24,6 +23,8 @@ use Rattle.peel.proofs.Leaves.{live-stays, live-is}
 use Rattle.peel.proofs.Theorems.{known}
 use Rattle.peel_rounds.specs.Rounds.{InRow}
 use Rattle.peel_rounds.proofs.Ends as live
+use Rattle.std.proofs.Math.Bool.{or-false}
+use Rattle.std.proofs.lemmas.Bool.{and_from, false_from_ne_true, or_right}
 
 module _ (w : View) (dropped weak : List ℕ) (m : ℕ) (long : w.count ≡ m + 1) (row : InRow w dropped weak) where
   abbrev four : List ℕ
@@ -55,7 +56,7 @@ module _ (w : View) (dropped weak : List ℕ) (m : ℕ) (long : w.count ≡ m + 
     still : (k : ℕ) → r ≤ k → k < w.count → lives r k ≡ true
     still k h g =
         live-is (survives w.count dropped) w.by_idx (out r) k
-        (and_both (ltb k w.count) (eqb (get_or dropped k 0) 0) (lt-ltb k w.count g) (eq-eqb (get_or dropped k 0) 0 (row.undropped k g)))
+        (and_from (ltb k w.count) (eqb (get_or dropped k 0) 0) (lt-ltb k w.count g) (eq-eqb (get_or dropped k 0) 0 (row.undropped k g)))
         (ap (out r) (row.own k g) ∙ gone k ∙ le-ltb k r h)
 
     later : (k : ℕ) → lives r k ≡ true → (k < w.count) × (r ≤ k)
@@ -69,7 +70,7 @@ module _ (w : View) (dropped weak : List ℕ) (m : ℕ) (long : w.count ≡ m + 
     few h = omega (arith, tally-four (λ (i : ℕ). lives r (w.near (25 * r + get_or four i 0))), ap bit before, ap bit below, ap bit above, bit_le (lives r (rank_at w r next_u)))
       where
         before : lives r (rank_at w r prev_u) ≡ false
-        before = not-true _ (λ e. let v = later _ e in elim (ℕ_discrete r 0) [
+        before = false_from_ne_true _ (λ e. let v = later _ e in elim (ℕ_discrete r 0) [
           | yes d ↦ omega (arith, v.0, row.first, ap (λ (k : ℕ). rank_at w k prev_u) d)
           | no d ↦
               let z : r - 1 + 1 ≡ r = omega (arith, d) in
@@ -77,10 +78,10 @@ module _ (w : View) (dropped weak : List ℕ) (m : ℕ) (long : w.count ≡ m + 
         ])
 
         below : lives r (rank_at w r prev_v) ≡ false
-        below = not-true _ (λ e. omega (arith, (later _ e).0, (row.beside r (omega arith)).0))
+        below = false_from_ne_true _ (λ e. omega (arith, (later _ e).0, (row.beside r (omega arith)).0))
 
         above : lives r (rank_at w r next_v) ≡ false
-        above = not-true _ (λ e. omega (arith, (later _ e).0, (row.beside r (omega arith)).1))
+        above = false_from_ne_true _ (λ e. omega (arith, (later _ e).0, (row.beside r (omega arith)).1))
 
     first-end : r + 1 < w.count → is_end r r ≡ true
     first-end h = live.end_is w four dropped weak r r (still r (omega arith) (omega arith)) (row.weaks r h) (few h)
@@ -112,7 +113,7 @@ module _ (w : View) (dropped weak : List ℕ) (m : ℕ) (long : w.count ≡ m + 
           ∙ sym (lt-ltb b (r + 1) (omega arith))
       | no d ↦
           ap (λ (t : Bool). out r b || t)
-          (not-true (goes w.count w.by_idx ends (out r) b)
+          (false_from_ne_true (goes w.count w.by_idx ends (out r) b)
           (λ e. let v = goes_end w.count w.by_idx ends (out r) b e in d (sym v.3 ∙ row.own v.0 v.1 ∙ (only v.0 v.2).0)))
           ∙ or-false (out r b) ∙ gone b ∙ other d
     ]

@@ -10,7 +10,7 @@ use borrow.Author.Tests.{eqb-true, eq-eqb, ne_eqb}
 use Rattle.folds.specs.Among.{any_in, pair_in}
 use Rattle.folds.proofs.Among.{any-list, pair-ext}
 use Rattle.folds.specs.Below.{some}
-use Rattle.folds.proofs.Below.{some-ext, some-fails, and_left, and_right, and_both, both_ways}
+use Rattle.folds.proofs.Below.{some-ext, some-fails}
 use Rattle.view.specs.View.{max_points}
 use Rattle.cells.specs.Points.{Point, biased, key_of}
 use Rattle.cells.specs.Cell.{signed, within, InRange}
@@ -25,14 +25,16 @@ use Rattle.points.specs.Entries.{clash, Likeness, never}
 use Rattle.sort.proofs.Entries.{entry_at}
 use Rattle.points.proofs.Ordering.{entry_key}
 use Rattle.points.proofs.Neighbours.{eqb_swap, sorted-neighbours}
+use Rattle.std.proofs.lemmas.Bool.{and_from, and_parts}
+use Rattle.std.specs.Cmp.{both_ways}
 
 -- ---- entries and pairs
 
 same-through : (p q r : Point) → same_position p q ≡ true → same_position q r ≡ true → same_position p r ≡ true
 same-through p q r a b =
-    let x : p.x ≡ r.x = eqb-true p.x q.x (and_left (eqb p.x q.x) (eqb p.y q.y) a) ∙ eqb-true q.x r.x (and_left (eqb q.x r.x) (eqb q.y r.y) b) in
-    let y : p.y ≡ r.y = eqb-true p.y q.y (and_right (eqb p.x q.x) (eqb p.y q.y) a) ∙ eqb-true q.y r.y (and_right (eqb q.x r.x) (eqb q.y r.y) b) in
-    and_both (eqb p.x r.x) (eqb p.y r.y) (eq-eqb p.x r.x x) (eq-eqb p.y r.y y)
+    let x : p.x ≡ r.x = eqb-true p.x q.x (and_parts (eqb p.x q.x) (eqb p.y q.y) a).0 ∙ eqb-true q.x r.x (and_parts (eqb q.x r.x) (eqb q.y r.y) b).0 in
+    let y : p.y ≡ r.y = eqb-true p.y q.y (and_parts (eqb p.x q.x) (eqb p.y q.y) a).1 ∙ eqb-true q.y r.y (and_parts (eqb q.x r.x) (eqb q.y r.y) b).1 in
+    and_from (eqb p.x r.x) (eqb p.y r.y) (eq-eqb p.x r.x x) (eq-eqb p.y r.y y)
 
 strength-through : (p q r : Point) → same_strength p q ≡ true → same_strength q r ≡ true → same_strength p r ≡ true
 strength-through p q r a b = eq-eqb p.strength r.strength (eqb-true p.strength q.strength a ∙ eqb-true q.strength r.strength b)
@@ -104,16 +106,16 @@ cells-by-key p q r t = both_ways (same_cell p q) (eqb (key_of p) (key_of q) && t
   where
     to : same_cell p q ≡ true → eqb (key_of p) (key_of q) && true ≡ true
     to e =
-        let u : p.u ≡ q.u = eqb-true p.u q.u (and_left (eqb p.u q.u) (eqb p.v q.v) e) in
-        let v : p.v ≡ q.v = eqb-true p.v q.v (and_right (eqb p.u q.u) (eqb p.v q.v) e) in
+        let u : p.u ≡ q.u = eqb-true p.u q.u (and_parts (eqb p.u q.u) (eqb p.v q.v) e).0 in
+        let v : p.v ≡ q.v = eqb-true p.v q.v (and_parts (eqb p.u q.u) (eqb p.v q.v) e).1 in
         rw (u, v, eq-eqb (key_of q) (key_of q) refl)
 
     from : eqb (key_of p) (key_of q) && true ≡ true → same_cell p q ≡ true
     from e =
-        let k : key_of p ≡ key_of q = eqb-true (key_of p) (key_of q) (and_left (eqb (key_of p) (key_of q)) true e) in
+        let k : key_of p ≡ key_of q = eqb-true (key_of p) (key_of q) (and_parts (eqb (key_of p) (key_of q)) true e).0 in
         let u : p.u ≡ q.u = omega (arith, k, r.cell.fits-u, t.cell.fits-u, r.u, t.u, r.v, t.v) in
         let v : p.v ≡ q.v = omega (arith, k, r.cell.fits-v, t.cell.fits-v, r.u, t.u, r.v, t.v) in
-        and_both (eqb p.u q.u) (eqb p.v q.v) (eq-eqb p.u q.u u) (eq-eqb p.v q.v v)
+        and_from (eqb p.u q.u) (eqb p.v q.v) (eq-eqb p.u q.u u) (eq-eqb p.v q.v v)
 
 module _ (file : List ℕ) (f : Layout) where
   -- no point has a fault

@@ -5,7 +5,6 @@ use mathlib.Core.List.{List}
 use Prim.Native.Nat.{ℕ, ◌/◌, ◌%◌, ◌≤◌, ◌<◌}
 use native.Mathlib.Omega.{arith}
 use lib.ListN.{length, get_or}
-use Rattle.folds.proofs.Below.{or-none}
 use Rattle.folds.specs.Arith.{f32}
 use Rattle.folds.specs.Column.{column}
 use Rattle.folds.proofs.Column.{column-ext}
@@ -25,6 +24,7 @@ use Rattle.points.specs.declared.records.Order.{Order}
 use Rattle.sort.proofs.Entries.{entry_at}
 use Rattle.points.proofs.Ordering.{entry_key}
 use Rattle.points.proofs.Clashes.{none-off, all-ranged}
+use Rattle.std.proofs.lemmas.Bool.{or_parts}
 
 module _ (file : List ℕ) (f : Layout) where
   abbrev n : ℕ
@@ -79,7 +79,7 @@ module _ (o : Order) (a : InCellOrder o) (r : ℕ) (l : r < o.points.layout.coun
       omega (arith, e, g.u, g.v)
 
   inside : (outside (f32 (at_rank o r).x) ≡ false) × (outside (f32 (at_rank o r).y) ≡ false)
-  inside = or-none (outside (f32 (at_rank o r).x)) (outside (f32 (at_rank o r).y)) (none-off o.points.file.now f off_limit a.in-limit place (o.placed r l))
+  inside = or_parts (outside (f32 (at_rank o r).x)) (outside (f32 (at_rank o r).y)) (none-off o.points.file.now f off_limit a.in-limit place (o.placed r l))
 
   pub x_inside : outside (f32 (at_rank o r).x) ≡ false
   x_inside = inside.0

@@ -12,12 +12,13 @@ use borrow.Author.Tests.{eq-eqb, ne_eqb}
 use Rattle.folds.specs.Among.{pair_in}
 use Rattle.folds.proofs.Among.{pair-yes, pair-no, pair-order}
 use Rattle.folds.specs.Below.{some}
-use Rattle.folds.proofs.Below.{some_at, some-fails, not-false}
+use Rattle.folds.proofs.Below.{some_at, some-fails}
 use Rattle.folds.specs.Lists.{list_of}
 use Rattle.sort.proofs.Sorted.{sort-perm}
 use Rattle.points.specs.Entries.{clash, Likeness}
 use Rattle.sort.specs.Packed.{packed_places, placed}
 use Rattle.sort.proofs.Packed.{placed-key, placed-rises, things-in-order}
+use Rattle.std.proofs.lemmas.Bool.{not-false}
 
 pub eqb_swap : (a b : ℕ) → eqb a b ≡ eqb b a
 eqb_swap a b = go (ℕ_discrete a b)

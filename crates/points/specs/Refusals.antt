@@ -4,7 +4,7 @@ use Rattle.std.specs.Prelude.{Bool, true, false, not, ◌&&◌, ◌||◌, List, 
 use Rattle.folds.specs.Among.{any_in, pair_in}
 use Rattle.folds.specs.Arith.{f32}
 use Rattle.sort.specs.Sorted.{sort}
-use Rattle.refusals.specs.First.{Condition, ruled, number_in}
+use Rattle.refusals.specs.First.{Condition, number_in}
 use Rattle.cells.specs.Points.{Point, key_of}
 use Rattle.cells.specs.Cell.{signed, within}
 use Rattle.sheet_file.specs.Limit.{outside}

@@ -1,5 +1,5 @@
 -- The table of the points in cell order, one column a field, and what is read of a list of points. Assumes nothing.
-use Rattle.std.specs.Prelude.{◌≡◌, List, ℕ, Result, Ok, Err}
+use Rattle.std.specs.Prelude.{◌≡◌, List, Result, Ok, Err}
 use Rattle.refusals.specs.Number.{refusal_number}
 use Rattle.refusals.specs.declared.Refusal.{Refusal}
 use Rattle.cells.specs.Points.{Point, keys_of, indices_of, xs_of, ys_of, strengths_of}

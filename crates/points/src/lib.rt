@@ -1,14 +1,11 @@
 // The points of a sheet file: the refusals 6, 7, 13, 8, 9 and 14, and the points in cell order.
 #![tactic(auto)]
 
-ghost use Rattle.std.specs.Prelude.{◌≡◌, false, not, ◌||◌, [], ℕ, Bool, ◌+◌, ◌*◌, ◌/◌, ◌%◌, ◌≤◌, ◌<◌, length, get_or};
+ghost use Rattle.std.specs.Prelude.{◌≡◌, false, not, ◌||◌, ℕ, Bool, ◌+◌, ◌*◌, ◌/◌, ◌%◌, ◌≤◌, ◌<◌, length, get_or};
 ghost use Rattle.folds.specs.Among.{any_in, pair_in};
 ghost use Rattle.folds.specs.Arith.{f32};
-ghost use Rattle.folds.specs.Below.{some};
-ghost use Rattle.folds.specs.Column.{column};
 ghost use Rattle.cells.specs.Points.{Point, key_of};
-ghost use Rattle.view.specs.View.{max_points};
-ghost use Rattle.sort.specs.Packed.{packed_places, in_order_of, entries_of};
+ghost use Rattle.sort.specs.Packed.{packed_places};
 ghost use Rattle.points.specs.Records.{points_in, PointsFit};
 ghost use Rattle.points.specs.Refusals.{off_range, off_limit, off_strength, off_fraction, same_position, two_positions, two_strengths, cell_order};
 ghost use Rattle.points.specs.Entries.{Likeness, clash, never};

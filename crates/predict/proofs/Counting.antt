@@ -7,8 +7,9 @@ use native.Mathlib.Omega.{arith}
 use borrow.Author.Tests.{eq-eqb, ne_eqb}
 use lib.Dec.{eqb}
 use Rattle.folds.specs.Below.{tally}
-use Rattle.folds.proofs.Below.{and_left, and_both, and-false}
 use Rattle.folds.proofs.Counting.{tally-grows}
+use Rattle.std.proofs.Math.Bool.{and-false}
+use Rattle.std.proofs.lemmas.Bool.{and_from, and_parts}
 
 -- where no number passes both, they pass no more than there are
 pub tally-apart : (p q : ℕ → Bool) (n : ℕ) → ((k : ℕ) → k < n → p k ≡ true → q k ≡ false) → tally p n + tally q n ≤ n
@@ -40,12 +41,12 @@ tally-into p q (suc n) m to apart =
     still e k l f =
         let t = to k (le_step l) f in
         let last = (to n (lt-suc_self n) e).0 in
-        (t.0, t.1, and_both (q t.0) (not (eqb t.0 last)) t.2 (ap not (ne_eqb t.0 last (apart k n (le_step l) (lt-suc_self n) f e l))))
+        (t.0, t.1, and_from (q t.0) (not (eqb t.0 last)) t.2 (ap not (ne_eqb t.0 last (apart k n (le_step l) (lt-suc_self n) f e l))))
 
     fewer : (e : p n ≡ true) → tally (rest e) m < tally q m
     fewer e =
         let t = to n (lt-suc_self n) e in
-        tally-grows (rest e) q m t.0 t.1 (rw (eq-eqb t.0 t.0 refl) (and-false (q t.0))) t.2 (λ j l. and_left (q j) (not (eqb j t.0)))
+        tally-grows (rest e) q m t.0 t.1 (rw (eq-eqb t.0 t.0 refl) (and-false (q t.0))) t.2 (λ j l. (λ h. (and_parts (q j) (not (eqb j t.0)) h).0))
 
     go : (b : Bool) → p n ≡ b → tally p n ≤ tally q m → ((e : p n ≡ true) → tally p n ≤ tally (rest e) m) → cond b (tally p n + 1) (tally p n) ≤ tally q m
     go true e l r = omega (arith, fewer e, r e)

@@ -5,7 +5,7 @@ use mathlib.Core.Bool.{Bool, true, false, cond}
 use mathlib.Core.Logic.{inl, inr}
 use mathlib.Core.List.{List}
 use Prim.Native.Nat.{ℕ, zero, suc, ◌+◌, ◌*◌, ◌^◌, ◌≤◌, ◌<◌}
-use native.Mathlib.Nat.{le_trans, lt-suc_self, le_step, mul-pos, mul_comm, mul_assoc, mul-one, mul-le-mul_right, mul_right_comm}
+use native.Mathlib.Nat.{le_trans, lt-suc_self, le_step, mul-pos, mul_assoc, mul-one, mul-le-mul_right, mul_right_comm, mul-le-mul_left}
 use native.Mathlib.Omega.{arith}
 use borrow.Author.Tests.{ne_eqb}
 use lib.Dec.{T}
@@ -18,7 +18,7 @@ use lib.ListN.{length}
 use lib.Pow.{pow_mono}
 use Rattle.folds.specs.Arith.{◌⊕◌, ◌⊗◌, ◌⊘◌}
 use Rattle.folds.specs.Below.{sum_of}
-use Rattle.folds.proofs.Below.{and_left, and_right, tally-le}
+use Rattle.folds.proofs.Below.{tally-le}
 use Rattle.float.specs.Constants.{half}
 use Rattle.float.specs.Scalar.{abs_of}
 use Rattle.float.proofs.Order.{plain, plain-cases, plain-round}
@@ -32,6 +32,7 @@ use Rattle.predict.specs.Theorems.{both_there, Met}
 use Rattle.predict.specs.declared.PredictedPosition.{PredictedPosition}
 use Rattle.std.specs.Prelude.{Some}
 use Rattle.predict.proofs.Theorems.{counted-some}
+use Rattle.std.proofs.lemmas.Bool.{and_parts}
 
 -- ---- sums
 
@@ -102,10 +103,7 @@ over-whole k (fin s m e) (fin t a d) n h p q v = rw (ne_eqb a 0 nonzero) (round-
     bound : m * up e * down d ≤ 2 ^ k * (a * up d * down e)
     bound =
         le_trans (mul-le-mul_right (down d) p)
-        (rw (mul_right_comm (2 ^ k) (down e) (down d), mul_assoc (2 ^ k) (down d) (down e)) (mul-le (2 ^ k) (down d * down e) (a * up d * down e) (mul-le-mul_right (down e) more)))
-      where
-        mul-le : (x y z : ℕ) → y ≤ z → x * y ≤ x * z
-        mul-le x y z l = rw (mul_comm x y, mul_comm x z) (mul-le-mul_right x l)
+        (rw (mul_right_comm (2 ^ k) (down e) (down d), mul_assoc (2 ^ k) (down d) (down e)) (mul-le-mul_left (2 ^ k) (mul-le-mul_right (down e) more)))
 
 -- ---- the prediction
 
@@ -124,8 +122,8 @@ module _ (sides : List Offset) (there : Offset → Bool) (few : length sides ≤
       value : (i : ℕ) → i < length sides → is_pair sides there i ≡ true → Within 15 (midpoint sides f i)
       value i h e =
           let o = side_at sides i in
-          let both = and_right (is_forward o) (both_there sides there i) e in
-          half-way (f o) (f (opposite o)) (each o (i, h, inl refl) (and_left (there o) (there (opposite o)) both)) (each (opposite o) (i, h, inr refl) (and_right (there o) (there (opposite o)) both))
+          let both = (and_parts (is_forward o) (both_there sides there i) e).1 in
+          half-way (f o) (f (opposite o)) (each o (i, h, inl refl) (and_parts (there o) (there (opposite o)) both).0) (each (opposite o) (i, h, inr refl) (and_parts (there o) (there (opposite o)) both).1)
 
   pub prediction-finite : (x y : Offset → Float) (p : PredictedPosition) → ((o : Offset) → Met sides o → there o ≡ true → Within 14 (x o) × Within 14 (y o)) → prediction sides there x y ≡ Some p
       → T (finite p.x) × T (finite p.y)

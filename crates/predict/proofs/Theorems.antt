@@ -10,7 +10,7 @@ use lib.IntN.{ℤ, neg_ℤ, neg_ℤ-neg_ℤ}
 use lib.Dec.{eqb, ltb}
 use lib.Ieee.{Float}
 use lib.ListN.{length, get_or}
-use Rattle.folds.proofs.Below.{and_left, and_right, and_both, and-false, not-true, some-yes, tally-some, tally-ext, sum-ext}
+use Rattle.folds.proofs.Below.{some-yes, tally-some, tally-ext, sum-ext}
 use Rattle.folds.proofs.Counting.{tally-no, tally-has}
 use Rattle.offsets.specs.declared.Offset.{Offset}
 use Rattle.offsets.specs.Offsets.{own, offset, square_sides, is_within2, is_near, place_of, offset_of, places}
@@ -24,6 +24,8 @@ use Rattle.predict.specs.declared.PredictedPosition.{PredictedPosition}
 use Rattle.std.specs.Prelude.{None, Some}
 use Rattle.predict.proofs.Places.{forward-place, opposite-place}
 use Rattle.predict.proofs.Counting.{tally-apart, tally-into}
+use Rattle.std.proofs.Math.Bool.{and-false}
+use Rattle.std.proofs.lemmas.Bool.{and_from, and_parts, false_from_ne_true}
 
 -- ---- an offset and its opposite
 
@@ -31,7 +33,7 @@ within-negated : (z : ℤ) → is_within2 z ≡ true → is_within2 (neg_ℤ z) 
 within-negated = each-within-2 (λ z. is_within2 (neg_ℤ z) ≡ true) refl refl refl refl refl
 
 pub near-opposite : (o : Offset) → is_near o ≡ true → is_near (opposite o) ≡ true
-near-opposite o h = and_both (is_within2 (neg_ℤ o.du)) (is_within2 (neg_ℤ o.dv)) (within-negated o.du (within-u o h)) (within-negated o.dv (within-v o h))
+near-opposite o h = and_from (is_within2 (neg_ℤ o.du)) (is_within2 (neg_ℤ o.dv)) (within-negated o.du (within-u o h)) (within-negated o.dv (within-v o h))
 
 opposite-twice : (o : Offset) → opposite (opposite o) ≡ o
 opposite-twice o = ap (λ (z : ℤ). offset z (neg_ℤ (neg_ℤ o.dv))) (neg_ℤ-neg_ℤ o.du) ∙ ap (offset o.du) (neg_ℤ-neg_ℤ o.dv)
@@ -73,19 +75,19 @@ module _ (sides : List Offset) (op : Opposed sides) where
         o = side_at sides i
 
         go : (b : Bool) → is_forward o ≡ b → (j : ℕ) × (j < length sides) × (is_pair sides there j ≡ true)
-        go true f = (i, h, and_both (is_forward o) (both_there sides there i) f e)
+        go true f = (i, h, and_from (is_forward o) (both_there sides there i) f e)
         go false f =
             let v = opposite-at i h in
             let near = op.near i h in
             let back = leb-false 12 (d i) (sym (forward-place o near) ∙ f) in
             let ahead : is_forward (opposite o) ≡ true = forward-place (opposite o) (near-opposite o near) ∙ le-leb 12 (place_of (opposite o)) (omega (arith, opposite-place o near)) in
-            let both : there (opposite o) && there (opposite (opposite o)) ≡ true = and_both (there (opposite o)) (there (opposite (opposite o))) (and_right (there o) (there (opposite o)) e) (ap there (opposite-twice o) ∙ and_left (there o) (there (opposite o)) e) in
-            (v.0, v.1, ap (λ (p : Offset). is_forward p && (there p && there (opposite p))) v.2 ∙ and_both (is_forward (opposite o)) (there (opposite o) && there (opposite (opposite o))) ahead both)
+            let both : there (opposite o) && there (opposite (opposite o)) ≡ true = and_from (there (opposite o)) (there (opposite (opposite o))) (and_parts (there o) (there (opposite o)) e).1 (ap there (opposite-twice o) ∙ (and_parts (there o) (there (opposite o)) e).0) in
+            (v.0, v.1, ap (λ (p : Offset). is_forward p && (there p && there (opposite p))) v.2 ∙ and_from (is_forward (opposite o)) (there (opposite o) && there (opposite (opposite o))) ahead both)
 
     no-count : pair_count sides there ≡ 0 → (i : ℕ) → i < length sides → both_there sides there i ≡ false
     unfolding pair_count
     no-count z i h =
-        not-true (both_there sides there i)
+        false_from_ne_true (both_there sides there i)
         (λ e. let v = one-forward i h e in omega (arith, tally-some (is_pair sides there) (length sides) (some-yes (is_pair sides there) (length sides) v.0 v.1 v.2)))
 
   -- ---- half of the offsets
@@ -95,8 +97,8 @@ module _ (sides : List Offset) (op : Opposed sides) where
     later : (i : ℕ) → i < length sides → is_pair sides there i ≡ true → 12 < d i
     later i h e =
         let o = side_at sides i in
-        let forward = leb-true 12 (d i) (sym (forward-place o (op.near i h)) ∙ and_left (is_forward o) (both_there sides there i) e) in
-        let kept = and_left (there o) (there (opposite o)) (and_right (is_forward o) (both_there sides there i) e) in
+        let forward = leb-true 12 (d i) (sym (forward-place o (op.near i h)) ∙ (and_parts (is_forward o) (both_there sides there i) e).0) in
+        let kept = (and_parts (there o) (there (opposite o)) (and_parts (is_forward o) (both_there sides there i) e).1).0 in
         let itself : d i ≡ 12 → ⊥ = λ q. true≢false (sym kept ∙ ap there (sym (place-offset o (op.near i h)) ∙ ap offset_of q) ∙ alone) in
         omega (arith, itself)
 
@@ -165,7 +167,7 @@ module _ (sides : List Offset) (there : Offset → Bool) (x y : Offset → Float
 
   pair_found : 0 < pair_count sides there → (i : ℕ) × (i < length sides) × (both_there sides there i ≡ true)
   unfolding pair_count
-  pair_found h = let v = tally-has (is_pair sides there) (length sides) h in (v.0, v.1, and_right (is_forward (side_at sides v.0)) (both_there sides there v.0) v.2)
+  pair_found h = let v = tally-has (is_pair sides there) (length sides) h in (v.0, v.1, (and_parts (is_forward (side_at sides v.0)) (both_there sides there v.0) v.2).1)
 
 -- THEOREM
 pub no-pair-exactly : NoPairTheorem
@@ -201,8 +203,8 @@ module _ (sides : List Offset) (there₁ there₂ : Offset → Bool) (x₁ x₂ 
       value : (i : ℕ) → i < length sides → is_pair sides there₂ i ≡ true → midpoint sides f i ≡ midpoint sides g i
       value i h e =
           let o = side_at sides i in
-          let both = and_right (is_forward o) (both_there sides there₁ i) (pair-alike i h ∙ e) in
-          rw (same o (i, h, inl refl) (and_left (there₁ o) (there₁ (opposite o)) both), same (opposite o) (i, h, inr refl) (and_right (there₁ o) (there₁ (opposite o)) both))
+          let both = (and_parts (is_forward o) (both_there sides there₁ i) (pair-alike i h ∙ e)).1 in
+          rw (same o (i, h, inl refl) (and_parts (there₁ o) (there₁ (opposite o)) both).0, same (opposite o) (i, h, inr refl) (and_parts (there₁ o) (there₁ (opposite o)) both).1)
 
   same-predicted : prediction sides there₁ x₁ y₁ ≡ prediction sides there₂ x₂ y₂
   same-predicted = rw (prediction-is sides there₁ x₁ y₁, prediction-is sides there₂ x₂ y₂, count-alike, mean-alike x₁ x₂ alike.x, mean-alike y₁ y₂ alike.y)

@@ -9,7 +9,6 @@ use native.Mathlib.Omega.{arith}
 use lib.ListN.{length, get_or}
 use lib.Ieee.{nan}
 use Rattle.folds.specs.Arith.{f32}
-use Rattle.folds.proofs.Below.{or-none}
 use Rattle.folds.proofs.Lists.{list_at}
 use Rattle.folds.proofs.Column.{column-at}
 use Rattle.view.specs.View.{View, max_points}
@@ -35,6 +34,7 @@ use Rattle.judging.specs.Judging.{judged_for}
 use Rattle.rows.specs.Rows.{row_of, row_size}
 use Rattle.rows.proofs.Theorems.{byte-shown}
 use Rattle.kept.specs.Answer.{rows_by, rows_after}
+use Rattle.std.proofs.lemmas.Bool.{or_parts}
 
 -- ---- the positions
 
@@ -46,7 +46,7 @@ inside ps h = record {
 }
   where
     limited : (k : ℕ) → k < length ps → (outside (f32 (get_or ps k nowhere).x) ≡ false) × (outside (f32 (get_or ps k nowhere).y) ≡ false)
-    limited k l = or-none (outside (f32 (get_or ps k nowhere).x)) (outside (f32 (get_or ps k nowhere).y)) (h k l)
+    limited k l = or_parts (outside (f32 (get_or ps k nowhere).x)) (outside (f32 (get_or ps k nowhere).y)) (h k l)
 
 count-is : (ps : List Point) → (view_of ps).count ≡ length ps
 unfolding view_of

@@ -8,13 +8,11 @@ use native.Mathlib.Omega.{arith}
 use lib.Dec.{eqb}
 use borrow.Author.Tests.{eqb-true, eq-eqb, ne_eqb}
 use Rattle.folds.specs.Below.{some, tally, last}
-use Rattle.folds.proofs.Below.{and_left, and_right, and_both, and-false, and-true, not-true, some_at, some-yes, some-fails, tally-ext, last-holds}
+use Rattle.folds.proofs.Below.{some_at, some-yes, some-fails, tally-ext, last-holds}
 use Rattle.folds.proofs.Counting.{tally-no}
 use Rattle.promises.specs.Tally.{different}
-
-and_first : (a b c : Bool) → a && (b && c) ≡ (a && b) && c
-and_first true b c = refl
-and_first false b c = refl
+use Rattle.std.proofs.Math.Bool.{and-false, and-true, and_assoc}
+use Rattle.std.proofs.lemmas.Bool.{and_from, and_parts, false_from_ne_true}
 
 -- ---- counting
 
@@ -42,7 +40,7 @@ tally-single p zero m h e one = absurd (omega arith)
 tally-single p (suc n) m h e one = go (p n) refl (λ l. tally-single p n m l e (λ k a r. one k (le_step a) r))
   where
     go : (b : Bool) → p n ≡ b → (m < n → tally p n ≡ 1) → cond b (tally p n + 1) (tally p n) ≡ 1
-    go true q again = rw (tally-no p n (λ k l. not-true (p k) (λ r. omega (arith, one k (le_step l) r, one n (lt-suc_self n) q))))
+    go true q again = rw (tally-no p n (λ k l. false_from_ne_true (p k) (λ r. omega (arith, one k (le_step l) r, one n (lt-suc_self n) q))))
     go false q again = let other : m ≡ n → ⊥ = λ a. true≢false (sym e ∙ ap p a ∙ q) in again (omega (arith, other))
 
 -- ---- the last of each number
@@ -75,32 +73,32 @@ module _ (f : ℕ → ℕ) where
     module _ (n : ℕ) (alike : (j k : ℕ) → j < suc n → k < suc n → f j ≡ f k → q j ≡ q k) where
       next-passes : (k : ℕ) → k < n → of_next n k ≡ true → (q k ≡ true) × (f n ≡ f k) × (q n ≡ true)
       next-passes k l e =
-          let a = and_left (q k && is_last n k) (eqb (f n) (f k)) e in
-          let b = eqb-true (f n) (f k) (and_right (q k && is_last n k) (eqb (f n) (f k)) e) in
-          let c = and_left (q k) (is_last n k) a in
+          let a = (and_parts (q k && is_last n k) (eqb (f n) (f k)) e).0 in
+          let b = eqb-true (f n) (f k) (and_parts (q k && is_last n k) (eqb (f n) (f k)) e).1 in
+          let c = (and_parts (q k) (is_last n k) a).0 in
           (c, b, alike n k (lt-suc_self n) (le_step l) b ∙ c)
 
       none-without : q n ≡ false → tally (of_next n) n ≡ 0
-      none-without e = tally-no (of_next n) n (λ k l. not-true (of_next n k) (λ r. true≢false (sym (next-passes k l r).2 ∙ e)))
+      none-without e = tally-no (of_next n) n (λ k l. false_from_ne_true (of_next n k) (λ r. true≢false (sym (next-passes k l r).2 ∙ e)))
 
       none-earlier : some (λ (j : ℕ). q j && eqb (f j) (f n)) n ≡ false → tally (of_next n) n ≡ 0
       none-earlier e =
           tally-no (of_next n) n
-          (λ k l. not-true (of_next n k)
-          (λ r. let g = next-passes k l r in true≢false (sym (and_both (q k) (eqb (f k) (f n)) g.0 (eq-eqb (f k) (f n) (sym g.1))) ∙ some-fails (λ (j : ℕ). q j && eqb (f j) (f n)) n e k l)))
+          (λ k l. false_from_ne_true (of_next n k)
+          (λ r. let g = next-passes k l r in true≢false (sym (and_from (q k) (eqb (f k) (f n)) g.0 (eq-eqb (f k) (f n) (sym g.1))) ∙ some-fails (λ (j : ℕ). q j && eqb (f j) (f n)) n e k l)))
 
       one_earlier : q n ≡ true → some (λ (j : ℕ). q j && eqb (f j) (f n)) n ≡ true → tally (of_next n) n ≡ 1
       one_earlier e s =
           let p : ℕ → Bool = λ j. eqb (f j) (f n) in
           let w = some_at (λ (j : ℕ). q j && p j) n s in
-          let g = last-holds p 0 n (some-yes p n w.0 w.1 (and_right (q w.0) (p w.0) w.2)) in
+          let g = last-holds p 0 n (some-yes p n w.0 w.1 (and_parts (q w.0) (p w.0) w.2).1) in
           let m = last p 0 n in
           let same : f m ≡ f n = eqb-true (f m) (f n) g.1 in
           let stands : is_last n m ≡ true = ap (λ (x : ℕ). eqb (last (λ (j : ℕ). eqb (f j) x) 0 n) m) same ∙ eq-eqb m m refl in
           let passes : q m ≡ true = alike m n (le_step g.0) (lt-suc_self n) same ∙ e in
-          tally-single (of_next n) n m g.0 (and_both (q m && is_last n m) (eqb (f n) (f m)) (and_both (q m) (is_last n m) passes stands) (eq-eqb (f n) (f m) (sym same)))
+          tally-single (of_next n) n m g.0 (and_from (q m && is_last n m) (eqb (f n) (f m)) (and_from (q m) (is_last n m) passes stands) (eq-eqb (f n) (f m) (sym same)))
           (λ k l r. let h = next-passes k l r in
-          let it = eqb-true (last (λ (j : ℕ). eqb (f j) (f k)) 0 n) k (and_right (q k) (is_last n k) (and_left (q k && is_last n k) (eqb (f n) (f k)) r)) in
+          let it = eqb-true (last (λ (j : ℕ). eqb (f j) (f k)) 0 n) k (and_parts (q k) (is_last n k) (and_parts (q k && is_last n k) (eqb (f n) (f k)) r).0).1 in
           sym it ∙ ap (λ (x : ℕ). last (λ (j : ℕ). eqb (f j) x) 0 n) (sym h.1))
 
     -- if numbers that are alike pass alike, as many last ones pass as there are different numbers
@@ -114,7 +112,7 @@ module _ (f : ℕ → ℕ) where
         split = tally-split (λ (k : ℕ). q k && is_last n k) (λ (k : ℕ). eqb (f n) (f k)) n
 
         turn : tally (λ (k : ℕ). q k && is_last (suc n) k) n ≡ tally (of_others n) n
-        turn = tally-ext (λ (k : ℕ). q k && is_last (suc n) k) (of_others n) n (λ k l. ap (λ (b : Bool). q k && b) (last_turn n k l) ∙ and_first (q k) (is_last n k) (not (eqb (f n) (f k))))
+        turn = tally-ext (λ (k : ℕ). q k && is_last (suc n) k) (of_others n) n (λ k l. ap (λ (b : Bool). q k && b) (last_turn n k l) ∙ sym (and_assoc (q k) (is_last n k) (not (eqb (f n) (f k)))))
 
         go : tally (λ (k : ℕ). q k && is_last n k) n ≡ different q f n → (a : Bool) → q n ≡ a → (b : Bool) → some (λ (j : ℕ). q j && eqb (f j) (f n)) n ≡ b
             → cond (a && true) (tally (of_others n) n + 1) (tally (of_others n) n) ≡ cond (a && not b) (different q f n + 1) (different q f n)

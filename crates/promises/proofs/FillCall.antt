@@ -1,9 +1,9 @@
 -- The call for the fills, of every file and buffer. Assumes nothing.
 use Rattle.std.specs.Prelude.{Err}
 use mathlib.Core.Path.{◌≡◌, refl, sym, ap, ◌∙◌}
-use mathlib.Core.Bool.{Bool, not, ◌&&◌}
+use mathlib.Core.Bool.{not}
 use mathlib.Core.List.{List, ◌++◌}
-use Prim.Native.Nat.{ℕ, ◌*◌, ◌≤◌, ◌<◌}
+use Prim.Native.Nat.{ℕ, ◌*◌, ◌≤◌}
 use native.Mathlib.Omega.{arith}
 use lib.Dec.{eqb, ltb}
 use lib.ListN.{length, get_or, drop}
@@ -16,7 +16,7 @@ use Rattle.cells.specs.Cell.{cells_of}
 use Rattle.sheet_file.specs.Bytes.{Bytes}
 use Rattle.sheet_file.specs.Frame.{layout_of}
 use Rattle.sheet_file.specs.declared.Settings.{Settings}
-use Rattle.ruling.specs.Ruling.{Ruling, refused, accepted, ruling_of, applies}
+use Rattle.ruling.specs.Ruling.{Ruling, refused, accepted, applies}
 use Rattle.ruling.proofs.Standing.{accepted-order}
 use Rattle.judging.specs.Judging.{judged_for, fills_for}
 use Rattle.kept.proofs.Cases.{rows_fit}
@@ -26,7 +26,6 @@ use Rattle.sheet_fills.proofs.Laws.{bytes-long}
 use Rattle.sheet_fills.proofs.Cases.{room-for-fills}
 use Rattle.sheet_fills.proofs.Bounds.{short-exactly}
 use Rattle.refusals.proofs.Number.{err-no-ok}
-use Rattle.promises.specs.Words.{marks_in}
 use Rattle.promises.specs.Fills.{dropped_rank, FilledBy, FillCallPromise}
 
 module _ (file buffer : List ℕ) where

@@ -14,7 +14,7 @@ use lib.ListN.{length, get_or}
 use borrow.Author.Tests.{ltb-true, lt-ltb, not-true}
 use Rattle.folds.specs.Arith.{f32}
 use Rattle.float.proofs.Within.{Within}
-use Rattle.folds.proofs.Below.{or-none, and_left, and_right, and_both, both_ways, first_holds, first-hit, not-true as never_true}
+use Rattle.folds.proofs.Below.{first_holds, first-hit}
 use Rattle.folds.proofs.Lists.{list_at}
 use Rattle.offsets.specs.declared.Offset.{Offset}
 use Rattle.offsets.specs.Offsets.{own, is_near}
@@ -52,6 +52,8 @@ use Rattle.promises.specs.Words.{marks_in, kept_rank}
 use Rattle.promises.specs.Fills.{fill_in, dropped_rank, kept_in, kept_there, kept_x, kept_y, predicted_in, PairAt, Fills, FillsPromise, TwoPairsPromise, FiniteFillsPromise, KeptAlike, SameFills, KeptAlonePromise, KeptMovedPromise, FillsOrderPromise, OffsetFillsPromise, MovedFileFillsPromise}
 use Rattle.promises.proofs.OnMap.{cells-apart}
 use Rattle.promises.proofs.Theorems.{moved-sheet}
+use Rattle.std.proofs.lemmas.Bool.{and_from, and_parts, false_from_ne_true as never_true, or_parts}
+use Rattle.std.specs.Cmp.{both_ways}
 
 -- ---- the lattice, and the view
 
@@ -84,16 +86,16 @@ module _ (s : Settings) (ps : List Point) where
   -- ---- dropped and kept
 
   kept-below : (k : ℕ) → kept_rank s ps k ≡ true → k < n
-  kept-below k e = ltb-true k n (and_left (ltb k n) (eqb (marks_in s ps k) 0) e)
+  kept-below k e = ltb-true k n (and_parts (ltb k n) (eqb (marks_in s ps k) 0) e).0
 
   dropped-below : (k : ℕ) → dropped_rank s ps k ≡ true → k < n
-  dropped-below k e = ltb-true k n (and_left (ltb k n) (not (eqb (marks_in s ps k) 0)) e)
+  dropped-below k e = ltb-true k n (and_parts (ltb k n) (not (eqb (marks_in s ps k) 0)) e).0
 
   dropped-marked : (k : ℕ) → dropped_rank s ps k ≡ true → eqb (marks_in s ps k) 0 ≡ false
-  dropped-marked k e = not-true (eqb (marks_in s ps k) 0) (and_right (ltb k n) (not (eqb (marks_in s ps k) 0)) e)
+  dropped-marked k e = not-true (eqb (marks_in s ps k) 0) (and_parts (ltb k n) (not (eqb (marks_in s ps k) 0)) e).1
 
   dropped-not-kept : (k : ℕ) → dropped_rank s ps k ≡ true → kept_rank s ps k ≡ true → ⊥
-  dropped-not-kept k d e = true≢false (sym (and_right (ltb k n) (eqb (marks_in s ps k) 0) e) ∙ dropped-marked k d)
+  dropped-not-kept k d e = true≢false (sym (and_parts (ltb k n) (eqb (marks_in s ps k) 0) e).1 ∙ dropped-marked k d)
 
   -- ---- the fills by rank
 
@@ -115,7 +117,7 @@ module _ (s : Settings) (ps : List Point) where
   fill_is k = ap (λ (l : List Prediction). get_or l k None) fills-are
 
   kept-none : (k : ℕ) → kept_rank s ps k ≡ true → fill_in s ps k ≡ None
-  kept-none k e = fill_is k ∙ fill-kept w (sides_of s) marks k (omega (arith, count-is, kept-below k e)) (and_right (ltb k n) (eqb (marks_in s ps k) 0) e)
+  kept-none k e = fill_is k ∙ fill-kept w (sides_of s) marks k (omega (arith, count-is, kept-below k e)) (and_parts (ltb k n) (eqb (marks_in s ps k) 0) e).1
 
   fill-viewed : (k : ℕ) → dropped_rank s ps k ≡ true → fill_in s ps k ≡ prediction_at w (sides_of s) marks k
   fill-viewed k e = fill_is k ∙ fill-dropped w (sides_of s) marks k (omega (arith, count-is, dropped-below k e)) (dropped-marked k e)
@@ -129,7 +131,7 @@ module _ (s : Settings) (ps : List Point) where
       go : Dec (k < n) → dropped_rank s ps k ≡ true
       go (yes h) =
           let m = eqb (marks_in s ps k) 0 in
-          and_both (ltb k n) (not m) (lt-ltb k n h) (ap not (never_true m (λ f. never (fill_is k ∙ fill-kept w (sides_of s) marks k (omega (arith, count-is)) f))))
+          and_from (ltb k n) (not m) (lt-ltb k n h) (ap not (never_true m (λ f. never (fill_is k ∙ fill-kept w (sides_of s) marks k (omega (arith, count-is)) f))))
       go (no h) = absurd (never (fill_is k ∙ fill-past w (sides_of s) marks k (omega (arith, count-is, h))))
 
   -- ---- the kept points by cell
@@ -143,13 +145,13 @@ module _ (s : Settings) (ps : List Point) where
 
     -- a kept point is found in its cell ..
     kept-at : (c : Cell) (j : ℕ) → kept_rank s ps j ≡ true → cell j ≡ c → kept_in s ps c ≡ j
-    kept-at c j e q = first-hit (is_in c) n j below (and_both (kept_rank s ps j) (coincide (cell j) c) e (coincide-same (cell j) c q)) before
+    kept-at c j e q = first-hit (is_in c) n j below (and_from (kept_rank s ps j) (coincide (cell j) c) e (coincide-same (cell j) c q)) before
       where
         below : j < n
         below = kept-below j e
 
         before : (i : ℕ) → i < j → is_in c i ≡ false
-        before i l = never_true (is_in c i) (λ t. omega (arith, one_cell i j (omega (arith, below)) below (coincide-true (cell i) c (and_right (kept_rank s ps i) (coincide (cell i) c) t) ∙ sym q)))
+        before i l = never_true (is_in c i) (λ t. omega (arith, one_cell i j (omega (arith, below)) below (coincide-true (cell i) c (and_parts (kept_rank s ps i) (coincide (cell i) c) t).1 ∙ sym q)))
 
     kept-there : (c : Cell) (j : ℕ) → kept_rank s ps j ≡ true → cell j ≡ c → kept_there s ps c ≡ true
     kept-there c j e q = ap (λ (i : ℕ). ltb i n) (kept-at c j e q) ∙ lt-ltb j n (kept-below j e)
@@ -159,7 +161,7 @@ module _ (s : Settings) (ps : List Point) where
     there-kept c e =
         let j = kept_in s ps c in
         let t = first_holds (is_in c) 0 n (ltb-true j n e) in
-        (and_left (kept_rank s ps j) (coincide (cell j) c) t, coincide-true (cell j) c (and_right (kept_rank s ps j) (coincide (cell j) c) t))
+        ((and_parts (kept_rank s ps j) (coincide (cell j) c) t).0, coincide-true (cell j) c (and_parts (kept_rank s ps j) (coincide (cell j) c) t).1)
 
     -- ---- by cells
 
@@ -220,14 +222,14 @@ module _ (s : Settings) (ps : List Point) where
       pair_is : (i : ℕ) → i < length (sides_of s) → both_there (sides_of s) there i ≡ true → PairAt s ps k i (kept_in s ps (to (side_at (sides_of s) i))) (kept_in s ps (to (opposite (side_at (sides_of s) i))))
       pair_is i h e =
           let o = side_at (sides_of s) i in
-          let f = there-kept (to o) (and_left (there o) (there (opposite o)) e) in
-          let b = there-kept (to (opposite o)) (and_right (there o) (there (opposite o)) e) in
+          let f = there-kept (to o) (and_parts (there o) (there (opposite o)) e).0 in
+          let b = there-kept (to (opposite o)) (and_parts (there o) (there (opposite o)) e).1 in
           record { offset = h; first-kept = f.0; second-kept = b.0; first_cell = f.1; second-cell = b.1 }
 
       is-pair : (i j m : ℕ) → PairAt s ps k i j m → both_there (sides_of s) there i ≡ true
       is-pair i j m p =
           let o = side_at (sides_of s) i in
-          and_both (there o) (there (opposite o)) (kept-there (to o) j p.first-kept p.first_cell) (kept-there (to (opposite o)) m p.second-kept p.second-cell)
+          and_from (there o) (there (opposite o)) (kept-there (to o) j p.first-kept p.first_cell) (kept-there (to (opposite o)) m p.second-kept p.second-cell)
 
       abbrev exactly : NoPairExactly (sides_of s) there (λ (o : Offset). kept_x s ps (to o)) (λ (o : Offset). kept_y s ps (to o))
       exactly = no-pair-exactly (sides_of s) square-opposed there (λ (o : Offset). kept_x s ps (to o)) (λ (o : Offset). kept_y s ps (to o))
@@ -274,7 +276,7 @@ finite-fills file room s ps b e k p f =
     limited : (c : Cell) → kept_rank s ps (kept_in s ps c) ≡ true → Within 14 (kept_x s ps c) × Within 14 (kept_y s ps c)
     limited c h =
         let j = kept_in s ps c in
-        let l = or-none (outside (kept_x s ps c)) (outside (kept_y s ps c)) ((sound file room s ps b e).limits j (kept-below s ps j h)) in
+        let l = or_parts (outside (kept_x s ps c)) (outside (kept_y s ps c)) ((sound file room s ps b e).limits j (kept-below s ps j h)) in
         (within-limit (kept_x s ps c) l.0, within-limit (kept_y s ps c) l.1)
 
 -- ---- kept points alike

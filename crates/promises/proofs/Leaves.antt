@@ -14,7 +14,7 @@ use borrow.Author.Tests.{eqb-true, eq-eqb, ltb-true}
 use Rattle.folds.specs.Among.{pair_in}
 use Rattle.folds.proofs.Among.{pair-order, pair-yes}
 use Rattle.folds.specs.Arith.{f32}
-use Rattle.folds.proofs.Below.{and_left, and_right, and_both, and-under, both_ways, not-false, not-true, some_at, some-yes, tally-ext}
+use Rattle.folds.proofs.Below.{and-under, some_at, some-yes, tally-ext}
 use Rattle.folds.specs.Lists.{list_of}
 use Rattle.folds.proofs.Lists.{is-list}
 use Rattle.folds.proofs.Column.{column-at, replicate-at}
@@ -37,7 +37,6 @@ use Rattle.sheet_file.specs.declared.Fraction.TheVariants.{Missing, Outside, Giv
 use Rattle.sheet_file.specs.declared.Layout.{Layout}
 use Rattle.sheet_file.specs.declared.Settings.{Settings}
 use Rattle.points.specs.Refusals.{two_strengths, comes_before}
-use Rattle.points.proofs.Neighbours.{eqb_swap}
 use Rattle.ruling.specs.Ruling.{accepted, ruling_of, points_of, applies}
 use Rattle.ruling.proofs.Given.{none-applies, own-fraction}
 use Rattle.ruling.proofs.Standing.{accepted-file, accepted-order}
@@ -65,6 +64,9 @@ use Rattle.promises.specs.Leaves.{weak_rank, survivor_at, live_neighbours, WeakE
 use Rattle.promises.proofs.Bits.{validate-bit, orientation-bit, wrong-bit, leaf-bit, component-bit, left-zero, dropped, survivor-is}
 use Rattle.promises.proofs.Cosines.{place-below}
 use Rattle.promises.proofs.Shared.{points-shared}
+use Rattle.std.proofs.lemmas.Bool.{and_from, and_parts, false_from_ne_true, not-false}
+use Rattle.std.specs.Cmp.{both_ways}
+use Rattle.ruling.proofs.Order.{strength-either-way}
 
 -- points with one index have one strength
 abbrev OneStrength : List Point → Type 0
@@ -87,8 +89,8 @@ component-survives w sides drops k h e =
     let other : ℕ → Bool = in_other_patch n labels (winner_of n labels) in
     let v = some_at (λ (j : ℕ). other j && alike w j k) n (sym (set_is max_points n (index_has w other) (component_mark w sides drops) (index-marks w other (others_of n labels) refl) k h) ∙ e) in
     let j = v.0 in
-    let below = ltb-true (get_or labels j 0) n (and_left (ltb (get_or labels j 0) n) (not (eqb (get_or labels j 0) (winner_of n labels))) (and_left (other j) (alike w j k) v.2)) in
-    (j, v.1, label-lives n w.near sides drops j v.1 below, eqb-true (w.by_idx j) (w.by_idx k) (and_right (other j) (alike w j k) v.2))
+    let below = ltb-true (get_or labels j 0) n (and_parts (ltb (get_or labels j 0) n) (not (eqb (get_or labels j 0) (winner_of n labels))) (and_parts (other j) (alike w j k) v.2).0).0 in
+    (j, v.1, label-lives n w.near sides drops j v.1 below, eqb-true (w.by_idx j) (w.by_idx k) (and_parts (other j) (alike w j k) v.2).1)
 
 module _ (s : Settings) (ps : List Point) where
   abbrev view : View
@@ -129,7 +131,7 @@ module _ (s : Settings) (ps : List Point) where
     unfolding view_of
     below k e =
         let alive = ltb k (length ps) && eqb (get_or drops k 0) 0 in
-        ltb-true k (length ps) (and_left (ltb k (length ps)) (eqb (get_or drops k 0) 0) (and_left alive (not (is_set found.marks k)) e))
+        ltb-true k (length ps) (and_parts (ltb k (length ps)) (eqb (get_or drops k 0) 0) (and_parts alive (not (is_set found.marks k)) e).0).0
 
     -- ---- neighbours
 
@@ -154,14 +156,14 @@ module _ (s : Settings) (ps : List Point) where
               let v = some_at test (length ps) e in
               let j = v.0 in
               let c = coincide (cell_of (get_or ps j nowhere)) (offset_by side (cell_of (get_or ps k nowhere))) in
-              let there = near-found ps o k side j hk (square-near i hi) v.1 (coincide-true (cell_of (get_or ps j nowhere)) (offset_by side (cell_of (get_or ps k nowhere))) (and_right (survivor s ps j) c v.2)) in
-              ap (left view drops found.marks) (at_side ∙ there) ∙ sym (survivor-left j) ∙ and_left (survivor s ps j) c v.2
+              let there = near-found ps o k side j hk (square-near i hi) v.1 (coincide-true (cell_of (get_or ps j nowhere)) (offset_by side (cell_of (get_or ps k nowhere))) (and_parts (survivor s ps j) c v.2).1) in
+              ap (left view drops found.marks) (at_side ∙ there) ∙ sym (survivor-left j) ∙ (and_parts (survivor s ps j) c v.2).0
 
           from : left view drops found.marks beside ≡ true → survivor_at s ps k i ≡ true
           from e =
               let l = below beside e in
               some-yes test (length ps) beside l
-              (and_both (survivor s ps beside) (coincide (cell_of (get_or ps beside nowhere)) (offset_by side (cell_of (get_or ps k nowhere)))) (survivor-left beside ∙ e)
+              (and_from (survivor s ps beside) (coincide (cell_of (get_or ps beside nowhere)) (offset_by side (cell_of (get_or ps k nowhere)))) (survivor-left beside ∙ e)
               (coincide-same (cell_of (get_or ps beside nowhere)) (offset_by side (cell_of (get_or ps k nowhere))) (near-means ps o k side beside hk (square-near i hi) l (sym at_side))))
 
     neighbours-are : (k : ℕ) → k < length ps → live_neighbours s ps k ≡ left_sides view (places (sides_of s)) drops found.marks k
@@ -232,11 +234,11 @@ module _ (s : Settings) (ps : List Point) where
       unfolding judged_for view_of
       no-component =
           component-bit s view (cells_of ps) (strengths_of ps) k h
-          ∙ not-true (component_marked s view (dropped s ps) k)
+          ∙ false_from_ne_true (component_marked s view (dropped s ps) k)
           (λ t.
-          let v = component-survives view (places (sides_of s)) (dropped s ps) k h (and_right s.apply_largest_component (is_set (filter_of view (places (sides_of s)) (dropped s ps)).marks k) t) in
+          let v = component-survives view (places (sides_of s)) (dropped s ps) k h (and_parts s.apply_largest_component (is_set (filter_of view (places (sides_of s)) (dropped s ps)).marks k) t).1 in
           let j = v.0 in
-          let stays = and_right (survives (length ps) drops j) (not (is_set found.marks j)) (sym (survivor-left j) ∙ survivor-is s ps j ∙ v.2) in
+          let stays = (and_parts (survives (length ps) drops j) (not (is_set found.marks j)) (sym (survivor-left j) ∙ survivor-is s ps j ∙ v.2)).1 in
           true≢false (sym stays ∙ ap not (marks-shared view (places (sides_of s)) drops weak j k v.1 h v.3 ∙ sym (marked-is k h) ∙ e)))
 
     -- ---- the rounds
@@ -259,20 +261,17 @@ one-strength file room s ps e j k a b q = go (dec_lt j k) (dec_lt k j)
     at : ℕ → Point
     at i = get_or ps i nowhere
 
-    either : (p q : Point) → two_strengths p q ≡ two_strengths q p
-    either p q = rw (eqb_swap p.index q.index, eqb_swap p.strength q.strength)
-
     none : pair_in two_strengths (list_of (length ps) at) ≡ false
     none =
         ap (pair_in two_strengths) (sym (is-list nowhere (length ps) at ps refl (λ k h. refl)) ∙ (accepted-file file room s ps e).points-are)
-        ∙ sym (pair-order two_strengths either (sort-perm comes_before (points_of file))) ∙ none-applies file room e 14
+        ∙ sym (pair-order two_strengths strength-either-way (sort-perm comes_before (points_of file))) ∙ none-applies file room e 14
 
     differ : (i m : ℕ) → i < m → m < length ps → (at i).index ≡ (at m).index → (at i).strength ≡ (at m).strength
     differ i m l h q =
         eqb-true (at i).strength (at m).strength
         (not-false (eqb (at i).strength (at m).strength)
-        (not-true (not (eqb (at i).strength (at m).strength))
-        (λ t. true≢false (sym (pair-yes at (length ps) two_strengths i m l h (and_both (eqb (at i).index (at m).index) (not (eqb (at i).strength (at m).strength)) (eq-eqb (at i).index (at m).index q) t)) ∙ none))))
+        (false_from_ne_true (not (eqb (at i).strength (at m).strength))
+        (λ t. true≢false (sym (pair-yes at (length ps) two_strengths i m l h (and_from (eqb (at i).index (at m).index) (not (eqb (at i).strength (at m).strength)) (eq-eqb (at i).index (at m).index q) t)) ∙ none))))
 
     go : Dec (j < k) → Dec (k < j) → (at j).strength ≡ (at k).strength
     go (yes l) d = differ j k l b q

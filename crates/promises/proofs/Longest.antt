@@ -10,7 +10,7 @@ use lib.Dec.{eqb}
 use lib.IntN.{ℤ, pos, ◌+ℤ◌, ◌-ℤ◌, +ℤ_idl, +ℤ_comm, +ℤ-neg_ℤ_cancel}
 use lib.ListN.{length, get_or}
 use borrow.Author.Tests.{lt-ltb}
-use Rattle.folds.proofs.Below.{and-true, or-false, tally-ext, tally-le}
+use Rattle.folds.proofs.Below.{tally-ext, tally-le}
 use Rattle.folds.proofs.Counting.{tally-all}
 use Rattle.offsets.specs.declared.Offset.{Offset}
 use Rattle.offsets.specs.Offsets.{own, place_of, places}
@@ -37,6 +37,7 @@ use Rattle.promises.specs.Longest.{beforehand, left_before, LongestPromise, Fewe
 use Rattle.promises.proofs.Leaves.{rounds-are, placed}
 use Rattle.promises.proofs.Moving.{validate-in, orientation-in, wrong-in}
 use Rattle.promises.proofs.Tallied.{different-all}
+use Rattle.std.proofs.Math.Bool.{and-true, or-false}
 
 -- ---- neighbours
 

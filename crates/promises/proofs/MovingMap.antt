@@ -11,7 +11,6 @@ use lib.IntN.{ℤ, pos, ◌+ℤ◌}
 use lib.ListN.{length, get_or}
 use Rattle.cells.specs.Points.{Point, nowhere}
 use Rattle.cells.specs.Cell.{moved, cells_of}
-use Rattle.cells.proofs.Keys.{cell_at}
 use Rattle.grid.specs.Moved.{Moved}
 use Rattle.sheet_file.specs.declared.Settings.{Settings}
 use Rattle.ruling.specs.Ruling.{refused, accepted, ruling_of, rows_size}
@@ -23,6 +22,7 @@ use Rattle.sheet_map.specs.Text.{map_ruling_of, map_by, map_text_of}
 use Rattle.sheet_map.proofs.Laws.{text-is, ten-given, none-given, ten-wide}
 use Rattle.promises.specs.Words.{marks_in}
 use Rattle.promises.specs.Map.{BothRefused, LinesMoved}
+use Rattle.grid.proofs.Moved.{cells-moved}
 
 -- the text of a map that is drawn
 pub drawn-text : (file : List ℕ) (s : Settings) (ps : List Point) → ruling_of file rows_size ≡ accepted s ps → too_wide (length ps) (cells_of ps) ≡ false
@@ -34,11 +34,8 @@ module _ (file other : List ℕ) (a b : ℤ) (s : Settings) (ps qs : List Point)
   abbrev n : ℕ
   n = length ps
 
-  cells-moved : (k : ℕ) → k < n → cells_of qs k ≡ moved a b (cells_of ps k)
-  cells-moved k h = cell_at qs k (omega arith) ∙ (all k h).cell ∙ ap (moved a b) (sym (cell_at ps k h))
-
   wide-stays : too_wide (length qs) (cells_of qs) ≡ too_wide n (cells_of ps)
-  wide-stays = ap (λ (m : ℕ). too_wide m (cells_of qs)) size ∙ wide-moved a b n (cells_of ps) (cells_of qs) cells-moved
+  wide-stays = ap (λ (m : ℕ). too_wide m (cells_of qs)) size ∙ wide-moved a b n (cells_of ps) (cells_of qs) (cells-moved a b ps qs size all)
 
   pub ten-moved : map_ruling_of file ≡ refused 10 → map_ruling_of other ≡ refused 10
   ten-moved q = ten-given other s qs f (wide-stays ∙ ten-wide file s ps e q)
@@ -72,7 +69,7 @@ module _ (file other : List ℕ) (a b : ℤ) (s : Settings) (ps qs : List Point)
       old = drawn-text file s ps e w ∙ map-lines n (cells_of ps) marks;
       new =
           drawn-text other s qs f (wide-stays ∙ w) ∙ ap (λ (m : ℕ). map_of m (cells_of qs) more) size
-          ∙ map-moved a b n (cells_of ps) (cells_of qs) cells-moved (omega (arith, z)) marks more (λ k l. same k);
+          ∙ map-moved a b n (cells_of ps) (cells_of qs) (cells-moved a b ps qs size all) (omega (arith, z)) marks more (λ k l. same k);
     }
 
     pub map-stays : BothRefused file other ⊎ LinesMoved file other b

@@ -10,7 +10,7 @@ use borrow.Author.Tests.{lt-ltb, eqb-true}
 use lib.Dec.{eqb, ltb}
 use lib.ListN.{length, get_or}
 use Rattle.folds.specs.Below.{some}
-use Rattle.folds.proofs.Below.{and_right, and_both, some-no}
+use Rattle.folds.proofs.Below.{some-no}
 use Rattle.cells.specs.Points.{Point, nowhere, strengths_of}
 use Rattle.cells.specs.Cell.{Cell, cell_of, cells_of, before}
 use Rattle.cells.proofs.Keys.{cell_at}
@@ -23,9 +23,10 @@ use Rattle.judging.specs.Judging.{judged_for}
 use Rattle.text.specs.Text.{bytes}
 use Rattle.map_lines.specs.Map.{point_character}
 use Rattle.map_lines.proofs.Characters.{kept-only}
-use Rattle.map_lines.proofs.Extremes.{not-below-itself}
 use Rattle.promises.specs.Words.{marks_in, kept_rank}
 use Rattle.promises.proofs.Bits.{none-marked}
+use Rattle.std.proofs.lemmas.Bool.{and_from, and_parts}
+use Rattle.cells.proofs.Edges.{not-below-itself}
 
 -- no cell comes before itself
 not-before : (c : Cell) → before c c ≡ true → ⊥
@@ -49,7 +50,7 @@ cells-apart ps o j k hj hk e = go (dec_lt j k) (dec_lt k j)
 module _ (s : Settings) (ps : List Point) (k : ℕ) where
   pub kept-shown : kept_rank s ps k ≡ true → point_character (marks_in s ps k) ≡ bytes "#"
   unfolding first_mark
-  kept-shown e = ap point_character (eqb-true (marks_in s ps k) 0 (and_right (ltb k (length ps)) (eqb (marks_in s ps k) 0) e))
+  kept-shown e = ap point_character (eqb-true (marks_in s ps k) 0 (and_parts (ltb k (length ps)) (eqb (marks_in s ps k) 0) e).1)
 
   none_in : k < length ps → eqb (marks_in s ps k) 0 ≡ not (some (λ (f : ℕ). has_mark f (marks_in s ps k)) filter_count)
   unfolding judged_for view_of
@@ -57,5 +58,5 @@ module _ (s : Settings) (ps : List Point) (k : ℕ) where
 
   pub only-kept-shown : k < length ps → point_character (marks_in s ps k) ≡ bytes "#" → kept_rank s ps k ≡ true
   only-kept-shown h e =
-      and_both (ltb k (length ps)) (eqb (marks_in s ps k) 0) (lt-ltb k (length ps) h)
+      and_from (ltb k (length ps)) (eqb (marks_in s ps k) 0) (lt-ltb k (length ps) h)
       (none_in h ∙ ap not (some-no (λ (f : ℕ). has_mark f (marks_in s ps k)) filter_count (kept-only (marks_in s ps k) e)))

@@ -7,7 +7,7 @@ use lib.Dec.{eqb, ltb}
 use lib.ListN.{length, get_or}
 use borrow.Author.Tests.{lt-ltb, ltb-true}
 use Rattle.folds.specs.Below.{some, tally}
-use Rattle.folds.proofs.Below.{some_at, some-fails, and-under, and_left, and_right, and_both, and-swap, not-true, not-false}
+use Rattle.folds.proofs.Below.{some_at, some-fails, and-under}
 use Rattle.folds.proofs.Marked.{bit_is}
 use Rattle.offsets.specs.Offsets.{places}
 use Rattle.view.specs.View.{View}
@@ -36,10 +36,8 @@ use Rattle.drop_set.specs.Filters.{sides_of, component_marked, components_in, pa
 use Rattle.judging.specs.Judging.{judged_for}
 use Rattle.promises.specs.Words.{DistinctIndices, has_other, survivor, joined, kept_rank}
 use Rattle.promises.proofs.Bits.{dropped, survivor-is, kept-is}
-
-and_assoc : (a b c : Bool) → a && (b && c) ≡ (a && b) && c
-and_assoc true b c = refl
-and_assoc false b c = refl
+use Rattle.std.proofs.Math.Bool.{and_comm, and_assoc}
+use Rattle.std.proofs.lemmas.Bool.{and_from, and_parts, false_from_ne_true, not-false}
 
 same_kept : {alive alive' : ℕ → Bool} {link link' : ℕ → ℕ → Bool} {K K' : ℕ → Bool} (n : ℕ) → alive ≡ alive' → link ≡ link' → K ≡ K' → KeptPatch alive' link' n K' → KeptPatch alive link n K
 same_kept n a l k x = rw (a, l, k) x
@@ -90,7 +88,7 @@ module _ (s : Settings) (ps : List Point) (o : CellOrder ps) where
   survivors k = survivor-is s ps k
 
   lives-below : (k : ℕ) → survivor s ps k ≡ true → k < length ps
-  lives-below k e = ltb-true k (length ps) (and_left (ltb k (length ps)) (not (has_other s ps k)) e)
+  lives-below k e = ltb-true k (length ps) (and_parts (ltb k (length ps)) (not (has_other s ps k)) e).0
 
   steps : (a b : ℕ) → joined s ps a b ≡ link a b
   steps a b =
@@ -102,7 +100,7 @@ module _ (s : Settings) (ps : List Point) (o : CellOrder ps) where
   winner-lives k e = go (some alive view.count) refl
     where
       dead : some alive view.count ≡ false → (a : ℕ) → alive a ≡ false
-      dead t a = not-true (alive a) (λ q. true≢false (sym q ∙ some-fails alive view.count t a (survives-lt view.count drops a q)))
+      dead t a = false_from_ne_true (alive a) (λ q. true≢false (sym q ∙ some-fails alive view.count t a (survives-lt view.count drops a q)))
 
       go : (b : Bool) → some alive view.count ≡ b → alive k ≡ true
       go true t = let a = some_at alive view.count t in reach-to view.count alive link (joins view.count view.near sides drops) ((largest.whole a.0 a.2).inner k e)
@@ -121,13 +119,13 @@ module _ (s : Settings) (ps : List Point) (o : CellOrder ps) where
     unfolding view_of
     kept-winner k =
         kept-is s ps k
-        ∙ and-under (ltb k (length ps)) (λ e. and-swap (not (component_marked s view drops k)) (eqb (get_or drops k 0) 0) ∙ ap (λ (b : Bool). eqb (get_or drops k 0) 0 && not b) (component-is k (ltb-true k (length ps) e)))
-        ∙ and_assoc (ltb k (length ps)) (eqb (get_or drops k 0) 0) (not (in_other_patch view.count labels win k))
+        ∙ and-under (ltb k (length ps)) (λ e. and_comm (not (component_marked s view drops k)) (eqb (get_or drops k 0) 0) ∙ ap (λ (b : Bool). eqb (get_or drops k 0) 0 && not b) (component-is k (ltb-true k (length ps) e)))
+        ∙ sym (and_assoc (ltb k (length ps)) (eqb (get_or drops k 0) 0) (not (in_other_patch view.count labels win k)))
         ∙ go (alive k) refl
       where
         go : (b : Bool) → alive k ≡ b → b && not (in_other_patch view.count labels win k) ≡ in_patch view.count labels win k
         go true e = ap not (other-not view.count view.near sides drops win k e) ∙ not-not (in_patch view.count labels win k)
-        go false e = sym (not-true (in_patch view.count labels win k) (λ t. false≢true (sym e ∙ winner-lives k t)))
+        go false e = sym (false_from_ne_true (in_patch view.count labels win k) (λ t. false≢true (sym e ∙ winner-lives k t)))
 
     pub largest-kept : KeptPatch (survivor s ps) (joined s ps) (length ps) (kept_rank s ps)
     unfolding view_of
@@ -155,18 +153,18 @@ count-off s ps off = ap (λ (b : Bool). cond b (filter_of (view_of ps) (places (
 -- ---- what follows
 
 below : (s : Settings) (ps : List Point) (k : ℕ) → survivor s ps k ≡ true → k < length ps
-below s ps k e = ltb-true k (length ps) (and_left (ltb k (length ps)) (not (has_other s ps k)) e)
+below s ps k e = ltb-true k (length ps) (and_parts (ltb k (length ps)) (not (has_other s ps k)) e).0
 
 -- what is reached is a point
 pub reached-below : (s : Settings) (ps : List Point) {a k : ℕ} → Reach (survivor s ps) (joined s ps) a k → k < length ps
 reached-below s ps {a} (here e) = below s ps a e
 reached-below s ps {k = c} (step {b} r e) =
     let t = joined_by (sides_of s) (cell_of (get_or ps b nowhere)) (cell_of (get_or ps c nowhere)) in
-    below s ps c (and_left (survivor s ps c) t (and_right (survivor s ps b) (survivor s ps c && t) e))
+    below s ps c (and_parts (survivor s ps c) t (and_parts (survivor s ps b) (survivor s ps c && t) e).1).0
 
 module _ (s : Settings) (ps : List Point) where
   pub none_kept : ((k : ℕ) → k < length ps → has_other s ps k ≡ true) → (k : ℕ) → kept_rank s ps k ≡ false
-  none_kept f k = not-true (kept_rank s ps k) (λ e. go (sym (kept-is s ps k) ∙ e))
+  none_kept f k = false_from_ne_true (kept_rank s ps k) (λ e. go (sym (kept-is s ps k) ∙ e))
     where
       lone : Bool
       lone = not (component_marked s (view_of ps) (dropped s ps) k)
@@ -176,13 +174,13 @@ module _ (s : Settings) (ps : List Point) where
 
       go : ltb k (length ps) && (lone && zero) ≡ true → ⊥
       go e =
-          let l = and_left (ltb k (length ps)) (lone && zero) e in
-          let z = and_right lone zero (and_right (ltb k (length ps)) (lone && zero) e) in
-          let v : survivor s ps k ≡ true = survivor-is s ps k ∙ and_both (ltb k (length ps)) zero l z in
-          false≢true (ap not (sym (f k (ltb-true k (length ps) l))) ∙ and_right (ltb k (length ps)) (not (has_other s ps k)) v)
+          let l = (and_parts (ltb k (length ps)) (lone && zero) e).0 in
+          let z = (and_parts lone zero (and_parts (ltb k (length ps)) (lone && zero) e).1).1 in
+          let v : survivor s ps k ≡ true = survivor-is s ps k ∙ and_from (ltb k (length ps)) zero l z in
+          false≢true (ap not (sym (f k (ltb-true k (length ps) l))) ∙ (and_parts (ltb k (length ps)) (not (has_other s ps k)) v).1)
 
   -- where there is a survivor, its patch or another is kept
   pub all-marked : KeptPatch (survivor s ps) (joined s ps) (length ps) (kept_rank s ps) → ((k : ℕ) → kept_rank s ps k ≡ false) → (k : ℕ) → k < length ps → has_other s ps k ≡ true
   all-marked most f k h =
       not-false (has_other s ps k)
-      (not-true (not (has_other s ps k)) (λ t. let p = most.whole k (and_both (ltb k (length ps)) (not (has_other s ps k)) (lt-ltb k (length ps) h) t) in false≢true (sym (f p.seed) ∙ p.outer p.seed (here p.survives))))
+      (false_from_ne_true (not (has_other s ps k)) (λ t. let p = most.whole k (and_from (ltb k (length ps)) (not (has_other s ps k)) (lt-ltb k (length ps) h) t) in false≢true (sym (f p.seed) ∙ p.outer p.seed (here p.survives))))

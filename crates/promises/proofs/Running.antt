@@ -9,7 +9,6 @@ use Prim.Native.Nat.{ℕ, suc}
 use native.Mathlib.Omega.{arith}
 use lib.ListN.{length}
 use Rattle.folds.specs.Lists.{All}
-use Rattle.folds.proofs.Below.{not-true, or-none}
 use Rattle.ruling.specs.Ruling.{Ruling, refused, accepted, ruling_of, rows_size}
 use Rattle.ruling.proofs.Given.{is-given, sheet-number}
 use Rattle.ruling.proofs.Order.{same-ruling}
@@ -26,6 +25,7 @@ use Rattle.kept_in_run.specs.Through.{Call, run_through, answers_in}
 use Rattle.kept_in_run.proofs.Laws.{answer-is, after_is, never-eleven, eleven, else-answer, else-rows, eleven-only, refused-record, refused-rows, sheet-added}
 use Rattle.sheet_map.proofs.Laws.{number-given}
 use Rattle.promises.specs.Runs.{CallInRunPromise, ElevenAlonePromise, if_accepted, accepted_tallies, accepted_count, RunTotalsPromise, NoneEleven, RunOrderPromise, OtherListing, RunListingPromise, RunSizePromise}
+use Rattle.std.proofs.lemmas.Bool.{false_from_ne_true, or_parts}
 
 -- ---- one call
 
@@ -111,7 +111,7 @@ unfolding answers_in
 none-full r [] h = full-none r
 none-full r (c ∷ l) h =
     full-cons r (yield_of c) (yields l)
-    ∙ ap (λ (b : Bool). b || some_full (run_with r (yield_of c)) (yields l)) (not-true (full r) (λ e. h.0 (eleven r c.file c.buffer e)))
+    ∙ ap (λ (b : Bool). b || some_full (run_with r (yield_of c)) (yields l)) (false_from_ne_true (full r) (λ e. h.0 (eleven r c.file c.buffer e)))
     ∙ ap (λ (x : Run). some_full x (yields l)) (sym (after_is r c.file (length c.buffer)))
     ∙ none-full (run_after r c.file (length c.buffer)) l h.1
 
@@ -119,7 +119,7 @@ none-eleven : (r : Run) (calls : List Call) → NoneFull r (yields calls) → No
 unfolding answers_in
 none-eleven r [] h = tt
 none-eleven r (c ∷ l) h =
-    let e = or-none (full r) (some_full (run_with r (yield_of c)) (yields l)) (sym (full-cons r (yield_of c) (yields l)) ∙ h) in
+    let e = or_parts (full r) (some_full (run_with r (yield_of c)) (yields l)) (sym (full-cons r (yield_of c) (yields l)) ∙ h) in
     ((λ q. true≢false (sym (eleven-only r c.file c.buffer q) ∙ e.0)), none-eleven (run_after r c.file (length c.buffer)) l (rw (after_is r c.file (length c.buffer)) e.1))
 
 yields-order : {a b : List Call} → Permᴰ a b → Permᴰ (yields a) (yields b)

@@ -11,7 +11,7 @@ use lib.Dec.{eqb}
 use lib.ListN.{length, get_or}
 use borrow.Author.Tests.{eqb-true, eq-eqb, ne_eqb}
 use Rattle.folds.specs.Below.{tally}
-use Rattle.folds.proofs.Below.{and_right, and-true, not-true, some-ext, some-no, tally-ext, first-le}
+use Rattle.folds.proofs.Below.{some-ext, some-no, tally-ext, first-le}
 use Rattle.folds.specs.Lists.{up_from, list_of}
 use Rattle.folds.proofs.Lists.{list_at, list_ext}
 use Rattle.cells.specs.Points.{Point, strengths_of}
@@ -30,6 +30,8 @@ use Rattle.promises.specs.Words.{DistinctIndices, marks_in}
 use Rattle.promises.specs.Tally.{different, total, points_under, point_counts, any_point, index_in, CountsIndices}
 use Rattle.promises.proofs.Different.{is_last, last-different}
 use Rattle.promises.proofs.Shared.{byte-shared}
+use Rattle.std.proofs.Math.Bool.{and-true}
+use Rattle.std.proofs.lemmas.Bool.{and_parts, false_from_ne_true}
 
 -- ---- the sum of the counts
 
@@ -82,7 +84,7 @@ unfolding different
 different-all q f n one =
     tally-ext _ q n
     (λ k l. rw (some-no (λ (j : ℕ). q j && eqb (f j) (f k)) k
-    (λ j m. not-true (q j && eqb (f j) (f k)) (λ e. omega (arith, one j k (omega arith) l (eqb-true (f j) (f k) (and_right (q j) (eqb (f j) (f k)) e))))))
+    (λ j m. false_from_ne_true (q j && eqb (f j) (f k)) (λ e. omega (arith, one j k (omega arith) l (eqb-true (f j) (f k) (and_parts (q j) (eqb (f j) (f k)) e).1)))))
     (and-true (q k)))
 
 -- ---- the tally of a sheet

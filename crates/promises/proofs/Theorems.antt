@@ -11,7 +11,6 @@ use lib.ListN.{length}
 use borrow.Author.Tests.{ltb-true}
 use Rattle.folds.specs.Among.{any_in}
 use Rattle.folds.specs.Below.{tally}
-use Rattle.folds.proofs.Below.{and_left}
 use Rattle.cells.specs.Points.{Point}
 use Rattle.cells.specs.Cell.{cells_of}
 use Rattle.cells.proofs.Keys.{cell_at}
@@ -59,6 +58,7 @@ use Rattle.promises.proofs.OnMap.{cells-apart, kept-shown, only-kept-shown}
 use Rattle.promises.specs.Tally.{TallyPromise}
 use Rattle.promises.specs.Map.{on_map, MapLinesPromise, MapPointsPromise, MapSizePromise, MapNumbersPromise, MapTextsPromise, TenAlonePromise, OffsetMapPromise, MovedFileMapPromise}
 use Rattle.promises.specs.Promises.{RanksAreCells, KeptByRows, KeptPatchPromise, ComponentCountPromise, NoCountPromise, AnotherOrderPromise, OffsetPromise, OffsetRowsPromise, MovedFilePromise, MovedFileRowsPromise, SwitchesPromise, SwitchedRowsPromise}
+use Rattle.std.proofs.lemmas.Bool.{and_parts}
 
 pub ranks-are-cells : RanksAreCells
 ranks-are-cells file room s ps b e i j ij jn = (accepted-order file room s ps b e).rising i j ij jn
@@ -208,7 +208,7 @@ map-points file s ps b e =
       column-drawn = column-drawn n cell d.narrow;
       cell = λ k h. cell-of-rank n cell k h ∙ cell_at ps k h;
       character = shown;
-      kept = λ k q. shown k (ltb-true k n (and_left (ltb k n) (eqb (marks_in s ps k) 0) q)) ∙ kept-shown s ps k q;
+      kept = λ k q. shown k (ltb-true k n (and_parts (ltb k n) (eqb (marks_in s ps k) 0) q).0) ∙ kept-shown s ps k q;
       kept-only = λ k h q. only-kept-shown s ps k h (sym (shown k h) ∙ q);
       letter = λ k f h l q before. shown k h ∙ first-character (marks_in s ps k) f l q before;
       none = λ i j l m f. ap (λ (t : List ℕ). on_map t i j) text ∙ empty-byte n cell marks inside i j l m (λ k h q. f k h (sym (cell_at ps k h) ∙ q));

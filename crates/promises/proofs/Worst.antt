@@ -10,8 +10,7 @@ use native.Mathlib.Omega.{arith}
 use lib.Dec.{eqb}
 use lib.ListN.{get_or}
 use Rattle.folds.specs.Below.{some, tally}
-use Rattle.folds.proofs.Below.{and-false, some-no, some-fails}
-use Rattle.folds.proofs.Counting.{not_yes}
+use Rattle.folds.proofs.Below.{some-no, some-fails}
 use Rattle.folds.specs.Lists.{list_of}
 use Rattle.folds.specs.Marked.{bit}
 use Rattle.folds.proofs.Marked.{bit_le, tally-four}
@@ -40,6 +39,8 @@ use Rattle.promises.proofs.Leaves.{rounds-are, weak-ends}
 use Rattle.promises.proofs.Longest.{zero-before, longest}
 use Rattle.promises.proofs.Theorems.{answer-is}
 use Rattle.worst_sheet.proofs.Asked.{written-for, nothing-else}
+use Rattle.std.proofs.Math.Bool.{and-false}
+use Rattle.std.proofs.lemmas.Bool.{not-true}
 
 module _ (n : ℕ) (few : n ≤ max_points) where
   abbrev ps : List Point
@@ -55,7 +56,7 @@ module _ (n : ℕ) (few : n ≤ max_points) where
   none_dropped k = unmarked worst_settings view (cells_of ps) settings-plain (row-view n few) k
 
   undropped : (k : ℕ) → k < n → beforehand worst_settings ps k ≡ false
-  undropped k h = not_yes (beforehand worst_settings ps k) (sym (zero-before worst_settings ps k (omega (arith, point-count n few))) ∙ ap (λ (m : ℕ). eqb m 0) (none_dropped k))
+  undropped k h = not-true (beforehand worst_settings ps k) (sym (zero-before worst_settings ps k (omega (arith, point-count n few))) ∙ ap (λ (m : ℕ). eqb m 0) (none_dropped k))
 
   index_is : (k : ℕ) → k < n → (get_or ps k nowhere).index ≡ k
   index_is k h = ap (λ (p : Point). p.index) (point-is n few k h)

@@ -123,16 +123,10 @@ pub fn is_recorded(answer: Result<Counts, u8>, recorded: RecordedAnswer) -> bool
     match answer {
         Err(number) => usize::from(number) == recorded.number,
         Ok(counts) => {
-            if recorded.number != 0 {
-                return false;
-            }
-            if counts.points != recorded.points {
-                return false;
-            }
-            if counts.components != recorded.components {
-                return false;
-            }
-            counts.rounds == recorded.rounds
+            recorded.number == 0
+                && counts.points == recorded.points
+                && counts.components == recorded.components
+                && counts.rounds == recorded.rounds
         }
     }
 }
@@ -142,12 +136,7 @@ pub fn is_filled(answer: Result<FillCounts, u8>, recorded: RecordedFills) -> boo
 {
     match answer {
         Err(number) => usize::from(number) == recorded.number,
-        Ok(counts) => {
-            if recorded.number != 0 {
-                return false;
-            }
-            counts.fills == recorded.fills
-        }
+        Ok(counts) => recorded.number == 0 && counts.fills == recorded.fills,
     }
 }
 
@@ -174,7 +163,7 @@ pub fn leaves<F: FnOnce(&mut [u8]) -> bool>(
 pub fn same_run(a: Run, b: Run) -> bool
     ensures { result ≡ same_run a b }
 {
-    (a.old_sums == b.old_sums) & (a.sheets == b.sheets) & (a.new_sums == b.new_sums)
+    a == b
 }
 
 // Whether a text was written whole to the start of the buffer, and is the recorded one, the first `size` bytes of `recorded`.

@@ -6,8 +6,9 @@ use Prim.Native.Nat.{ℕ}
 use lib.Dec.{eqb}
 use borrow.Author.Tests.{eqb-true, eq-eqb}
 use Rattle.folds.specs.Among.{any_in, pair_in}
-use Rattle.folds.proofs.Below.{or-none, or-true, not-false, not-true}
 use Rattle.refusals.specs.First.{Condition, ruled, applies_in, number_in}
+use Rattle.std.proofs.Math.Bool.{or-true}
+use Rattle.std.proofs.lemmas.Bool.{false_from_ne_true, not-false, or_parts}
 
 abbrev pub holds : Condition → Bool
 holds c = c.1
@@ -34,14 +35,10 @@ pub record FirstHolding (l : List Condition) (k : ℕ) : Type 0 where
 
 -- ---- none holds
 
--- one more fails
-pub neither-holds : {a b : Bool} → a ≡ false → b ≡ false → a || b ≡ false
-neither-holds e f = rw (e, f)
-
 -- "it gives no number whose condition fails"
 pub none-applies-in : (l : List Condition) → any_in holds l ≡ false → (k : ℕ) → applies_in l k ≡ false
 none-applies-in [] e k = refl
-none-applies-in (c ∷ l) e k = let w = or-none c.1 (any_in holds l) e in go (eqb c.0 k) w.0 (none-applies-in l w.1 k)
+none-applies-in (c ∷ l) e k = let w = or_parts c.1 (any_in holds l) e in go (eqb c.0 k) w.0 (none-applies-in l w.1 k)
   where
     go : (b : Bool) → c.1 ≡ false → applies_in l k ≡ false → cond b c.1 (applies_in l k) ≡ false
     go true a r = a
@@ -51,13 +48,13 @@ none-applies-in (c ∷ l) e k = let w = or-none c.1 (any_in holds l) e in go (eq
 pub none-holds : (l : List Condition) → DistinctNumbers l → ((k : ℕ) → applies_in l k ≡ false) → any_in holds l ≡ false
 none-holds [] d f = refl
 none-holds (c ∷ l) d f =
-    let w = or-none (any_in (eqb c.0) (numbers_of l)) (pair_in eqb (numbers_of l)) d in
+    let w = or_parts (any_in (eqb c.0) (numbers_of l)) (pair_in eqb (numbers_of l)) d in
     let own : c.1 ≡ false = rw (eq-eqb c.0 c.0 refl) at (f c.0) in
     rw own (none-holds l w.1 (λ k. go k (eqb c.0 k) refl (f k) w.0))
   where
     absent : (m : List Condition) (k : ℕ) → any_in (eqb k) (numbers_of m) ≡ false → applies_in m k ≡ false
     absent [] k e = refl
-    absent (a ∷ m) k e = let v = or-none (eqb k a.0) (any_in (eqb k) (numbers_of m)) e in rw (not-true (eqb a.0 k) (λ t. true≢false (sym (eq-eqb k a.0 (sym (eqb-true a.0 k t))) ∙ v.0))) (absent m k v.1)
+    absent (a ∷ m) k e = let v = or_parts (eqb k a.0) (any_in (eqb k) (numbers_of m)) e in rw (false_from_ne_true (eqb a.0 k) (λ t. true≢false (sym (eq-eqb k a.0 (sym (eqb-true a.0 k t))) ∙ v.0))) (absent m k v.1)
 
     go : (k : ℕ) (b : Bool) → eqb c.0 k ≡ b → cond b c.1 (applies_in l k) ≡ false → any_in (eqb c.0) (numbers_of l) ≡ false → applies_in l k ≡ false
     go k true t e n = absent l k (rw (eqb-true c.0 k t) at n)
@@ -67,7 +64,7 @@ none-holds (c ∷ l) d f =
 
 pub each-listed : (p : ℕ → Bool) (ns : List ℕ) (k : ℕ) → any_in (λ (n : ℕ). not (p n)) ns ≡ false → any_in (eqb k) ns ≡ true → p k ≡ true
 each-listed p [] k e h = absurd (true≢false (sym h))
-each-listed p (n ∷ ns) k e h = let w = or-none (not (p n)) (any_in (λ (n : ℕ). not (p n)) ns) e in go (eqb k n) refl (not-false (p n) w.0) h (each-listed p ns k w.1)
+each-listed p (n ∷ ns) k e h = let w = or_parts (not (p n)) (any_in (λ (n : ℕ). not (p n)) ns) e in go (eqb k n) refl (not-false (p n) w.0) h (each-listed p ns k w.1)
   where
     go : (b : Bool) → eqb k n ≡ b → p n ≡ true → b || any_in (eqb k) ns ≡ true → (any_in (eqb k) ns ≡ true → p k ≡ true) → p k ≡ true
     go true t a g r = rw (eqb-true k n t) a
@@ -84,12 +81,12 @@ module _ {R : Type 0} (refuse : ℕ → R) where
       go : (b : Bool) → eqb c.0 k ≡ b → cond b c.1 (applies_in l k) ≡ true → any_in holds (cond b [] (c ∷ earlier_than l k)) ≡ false
           → (applies_in l k ≡ true → any_in holds (earlier_than l k) ≡ false → ruled refuse z l ≡ refuse k) → ruled refuse z (c ∷ l) ≡ refuse k
       go true t e f r = rw (e, eqb-true c.0 k t)
-      go false t e f r = let w = or-none c.1 (any_in holds (earlier_than l k)) f in rw w.0 (r e w.1)
+      go false t e f r = let w = or_parts c.1 (any_in holds (earlier_than l k)) f in rw w.0 (r e w.1)
 
   -- z where none holds
   pub none_passes : (z : R) (l : List Condition) → any_in holds l ≡ false → ruled refuse z l ≡ z
   none_passes z [] e = refl
-  none_passes z (c ∷ l) e = let w = or-none c.1 (any_in holds l) e in rw w.0 (none_passes z l w.1)
+  none_passes z (c ∷ l) e = let w = or_parts c.1 (any_in holds l) e in rw w.0 (none_passes z l w.1)
 
   -- only then
   pub only_none : (z y : R) → ((k : ℕ) → refuse k ≡ y → ⊥) → (l : List Condition) → ruled refuse z l ≡ y → (any_in holds l ≡ false) × (z ≡ y)
@@ -106,7 +103,7 @@ module _ {R : Type 0} (refuse : ℕ → R) where
   only-first z one other (c ∷ l) d k e = go c.1 refl e (only-first z one other l w.1 k)
     where
       w : (any_in (eqb c.0) (numbers_of l) ≡ false) × (pair_in eqb (numbers_of l) ≡ false)
-      w = or-none (any_in (eqb c.0) (numbers_of l)) (pair_in eqb (numbers_of l)) d
+      w = or_parts (any_in (eqb c.0) (numbers_of l)) (pair_in eqb (numbers_of l)) d
 
       go : (b : Bool) → c.1 ≡ b → cond b (refuse c.0) (ruled refuse z l) ≡ refuse k → (ruled refuse z l ≡ refuse k → FirstHolding l k) → FirstHolding (c ∷ l) k
       go true h e i =
@@ -114,7 +111,7 @@ module _ {R : Type 0} (refuse : ℕ → R) where
           record { listed = rw (eq-eqb k c.0 (sym q)); holding = rw (eq-eqb c.0 k q) h; earlier = rw (eq-eqb c.0 k q) }
       go false h e i =
           let r = i e in
-          let n : eqb c.0 k ≡ false = not-true (eqb c.0 k) (λ t. true≢false (sym r.listed ∙ rw (eqb-true c.0 k t) at w.0)) in
+          let n : eqb c.0 k ≡ false = false_from_ne_true (eqb c.0 k) (λ t. true≢false (sym r.listed ∙ rw (eqb-true c.0 k t) at w.0)) in
           record { listed = rw r.listed (or-true (eqb k c.0)); holding = rw n r.holding; earlier = rw (n, h) r.earlier }
 
   -- a list in two parts
@@ -144,7 +141,7 @@ ruled-through g refuse z (c ∷ l) = go c.1 (ruled-through g refuse z l)
 pub ruled-by-number : {R : Type 0} (refuse : ℕ → R) (z : R) (l : List Condition) → any_in (λ (n : ℕ). eqb n 0) (numbers_of l) ≡ false
     → cond (eqb (number_in l) 0) z (refuse (number_in l)) ≡ ruled refuse z l
 ruled-by-number refuse z [] e = refl
-ruled-by-number refuse z (c ∷ l) e = let w = or-none (eqb c.0 0) (any_in (λ (n : ℕ). eqb n 0) (numbers_of l)) e in go c.1 w.0 (ruled-by-number refuse z l w.1)
+ruled-by-number refuse z (c ∷ l) e = let w = or_parts (eqb c.0 0) (any_in (λ (n : ℕ). eqb n 0) (numbers_of l)) e in go c.1 w.0 (ruled-by-number refuse z l w.1)
   where
     go : (b : Bool) → eqb c.0 0 ≡ false → cond (eqb (number_in l) 0) z (refuse (number_in l)) ≡ ruled refuse z l
         → cond (eqb (cond b c.0 (number_in l)) 0) z (refuse (cond b c.0 (number_in l))) ≡ cond b (refuse c.0) (ruled refuse z l)

@@ -7,6 +7,7 @@ use native.Mathlib.Omega.{arith}
 use lib.Dec.{eqb}
 use lib.ListN.{get_or}
 use Rattle.std.proofs.Common.{Result, Ok, Err}
+use Rattle.std.specs.Result.{IsErrAnd}
 use Rattle.refusals.specs.declared.Refusal.{Refusal}
 use Rattle.refusals.specs.declared.Refusal.TheVariants.{Misframed, TooManyPoints, ShortBuffer, BadSwitch, BadSetting, BadCell, BadPosition, RepeatedCell, TwoPositions, MapTooWide, RunFull, StrengthsLength, BadStrength, TwoStrengths}
 use Rattle.refusals.specs.Number.{refusal_number, numbered}
@@ -65,3 +66,8 @@ above-zero RunFull = refl
 above-zero StrengthsLength = refl
 above-zero BadStrength = refl
 above-zero TwoStrengths = refl
+
+-- a refusal that is handed on
+pub handed-on : {T : Type 0} (r : Result T Refusal) (e : Refusal) → IsErrAnd r (λ (d : Refusal). d ≡ e) → numbered r ≡ Err (refusal_number e)
+handed-on (Ok c) e h = absurd h
+handed-on (Err d) e h = ap (λ (x : Refusal). Err (refusal_number x)) h

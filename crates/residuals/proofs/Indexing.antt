@@ -10,7 +10,7 @@ use lib.Seq.{drop-append_seam}
 use lib.Ieee.{Float}
 use borrow.Author.Tests.{lt-ltb, le-ltb, ltb-true}
 use Rattle.folds.specs.Below.{fold, turn, last}
-use Rattle.folds.proofs.Below.{last-ext, and-swap}
+use Rattle.folds.proofs.Below.{last-ext}
 use Rattle.folds.specs.Lists.{list_of}
 use Rattle.folds.proofs.Lists.{length-list}
 use Rattle.folds.specs.Column.{column, overlaid}
@@ -26,6 +26,7 @@ use Rattle.float.specs.declared.Distance.{Distance}
 use Rattle.std.specs.Prelude.{Option, None, is_some}
 use Rattle.residuals.specs.declared.Flags.{Flags}
 use Rattle.residuals.specs.ByIndex.{last_fit, index_residual, residuals_of, over_at, high_at, rank_flags, index_flags}
+use Rattle.std.proofs.Math.Bool.{and_comm}
 
 -- of values stored over each other the last stays
 fold-value : (p : ℕ → Bool) (f : ℕ → Option Distance) (d : Option Distance) (e n : ℕ) → n ≤ e → fold (turn p (λ k x. f k)) d n ≡ cond (ltb (last p e n) e) (f (last p e n)) d
@@ -50,7 +51,7 @@ module _ (w : View) where
   value-placed r f k h =
       f.at (w.by_idx k) (omega (arith, length-replicate {A = Option Distance} max_points None))
       ∙ rw (get_or-replicate {A = Option Distance} max_points (w.by_idx k) None None h) (fold-value (counts w.by_idx (λ j. is_some (r j)) (w.by_idx k)) r None w.count w.count (omega arith))
-      ∙ ap (λ (j : ℕ). cond (ltb j w.count) (r j) None) (last-ext _ _ w.count w.count (λ j l. and-swap (alike w j k) (is_some (r j))))
+      ∙ ap (λ (j : ℕ). cond (ltb j w.count) (r j) None) (last-ext _ _ w.count w.count (λ j l. and_comm (alike w j k) (is_some (r j))))
 
   -- it goes by the residuals of ranks
   residual-ext : (r s : ℕ → Option Distance) → ((k : ℕ) → k < w.count → r k ≡ s k) → (k : ℕ) → index_residual w r k ≡ index_residual w s k

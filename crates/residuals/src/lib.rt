@@ -36,16 +36,15 @@ fn is_high(limit: f32, r: Residual) -> bool
 
 // The residual of each rank, which takes the place of what stood in the column.
 fn cell_residuals(view: &View, keys: &Words, values: &mut ResidualColumn)
-    ensures { values.new ≡ column max_points None view.now.lattice.count (residual_at (view_in view.now) (cells_at keys.now)) }
+    ensures { values.new ≡ column max_points None view.now.sheet.lattice.count (residual_at (view_in view.now) (cells_at keys.now)) }
 {
     let seen = Seen {
         keys,
-        x: view.x,
-        y: view.y,
+        positions: view.seen,
     };
     *values = [None; MAX_POINTS];
-    for k in 0..view.lattice.count {
-        values[k] = local_h::local_h_residual(&view.lattice, &seen, k);
+    for k in 0..view.sheet.lattice.count {
+        values[k] = local_h::local_h_residual(&view.sheet.lattice, &seen, k);
     }
 }
 
@@ -76,10 +75,10 @@ pub fn index_residuals(
     ensures flags { result ≡ index_flags (residual_at (view_in view.now) (cells_at keys.now)) (λ (j : ℕ). get_or scale.now j nan) tolerance (view_in view.now) }
 {
     cell_residuals(view, keys, values);
-    let Flags { over, high } = flags_of(&view.lattice, values, scale, tolerance);
+    let Flags { over, high } = flags_of(&view.sheet.lattice, values, scale, tolerance);
     by_index::gather(view, values);
     Flags {
-        over: marks::by_index(&view.sheet(), &over),
-        high: marks::by_index(&view.sheet(), &high),
+        over: marks::by_index(&view.sheet, &over),
+        high: marks::by_index(&view.sheet, &high),
     }
 }

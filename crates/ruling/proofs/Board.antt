@@ -15,11 +15,11 @@ use borrow.Author.Tests.{lt-ltb, le-ltb, le-leb, ne_eqb}
 use Rattle.folds.specs.Arith.{f32}
 use Rattle.folds.specs.Among.{any_in}
 use Rattle.folds.proofs.Among.{any-list, pair-no}
-use Rattle.folds.proofs.Below.{some-no, and-false, not-true}
+use Rattle.folds.proofs.Below.{some-no}
 use Rattle.folds.specs.Lists.{list_of}
 use Rattle.folds.proofs.Lists.{length-list, list_at, list_over, list_ext}
 use Rattle.view.specs.View.{max_points}
-use Rattle.refusals.proofs.Laws.{holds, neither-holds, none_passes}
+use Rattle.refusals.proofs.Laws.{holds, none_passes}
 use Rattle.sort.proofs.Sorted.{sort-length}
 use Rattle.cells.specs.Points.{Point, nowhere}
 use Rattle.cells.specs.Cell.{signed, within}
@@ -39,6 +39,8 @@ use Rattle.ruling.specs.Ruling.{refused, accepted, ruling_for, points_of, ruling
 use Rattle.ruling.specs.Limit.{point_count, WeightsFit, short_sheet, board_byte, board_at, board_points, board48}
 use Rattle.ruling.proofs.Given.{own-fraction, by-points, given}
 use Rattle.ruling.proofs.Limit.{fits, after-head, short-bytes, short-framed, short-fields}
+use Rattle.std.proofs.Math.Bool.{and-false}
+use Rattle.std.proofs.lemmas.Bool.{false_from_ne_true, or_from}
 
 -- ---- its points
 
@@ -99,11 +101,11 @@ different-cells i j l = go (ℕ_discrete (i / 48) (j / 48))
 points-pass : any_in holds (point_refusals Missing (list_of board_points board_point)) ≡ false
 unfolding point_refusals
 points-pass =
-    neither-holds (any-list board_point board_points off_range ∙ some-no (λ (i : ℕ). off_range (board_point i)) board_points (λ i h. rw (small-within (i / 48) (omega arith), small-within (i % 48) (omega arith))))
-    (neither-holds (any-list board_point board_points off_limit ∙ some-no (λ (i : ℕ). off_limit (board_point i)) board_points (λ i h. rw zero-inside))
-    (neither-holds (any-list board_point board_points off_strength ∙ some-no (λ (i : ℕ). off_strength (board_point i)) board_points (λ i h. rw zero-inside))
-    (neither-holds (pair-no board_point board_points same_cell (λ i j l h. different-cells i j l))
-    (neither-holds (pair-no board_point board_points two_positions (λ i j l h. and-false (eqb i j))) (neither-holds (pair-no board_point board_points two_strengths (λ i j l h. and-false (eqb i j))) refl)))))
+    or_from _ _ (any-list board_point board_points off_range ∙ some-no (λ (i : ℕ). off_range (board_point i)) board_points (λ i h. rw (small-within (i / 48) (omega arith), small-within (i % 48) (omega arith))))
+    (or_from _ _ (any-list board_point board_points off_limit ∙ some-no (λ (i : ℕ). off_limit (board_point i)) board_points (λ i h. rw zero-inside))
+    (or_from _ _ (any-list board_point board_points off_strength ∙ some-no (λ (i : ℕ). off_strength (board_point i)) board_points (λ i h. rw zero-inside))
+    (or_from _ _ (pair-no board_point board_points same_cell (λ i j l h. different-cells i j l))
+    (or_from _ _ (pair-no board_point board_points two_positions (λ i j l h. and-false (eqb i j))) (or_from _ _ (pair-no board_point board_points two_strengths (λ i j l h. and-false (eqb i j))) refl)))))
 
 -- ---- nor to its header
 
@@ -128,9 +130,9 @@ header-passes : (file : List ℕ) (room : ℕ) (w : WellFramed file) → Weights
 unfolding header_refusals
 header-passes file room w o few l a b =
     let n = points-counted file w in
-    neither-holds (well-framed file w)
-    (neither-holds (fits file room w o)
-    (neither-holds (le-ltb max_points (layout_of file).count (omega arith)) (neither-holds (le-ltb room (28 * (layout_of file).count) (omega arith)) (neither-holds a (neither-holds b refl)))))
+    or_from _ _ (well-framed file w)
+    (or_from _ _ (fits file room w o)
+    (or_from _ _ (le-ltb max_points (layout_of file).count (omega arith)) (or_from _ _ (le-ltb room (28 * (layout_of file).count) (omega arith)) (or_from _ _ a (or_from _ _ b refl)))))
 
 -- ---- so it is accepted, with all its points
 
@@ -171,7 +173,7 @@ unfolding fraction_of
 no_fraction file f e = own-fraction file f ∙ rw e
 
 no-weights : (f : Layout) → weights_size f ≡ 0 → is_some f.weights ≡ false
-no-weights f e = not-true (is_some f.weights) (λ t. omega (arith, rw t at e))
+no-weights f e = false_from_ne_true (is_some f.weights) (λ t. omega (arith, rw t at e))
 
 board-framed : (w : WellFramed board48) × (point_count w ≡ board_points) × (length w.weights ≡ 0)
 board-framed = short-framed board_bytes board_points board-size (omega arith)
@@ -204,4 +206,4 @@ pub board-short : (room : ℕ) → room < 64512 → ruling_of board48 room ≡ r
 unfolding applies
 board-short room l =
     given board48 room 3 (lt-ltb room (28 * (layout_of board48).count) (omega (arith, board-count)))
-    (neither-holds (well-framed board48 board-framed.0) (neither-holds (fits board48 room board-framed.0 (inl board-framed.2)) (neither-holds (le-ltb max_points (layout_of board48).count (omega (arith, board-count))) refl)))
+    (or_from _ _ (well-framed board48 board-framed.0) (or_from _ _ (fits board48 room board-framed.0 (inl board-framed.2)) (or_from _ _ (le-ltb max_points (layout_of board48).count (omega (arith, board-count))) refl)))

@@ -21,8 +21,8 @@ use Rattle.sheet_file.specs.declared.Layout.{Layout}
 use Rattle.sheet_file.specs.declared.Fraction.{Fraction}
 use Rattle.sheet_file.specs.declared.Fraction.TheVariants.{Missing}
 use Rattle.sheet_file.proofs.Words.{le16-same, le32-same}
-use Rattle.sheet_file.proofs.Fields.{field_in, points-from-is, StrengthsAt, strengths-there, strengths-absent, GateAt, gate-there, gate-absent, Fields, full-settings, short-settings, fields-of, points-in, before-points}
-use Rattle.points.specs.Records.{points_in}
+use Rattle.sheet_file.proofs.Fields.{field_in, points-from-is, StrengthsAt, strengths-there, strengths-absent, GateAt, gate-there, gate-absent, Fields, full-settings, short-settings, fields-of, points-in, before-points, strengths-after}
+use Rattle.points.specs.Records.{points_in, ith_strength}
 use Rattle.ruling.specs.Ruling.{refused, ruling_for, ruling_of}
 use Rattle.ruling.specs.Header.{points_end, Headed}
 use Rattle.ruling.specs.Switches.{switched}
@@ -195,6 +195,18 @@ module _ (file other : List ℕ) (f : Layout) (framed : framing_of file ≡ Some
       → ruling_of other room ≡ ruled refused (ruling_for (settings_of other f) (points_in other f)) (header_refusals file room (Some f))
   unfolding header_refusals
   carried-alike e room = by-points other room ∙ rw (frame-alike, e, floats_same)
+
+-- ---- the strengths, which stand after the points
+
+pub strengths-alike : (file other : List ℕ) (f : Layout) → framing_of file ≡ Some f → ((k : ℕ) → points_end f ≤ k → get_or other k 0 ≡ get_or file k 0) → (i : ℕ) → ith_strength other f i ≡ ith_strength file f i
+strengths-alike file other f framed after i = go (is_some f.weights) (λ w. strengths-after file f w (before-points file f framed))
+  where
+    at : ℕ
+    at = (weights_of f).at + 4 + 4 * i
+
+    go : (b : Bool) → (b ≡ true → points_end f ≤ (weights_of f).at) → cond b (le32 other at) 0 ≡ cond b (le32 file at) 0
+    go true s = let l = s refl in le32-same file at other at (λ k m. after (at + k) (omega arith))
+    go false s = refl
 
 -- ---- with the same switches
 

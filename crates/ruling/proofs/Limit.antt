@@ -12,8 +12,6 @@ use lib.Seq.{get_or-append-add}
 use lib.Dec.{eqb}
 use borrow.Author.Tests.{lt-ltb, ltb-true, eq-eqb, eqb-true}
 use Rattle.folds.specs.Lists.{All}
-use Rattle.folds.proofs.Below.{not-false}
-use Rattle.refusals.proofs.Laws.{neither-holds}
 use Rattle.folds.proofs.Column.{replicate-at}
 use Rattle.view.specs.View.{max_points}
 use Rattle.sheet_file.specs.Bytes.{Bytes, byte_at, le16}
@@ -27,6 +25,7 @@ use Rattle.sheet_file.proofs.Grammar.{well-framed, points-counted, weights-count
 use Rattle.ruling.specs.Ruling.{refused, ruling_of, applies}
 use Rattle.ruling.specs.Limit.{point_count, WeightsFit, Passes, LimitPromise, short_sheet, zero_sheet}
 use Rattle.ruling.proofs.Given.{given, is-given}
+use Rattle.std.proofs.lemmas.Bool.{not-false, or_from}
 
 -- ---- every file
 
@@ -63,7 +62,7 @@ module _ (file : List ℕ) (room : ℕ) where
 
   unfit-twelve : (w : WellFramed file) → (WeightsFit w → ⊥) → ruling_of file room ≡ refused 12
   unfolding applies
-  unfit-twelve w f = given file room 12 (go (misfit (layout_of file)) refl) (neither-holds (well-framed file w) refl)
+  unfit-twelve w f = given file room 12 (go (misfit (layout_of file)) refl) (or_from _ _ (well-framed file w) refl)
     where
       go : (b : Bool) → misfit (layout_of file) ≡ b → b ≡ true
       go true m = refl
@@ -73,7 +72,7 @@ module _ (file : List ℕ) (room : ℕ) where
   pub more-refused : (w : WellFramed file) → WeightsFit w → max_points < point_count w → ruling_of file room ≡ refused 2
   unfolding applies
   more-refused w o l =
-      given file room 2 (lt-ltb max_points (layout_of file).count (omega (arith, points-counted file w))) (neither-holds (well-framed file w) (neither-holds (fits w o) refl))
+      given file room 2 (lt-ltb max_points (layout_of file).count (omega (arith, points-counted file w))) (or_from _ _ (well-framed file w) (or_from _ _ (fits w o) refl))
 
   -- at most as many
   pub few-pass : (w : WellFramed file) → point_count w ≤ max_points → Passes file room

@@ -19,7 +19,7 @@ use mir.ValLaws.{to_z-of_z, of_z-to_z}
 use borrow.Author.Tests.{lt-ltb, le-ltb, le-leb, lt-leb}
 use Rattle.folds.specs.Among.{any_in}
 use Rattle.folds.proofs.Among.{any-list}
-use Rattle.folds.proofs.Below.{some-no, or-true}
+use Rattle.folds.proofs.Below.{some-no}
 use Rattle.folds.proofs.Lists.{length-list, list_at, list_over}
 use Rattle.cells.specs.Points.{Point, nowhere}
 use Rattle.cells.specs.Cell.{Cell, CellInRange, cell_of, signed, within, moved}
@@ -39,6 +39,7 @@ use Rattle.ruling.specs.Header.{points_end, Headed}
 use Rattle.ruling.specs.Offset.{FileDisplaced, byte_of, moved_byte, byte_moved, moved_file, StaysInRange}
 use Rattle.ruling.proofs.Header.{frame_same}
 use Rattle.ruling.proofs.Standing.{accepted-file}
+use Rattle.std.proofs.Math.Bool.{or-true}
 
 -- ---- a whole number in range, and its four bytes
 

@@ -1,17 +1,14 @@
 -- Accepted points that are moved, their cells staying in range, are accepted with the same settings, and in cell order they are the old ones
 -- moved: of a list of points, and of a file. Assumes nothing.
-use Rattle.std.specs.Prelude.{Some, is_some}
+use Rattle.std.specs.Prelude.{Some}
 use mathlib.Core.Path.{◌≡◌, refl, sym, ap, ◌∙◌}
-use mathlib.Core.Bool.{Bool, true, false, cond}
+use mathlib.Core.Bool.{Bool, false}
 use mathlib.Core.List.{List, map}
-use Prim.{Dec, yes, no}
 use Prim.Native.Nat.{ℕ, ◌+◌, ◌*◌, ◌≤◌, ◌<◌}
-use native.Mathlib.Decide.{dec_lt}
 use native.Mathlib.Omega.{arith}
 use lib.Dec.{ltb}
 use lib.IntN.{ℤ}
 use lib.ListN.{length, get_or, length-map, get_or-map}
-use borrow.Author.Tests.{lt-ltb, le-ltb}
 use Rattle.folds.specs.Among.{any_in, pair_in}
 use Rattle.folds.specs.Lists.{All, list_of}
 use Rattle.folds.proofs.Lists.{list_at, is-list, get_d_any}
@@ -23,33 +20,29 @@ use Rattle.sort.specs.Sorted.{sort}
 use Rattle.sort.proofs.Sorted.{sort-all, all-at}
 use Rattle.grid.specs.Moved.{Moved}
 use Rattle.sheet_file.specs.Bytes.{Bytes, le32}
-use Rattle.sheet_file.specs.Frame.{framing_of, layout_of, weights_of}
+use Rattle.sheet_file.specs.Frame.{framing_of, layout_of}
 use Rattle.sheet_file.specs.Refusals.{settings_of, header_refusals}
 use Rattle.sheet_file.specs.declared.Fraction.{Fraction}
 use Rattle.sheet_file.specs.declared.Layout.{Layout}
 use Rattle.sheet_file.specs.declared.Settings.{Settings}
 use Rattle.sheet_file.proofs.Words.{le32-same}
-use Rattle.sheet_file.proofs.Fields.{before-points, strengths-after}
 use Rattle.points.specs.Records.{ith_strength, ith_point, points_in}
 use Rattle.points.specs.Refusals.{point_refusals, off_range, off_limit, off_strength, same_cell, two_positions, two_strengths, cell_order, comes_before}
 use Rattle.points.proofs.Clashes.{Ranged, cells-by-key}
 use Rattle.points.proofs.Located.{length-points}
 use Rattle.ruling.specs.Ruling.{refused, accepted, ruling_for, ruling_of}
-use Rattle.ruling.specs.Header.{points_end, Headed}
+use Rattle.ruling.specs.Header.{Headed}
 use Rattle.ruling.specs.Offset.{Displaced, AllDisplaced, FileDisplaced, MovedAlong}
 use Rattle.ruling.proofs.Given.{for-accepted, in-file}
-use Rattle.ruling.proofs.Header.{carried}
+use Rattle.ruling.proofs.Header.{carried, strengths-alike}
 use Rattle.ruling.proofs.Numbered.{first_numbers, numbers-below, any_same, pair_same, sorted-by-number}
 use Rattle.ruling.proofs.Standing.{Words, all-in-range, none_apart, words-in, accepted-file}
+use Rattle.folds.proofs.Below.{ltb_as}
 
 -- ---- of a list of points
 
 less-moved : (k l m o up down : ℕ) → m + down ≡ k + up → o + down ≡ l + up → ltb k l ≡ ltb m o
-less-moved k l m o up down p q = go (dec_lt k l)
-  where
-    go : Dec (k < l) → ltb k l ≡ ltb m o
-    go (yes h) = lt-ltb k l h ∙ sym (lt-ltb m o (omega arith))
-    go (no h) = le-ltb k l (omega arith) ∙ sym (le-ltb m o (omega arith))
+less-moved k l m o up down p q = ltb_as k l m o (λ h. omega arith) (λ h. omega arith)
 
 module _ (a b : ℤ) (ps qs : List Point) (o : AllDisplaced a b ps qs) (wp : All Words ps) (wq : All Words qs) (ok : any_in off_range ps ≡ false) (in-range : any_in off_range qs ≡ false) where
   abbrev n : ℕ
@@ -170,14 +163,7 @@ module _ (file other : List ℕ) (f : Layout) (a b : ℤ) (o : FileDisplaced fil
   headed = record { size = o.size; head = o.head; after = λ k l m. o.after k l }
 
   strength-stays : framing_of file ≡ Some f → (i : ℕ) → ith_strength other f i ≡ ith_strength file f i
-  strength-stays framed i = go (is_some f.weights) (λ w. strengths-after file f w (before-points file f framed))
-    where
-      at : ℕ
-      at = (weights_of f).at + 4 + 4 * i
-
-      go : (b : Bool) → (b ≡ true → points_end f ≤ (weights_of f).at) → cond b (le32 other at) 0 ≡ cond b (le32 file at) 0
-      go true s = let l = s refl in le32-same file at other at (λ k m. o.after (at + k) (omega arith))
-      go false s = refl
+  strength-stays framed = strengths-alike file other f framed o.after
 
   record-moved : framing_of file ≡ Some f → (i : ℕ) → i < f.count → Displaced a b (ith_point file f i) (ith_point other f i)
   record-moved framed i h = record {

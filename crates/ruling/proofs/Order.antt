@@ -36,7 +36,7 @@ use Rattle.ruling.proofs.Standing.{Words, cell-either-way, none_apart, one-order
 position-either-way : (p q : Point) → two_positions p q ≡ two_positions q p
 position-either-way p q = rw (eqb_swap p.index q.index, eqb_swap p.x q.x, eqb_swap p.y q.y)
 
-strength-either-way : (p q : Point) → two_strengths p q ≡ two_strengths q p
+pub strength-either-way : (p q : Point) → two_strengths p q ≡ two_strengths q p
 strength-either-way p q = rw (eqb_swap p.index q.index, eqb_swap p.strength q.strength)
 
 refusals-same : (x : Fraction) {ps qs : List Point} → Permᴰ ps qs → point_refusals x ps ≡ point_refusals x qs

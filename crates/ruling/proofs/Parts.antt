@@ -8,7 +8,7 @@ use lib.Dec.{eqb}
 use lib.ListN.{length}
 use borrow.Author.Tests.{ltb-false}
 use Rattle.std.proofs.Common.{Result, Ok, Err}
-use Rattle.refusals.specs.Number.{refusal_number, numbered}
+use Rattle.refusals.specs.Number.{numbered}
 use Rattle.refusals.specs.declared.Refusal.{Refusal}
 use Rattle.refusals.proofs.Number.{err-no-ok, above-zero}
 use Rattle.refusals.proofs.Laws.{none-applies-in, only_none, ruled-through, ruled-by-number}

@@ -12,7 +12,6 @@ use lib.ListN.{length, get_or}
 use borrow.Author.Tests.{eq-eqb, ltb-false}
 use Rattle.folds.specs.Among.{any_in, pair_in}
 use Rattle.folds.proofs.Among.{none_in, any_order, pair-order}
-use Rattle.folds.proofs.Below.{or-none}
 use Rattle.folds.specs.Lists.{All, list_of}
 use Rattle.folds.proofs.Lists.{length-list, list_at, is-list}
 use Rattle.view.specs.View.{max_points}
@@ -40,6 +39,7 @@ use Rattle.points.proofs.Located.{length-points}
 use Rattle.ruling.specs.Ruling.{accepted, ruling_for, ruling_of, points_of, applies}
 use Rattle.ruling.proofs.Given.{for-accepted, none-applies, is-accepted, in-file}
 use Rattle.ruling.proofs.Numbered.{sorted-by-number}
+use Rattle.std.proofs.lemmas.Bool.{or_parts}
 
 -- ---- lists by place
 
@@ -47,8 +47,8 @@ use Rattle.ruling.proofs.Numbered.{sorted-by-number}
 pair-none : {A : Type 0} (t : A → A → Bool) (d : A) (l : List A) → pair_in t l ≡ false → (i j : ℕ) → i < j → j < length l → t (get_or l i d) (get_or l j d) ≡ false
 pair-none t d [] e i j ij jn = absurd (omega arith)
 pair-none t d (a ∷ l) e i zero ij jn = absurd (omega arith)
-pair-none t d (a ∷ l) e zero (suc j) ij jn = all-at (λ b. t a b ≡ false) d l (none_in (t a) l (or-none (any_in (t a) l) (pair_in t l) e).0) j (omega arith)
-pair-none t d (a ∷ l) e (suc i) (suc j) ij jn = pair-none t d l (or-none (any_in (t a) l) (pair_in t l) e).1 i j (omega arith) (omega arith)
+pair-none t d (a ∷ l) e zero (suc j) ij jn = all-at (λ b. t a b ≡ false) d l (none_in (t a) l (or_parts (any_in (t a) l) (pair_in t l) e).0) j (omega arith)
+pair-none t d (a ∷ l) e (suc i) (suc j) ij jn = pair-none t d l (or_parts (any_in (t a) l) (pair_in t l) e).1 i j (omega arith) (omega arith)
 
 rises-at : {A : Type 0} (before : A → A → Bool) (d : A) (l : List A) → Rises before l → (i j : ℕ) → i < j → j < length l → before (get_or l j d) (get_or l i d) ≡ false
 rises-at before d [] r i j ij jn = absurd (omega arith)
@@ -80,7 +80,7 @@ pub record Words (p : Point) : Type 0 where
 
 pub all-in-range : (ps : List Point) → All Words ps → any_in off_range ps ≡ false → All Ranged ps
 all-in-range [] h e = tt
-all-in-range (p ∷ ps) h e = let w = or-none (off_range p) (any_in off_range ps) e in (ranged p h.0.u h.0.v w.0, all-in-range ps h.1 w.1)
+all-in-range (p ∷ ps) h e = let w = or_parts (off_range p) (any_in off_range ps) e in (ranged p h.0.u h.0.v w.0, all-in-range ps h.1 w.1)
 
 -- points that are all in range, and no two in one cell
 pub record Apart (ps : List Point) : Type 0 where
@@ -158,7 +158,7 @@ none_apart x ps h e = let no = none-applies-in (point_refusals x ps) e in record
 
 in-limit : (x : Fraction) (ps : List Point) → any_in holds (point_refusals x ps) ≡ false → (any_in off_limit ps ≡ false) × (any_in off_strength ps ≡ false)
 unfolding point_refusals
-in-limit x ps e = let no = none-applies-in (point_refusals x ps) e in (no 7, (or-none (off_fraction x) (any_in off_strength ps) (no 13)).1)
+in-limit x ps e = let no = none-applies-in (point_refusals x ps) e in (no 7, (or_parts (off_fraction x) (any_in off_strength ps) (no 13)).1)
 
 -- what accepted points are: "in cell order", no position and no strength off the limit
 pub record Sound (ps : List Point) : Type 0 where

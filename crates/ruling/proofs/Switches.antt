@@ -1,32 +1,30 @@
 -- "Changing only the two switches": the file stays accepted, with the same points, and of its settings the two switches alone change.
 -- Assumes nothing.
-use Rattle.std.specs.Prelude.{Some, is_some}
+use Rattle.std.specs.Prelude.{Some}
 use mathlib.Core.Path.{◌≡◌, refl, sym, ◌∙◌}
-use mathlib.Core.Bool.{Bool, true, false, cond, ◌||◌}
+use mathlib.Core.Bool.{true, false, ◌||◌}
 use mathlib.Core.List.{List}
 use mathlib.Core.Logic.{inl, inr}
 use Prim.Native.Nat.{ℕ, ◌+◌, ◌*◌, ◌≤◌}
 use lib.ListN.{get_or}
 use native.Mathlib.Omega.{arith}
-use Rattle.folds.proofs.Below.{or-none}
 use Rattle.folds.proofs.Lists.{list_ext}
 use Rattle.refusals.proofs.Laws.{none_passes}
 use Rattle.cells.specs.Points.{Point, nowhere}
-use Rattle.sheet_file.specs.Bytes.{byte_at, le32}
-use Rattle.sheet_file.specs.Frame.{framing_of, layout_of, weights_of}
+use Rattle.sheet_file.specs.Bytes.{byte_at}
+use Rattle.sheet_file.specs.Frame.{framing_of, layout_of}
 use Rattle.sheet_file.specs.Refusals.{settings_of, no_flag, bad_flag, header_refusals}
 use Rattle.sheet_file.specs.declared.Layout.{Layout}
 use Rattle.sheet_file.specs.declared.Settings.{Settings}
-use Rattle.sheet_file.proofs.Words.{le32-same}
-use Rattle.sheet_file.proofs.Fields.{before-points, strengths-after}
+use Rattle.sheet_file.proofs.Fields.{before-points}
 use Rattle.points.specs.Records.{ith_strength, ith_point, points_in}
 use Rattle.points.proofs.Located.{point-same}
 use Rattle.ruling.specs.Ruling.{refused, accepted, ruling_for, ruling_of, applies}
-use Rattle.ruling.specs.Header.{points_end}
 use Rattle.ruling.specs.Switches.{Switched, switched}
 use Rattle.ruling.proofs.Given.{other-settings, none-applies, in-file}
-use Rattle.ruling.proofs.Header.{SameHeader, settings-alike, carried-alike}
+use Rattle.ruling.proofs.Header.{SameHeader, settings-alike, carried-alike, strengths-alike}
 use Rattle.ruling.proofs.Standing.{accepted-file}
+use Rattle.std.proofs.lemmas.Bool.{or_parts}
 
 module _ (file other : List ℕ) (f : Layout) (h : Switched file other) (framed : framing_of file ≡ Some f) (full : f.full ≡ true) where
   alike : SameHeader file other f
@@ -34,7 +32,7 @@ module _ (file other : List ℕ) (f : Layout) (h : Switched file other) (framed 
 
   flags-fine : bad_flag file f ≡ false → bad_flag other f ≡ false
   unfolding bad_flag
-  flags-fine e = rw (full, h.rest 17 (inl (omega arith)), (or-none (no_flag (byte_at file 17)) (no_flag (byte_at file 22) || no_flag (byte_at file 23)) (rw full at e)).0, h.first, h.second)
+  flags-fine e = rw (full, h.rest 17 (inl (omega arith)), (or_parts (no_flag (byte_at file 17)) (no_flag (byte_at file 22) || no_flag (byte_at file 23)) (rw full at e)).0, h.first, h.second)
 
   settings-switched : settings_of other f ≡ switched (settings_of file f) (byte_at other 22) (byte_at other 23)
   settings-switched = settings-alike file other f framed alike ∙ rw full
@@ -43,14 +41,7 @@ module _ (file other : List ℕ) (f : Layout) (h : Switched file other) (framed 
   late k l = h.rest k (inr (omega (arith, (before-points file f framed).long full)))
 
   strengths-are : (i : ℕ) → ith_strength other f i ≡ ith_strength file f i
-  strengths-are i = go (is_some f.weights) (λ w. strengths-after file f w (before-points file f framed))
-    where
-      at : ℕ
-      at = (weights_of f).at + 4 + 4 * i
-
-      go : (b : Bool) → (b ≡ true → points_end f ≤ (weights_of f).at) → cond b (le32 other at) 0 ≡ cond b (le32 file at) 0
-      go true s = let l = s refl in le32-same file at other at (λ k m. late (at + k) (omega arith))
-      go false s = refl
+  strengths-are = strengths-alike file other f framed (λ k l. late k (omega arith))
 
   points-are : points_in other f ≡ points_in file f
   unfolding points_in

@@ -14,7 +14,7 @@ use borrow.Author.Tests.{eqb-true, ltb-false}
 use Rattle.folds.specs.Arith.{f32}
 use Rattle.folds.specs.Among.{any_in}
 use Rattle.folds.specs.Below.{every}
-use Rattle.folds.proofs.Below.{every-at, or-none}
+use Rattle.folds.proofs.Below.{every-at}
 use Rattle.refusals.proofs.Laws.{numbers_of}
 use Rattle.sort.specs.Sorted.{sort}
 use Rattle.cells.specs.Points.{Point, nowhere}
@@ -34,6 +34,7 @@ use Rattle.ruling.specs.Limit.{point_count, WeightsFit, short_sheet, zero_sheet}
 use Rattle.ruling.proofs.Given.{numbers-are}
 use Rattle.ruling.proofs.Limit.{more-refused, limit, zero-bytes}
 use Rattle.ruling.proofs.Order.{same-ruling}
+use Rattle.std.proofs.lemmas.Bool.{or_parts}
 
 -- ---- the files
 
@@ -190,8 +191,8 @@ order-shown file room = numbers-are file room
 pub bytes-by : (file : List ℕ) → any_in (ltb 255) file ≡ false → Bytes file
 bytes-by [] e zero = omega arith
 bytes-by [] e (suc k) = omega arith
-bytes-by (b ∷ file) e zero = omega (arith, ltb-false 255 b (or-none (ltb 255 b) (any_in (ltb 255) file) e).0)
-bytes-by (b ∷ file) e (suc k) = bytes-by file (or-none (ltb 255 b) (any_in (ltb 255) file) e).1 k
+bytes-by (b ∷ file) e zero = omega (arith, ltb-false 255 b (or_parts (ltb 255 b) (any_in (ltb 255) file) e).0)
+bytes-by (b ∷ file) e (suc k) = bytes-by file (or_parts (ltb 255 b) (any_in (ltb 255) file) e).1 k
 
 module _ (n : ℕ) (body : List ℕ) where
   abbrev zeros : List ℕ

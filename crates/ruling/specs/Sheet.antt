@@ -1,5 +1,5 @@
 -- The ruling as the code hands it back: the settings and the table of the points, or a refusal. Assumes nothing.
-use Rattle.std.specs.Prelude.{◌≡◌, List, ℕ, length, Result, Ok, Err}
+use Rattle.std.specs.Prelude.{◌≡◌, List, length, Result, Ok, Err}
 use Rattle.refusals.specs.Number.{refusal_number}
 use Rattle.refusals.specs.declared.Refusal.{Refusal}
 use Rattle.cells.specs.Points.{Point}

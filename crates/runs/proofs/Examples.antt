@@ -25,7 +25,7 @@ tallied kept v o w l c = some (v ∷ o ∷ w ∷ l ∷ c ∷ kept ∷ [])
 abbrev keeping : ℕ → Yield
 keeping n = tallied n 0 0 0 0 0
 
-abbrev record_of : List ℕ → ℕ → List ℕ → Run
+abbrev pub record_of : List ℕ → ℕ → List ℕ → Run
 record_of old sheets new = record { old_sums = old; sheets = sheets; new_sums = new }
 
 -- so many sheets, on which so many indices were kept and none marked

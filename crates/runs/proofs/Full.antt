@@ -9,9 +9,10 @@ use lib.ListN.{length, get_or, drop, drop_of_length-le}
 use lib.Seq.{drop-cons}
 use borrow.Author.Tests.{leb-false, lt-leb}
 use Rattle.folds.specs.Among.{any_in}
-use Rattle.folds.proofs.Below.{or-none, or-false}
 use Rattle.runs.specs.Run.{most_sheets, sum_limit, full}
 use Rattle.runs.specs.declared.Run.{Run}
+use Rattle.std.proofs.Math.Bool.{or-false}
+use Rattle.std.proofs.lemmas.Bool.{or_parts}
 
 -- ---- of any list
 
@@ -28,8 +29,8 @@ module _ {A : Type 0} (t : A → Bool) (d : A) where
   pub none-at : (l : List A) → t d ≡ false → any_in t l ≡ false → (i : ℕ) → t (get_or l i d) ≡ false
   none-at [] e h zero = e
   none-at [] e h (suc i) = e
-  none-at (a ∷ l) e h zero = (or-none (t a) (any_in t l) h).0
-  none-at (a ∷ l) e h (suc i) = none-at l e (or-none (t a) (any_in t l) h).1 i
+  none-at (a ∷ l) e h zero = (or_parts (t a) (any_in t l) h).0
+  none-at (a ∷ l) e h (suc i) = none-at l e (or_parts (t a) (any_in t l) h).1 i
 
   pub none_of : (l : List A) → ((i : ℕ) → t (get_or l i d) ≡ false) → any_in t l ≡ false
   none_of [] h = refl
@@ -45,7 +46,7 @@ pub record Below (r : Run) : Type 0 where
 pub not_full : (r : Run) → full r ≡ false → Below r
 unfolding full
 not_full r e =
-    let w = or-none (leb most_sheets r.sheets) (any_in (leb sum_limit) r.new_sums) e in
+    let w = or_parts (leb most_sheets r.sheets) (any_in (leb sum_limit) r.new_sums) e in
     record {
       few = leb-false most_sheets r.sheets w.0;
       low = λ i. leb-false sum_limit (get_or r.new_sums i 0) (none-at (leb sum_limit) 0 r.new_sums refl w.1 i);

@@ -9,13 +9,14 @@ use lib.Dec.{eqb, leb}
 use lib.ListN.{length, get_or}
 use borrow.Author.Tests.{eqb-true, leb-true, eq-eqb, le-leb, lt-leb}
 use Rattle.folds.specs.Lists.{All, over}
-use Rattle.folds.proofs.Below.{or-none, both_ways}
 use Rattle.folds.proofs.Column.{replicate-at}
 use Rattle.runs.specs.Run.{summed, most_sheets, sum_limit, full, with_sheet, Small, Yield, taken, added, run_with, run_over, tallies_in, sum_in, some_full}
 use Rattle.runs.specs.Promises.{SheetPromise, Totals, TotalsPromise, NoneFull, OrderPromise, SmallYield, FitsU32, FitsPromise, Bounded, StartPromise}
 use Rattle.runs.specs.declared.Run.{Run}
 use Rattle.runs.proofs.Full.{not_full, full_by}
 use Rattle.runs.proofs.Adding.{sum-at, sum-le, old-stands, count-up, sum-cons, added-swap, taken_is, with-is, over_none, full-none, over-cons, tallies-cons, full-cons}
+use Rattle.std.proofs.lemmas.Bool.{or_parts}
+use Rattle.std.specs.Cmp.{both_ways}
 
 -- ---- one sheet
 
@@ -65,7 +66,7 @@ all-added : (r : Run) (sheets : List Yield) → NoneFull r sheets → run_over r
 unfolding over
 all-added r [] e = over_none r
 all-added r (sheet ∷ l) e =
-    let w = or-none (full r) (some_full (run_with r sheet) l) (sym (full-cons r sheet l) ∙ e) in
+    let w = or_parts (full r) (some_full (run_with r sheet) l) (sym (full-cons r sheet l) ∙ e) in
     let t : run_with r sheet ≡ added r sheet = rw (with-is r sheet, taken_is r sheet, w.0) in
     over-cons r sheet l ∙ rw t (all-added (added r sheet) l (rw t at w.1))
 

@@ -32,7 +32,7 @@ const SUMMED: [usize; NEW_SUMS] = [
 
 // The sums of the tallies under the old count, which counted cells; how many sheets were accepted; and the sums of their tallies, which
 // count indices.
-#[derive(Clone, Copy)]
+#[derive(Clone, Copy, PartialEq, Eq)]
 pub struct Run {
     pub old_sums: [u32; OLD_SUMS],
     pub sheets: u32,

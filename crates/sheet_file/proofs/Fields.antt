@@ -7,13 +7,13 @@ use native.Mathlib.Omega.{arith}
 use borrow.Author.Tests.{leb-true, eqb-true}
 use lib.Dec.{eqb, leb}
 use lib.ListN.{length}
-use Rattle.folds.proofs.Below.{and_left, and_right, not-false}
 use Rattle.sheet_file.specs.Bytes.{byte_at, le16}
 use Rattle.sheet_file.specs.Frame.{field_at, end_from, weighed_at, unweighed, strengths_from, points_from, gate_from, framing_of, layout_in, layout_of, weights_of, gate_start, Held}
 use Rattle.sheet_file.specs.Refusals.{misframing, misframed, misfit}
 use Rattle.sheet_file.specs.declared.Weights.{Weights}
 use Rattle.sheet_file.specs.declared.Layout.{Layout}
 use Rattle.std.specs.Prelude.{Option, Some, None, is_some, unwrap_or}
+use Rattle.std.proofs.lemmas.Bool.{and_parts, not-false}
 
 pub is_framed : (file : List ℕ) → misframed file ≡ false → framing_of file ≡ Some (layout_of file)
 is_framed file m = go (framing_of file) m
@@ -33,11 +33,11 @@ pub record FieldIn (file : List ℕ) (at tag n : ℕ) : Type 0 where
 pub field_in : (file : List ℕ) (at tag n : ℕ) → field_at file at tag n ≡ true → FieldIn file at tag n
 unfolding field_at
 field_in file at tag n e =
-    let r = and_right (leb (at + 3 + n) (length file)) (eqb (byte_at file at) tag && eqb (le16 file (at + 1)) n) e in
+    let r = (and_parts (leb (at + 3 + n) (length file)) (eqb (byte_at file at) tag && eqb (le16 file (at + 1)) n) e).1 in
     record {
-      fits = leb-true (at + 3 + n) (length file) (and_left (leb (at + 3 + n) (length file)) (eqb (byte_at file at) tag && eqb (le16 file (at + 1)) n) e);
-      tag_is = eqb-true (byte_at file at) tag (and_left (eqb (byte_at file at) tag) (eqb (le16 file (at + 1)) n) r);
-      size_is = eqb-true (le16 file (at + 1)) n (and_right (eqb (byte_at file at) tag) (eqb (le16 file (at + 1)) n) r);
+      fits = leb-true (at + 3 + n) (length file) (and_parts (leb (at + 3 + n) (length file)) (eqb (byte_at file at) tag && eqb (le16 file (at + 1)) n) e).0;
+      tag_is = eqb-true (byte_at file at) tag (and_parts (eqb (byte_at file at) tag) (eqb (le16 file (at + 1)) n) r).0;
+      size_is = eqb-true (le16 file (at + 1)) n (and_parts (eqb (byte_at file at) tag) (eqb (le16 file (at + 1)) n) r).1;
     }
 
 -- the data of tag 4, if it is there
@@ -121,10 +121,10 @@ module _ (file : List ℕ) (f : Layout) where
       let w = by-test (field_at file at 3 n && eqb (n % 20) 0) (strengths_from file (at + 3 + n) g) f e in
       let h = strengths-in (at + 3 + n) g refl w.1 in
       let q : f.count ≡ n / 20 = h.1.count-is in
-      let z = eqb-true (n % 20) 0 (and_right (field_at file at 3 n) (eqb (n % 20) 0) w.0) in
+      let z = eqb-true (n % 20) 0 (and_parts (field_at file at 3 n) (eqb (n % 20) 0) w.0).1 in
       let m : n ≡ 20 * f.count = omega arith in
       record {
-        field-there = rw m at (and_left (field_at file at 3 n) (eqb (n % 20) 0) w.0);
+        field-there = rw m at (and_parts (field_at file at 3 n) (eqb (n % 20) 0) w.0).0;
         after = rw m at h.0;
         full_is = h.1.full_is;
         gated-is = h.1.gated-is;

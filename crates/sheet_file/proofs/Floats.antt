@@ -4,7 +4,6 @@ use mathlib.Core.Bool.{true, false, ◌&&◌}
 use mathlib.Core.List.{List}
 use Prim.Native.Nat.{ℕ}
 use lib.Ieee.{Float}
-use Rattle.folds.proofs.Below.{or-none}
 use Rattle.folds.specs.Among.{any_in}
 use Rattle.folds.proofs.Among.{none_in}
 use Rattle.folds.specs.Lists.{All}
@@ -12,6 +11,7 @@ use Rattle.sheet_file.specs.Limit.{outside}
 use Rattle.sheet_file.specs.Frame.{gate_start}
 use Rattle.sheet_file.specs.Refusals.{settings_floats, gate_floats, bad_float}
 use Rattle.sheet_file.specs.declared.Layout.{Layout}
+use Rattle.std.proofs.lemmas.Bool.{or_parts}
 
 -- all are finite and at most 16,384 in magnitude
 abbrev pub Inside : List Float → Type 0
@@ -20,7 +20,7 @@ Inside l = All (λ (x : Float). outside x ≡ false) l
 module _ (file : List ℕ) (f : Layout) (h : bad_float file f ≡ false) where
   parts : (any_in outside (settings_floats file f.full) ≡ false) × (f.gated && any_in outside (gate_floats file (gate_start f.full)) ≡ false)
   unfolding bad_float
-  parts = or-none (any_in outside (settings_floats file f.full)) (f.gated && any_in outside (gate_floats file (gate_start f.full))) h
+  parts = or_parts (any_in outside (settings_floats file f.full)) (f.gated && any_in outside (gate_floats file (gate_start f.full))) h
 
   pub settings-inside : Inside (settings_floats file f.full)
   settings-inside = none_in outside (settings_floats file f.full) parts.0

@@ -10,7 +10,6 @@ use lib.Dec.{eqb, leb}
 use lib.ListN.{length, take, drop, length-append, length-drop, take-append-drop}
 use lib.Seq.{drop-cons, drop-drop, drop-length, get_or-append-add, length-take-le}
 use borrow.Author.Tests.{le-leb, lt-leb, eq-eqb, ne_eqb}
-use Rattle.folds.proofs.Below.{and-false}
 use Rattle.sheet_file.specs.Bytes.{Bytes, byte_at, le16}
 use Rattle.sheet_file.specs.Frame.{field_at, unweighed, weighed_at, strengths_from, points_from, gate_from, framing_of, layout_of, weights_of, weights_size}
 use Rattle.sheet_file.specs.Grammar.{field, Optional, absent, present, WellFramed}
@@ -18,6 +17,7 @@ use Rattle.sheet_file.specs.Refusals.{misframing, misframed}
 use Rattle.sheet_file.specs.declared.Layout.{Layout}
 use Rattle.std.specs.Prelude.{Option, Some, None, is_some}
 use Rattle.sheet_file.proofs.Fields.{FieldIn, field_in, StrengthsAt, strengths-there, strengths-absent, GateAt, gate-there, gate-absent, Fields, full-settings, short-settings, fields-of, points-in}
+use Rattle.std.proofs.Math.Bool.{and-false}
 
 -- ---- a field that is found is one
 

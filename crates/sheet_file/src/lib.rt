@@ -171,87 +171,105 @@ pub struct Layout {
     pub weights: Option<Weights>,
 }
 
-// How many bytes of data the field with this tag has, if it stands at `at`: its length is in its own two bytes.
-#[tactic(auto, unfolding(crate::specs::Frame::field_at, crate::specs::Frame::field_len))]
-fn field_len(file: &[u8], at: usize, tag: u8) -> Option<usize>
-    requires { at ≤ length file.now }
-    ensures value { result ≡ field_len file.now at tag }
-    ensures inside { IfSome result (λ n. at + 3 + n ≤ length file.now) }
-{
-    if file.len() - at < 3 || file[at] != tag {
-        return None;
+// A place in a file.
+#[derive(Clone, Copy)]
+struct Place<'a> {
+    file: &'a [u8],
+    at: usize,
+    ghost inside: { at ≤ length file.now },
+}
+
+impl<'a> Place<'a> {
+    // How many bytes of data the field with this tag has, if it stands here: its length is in its own two bytes.
+    #[tactic(auto, unfolding(crate::specs::Frame::field_at, crate::specs::Frame::field_len))]
+    fn field_len(&self, tag: u8) -> Option<usize>
+        ensures value { result ≡ field_len self.now.file.now self.now.at tag }
+        ensures inside { IfSome result (λ n. self.now.at + 3 + n ≤ length self.now.file.now) }
+    {
+        let file = self.file;
+        let at = self.at;
+        if file.len() - at < 3 || file[at] != tag {
+            return None;
+        }
+        let len = usize::from(u16_at(file, at + 1));
+        (len <= file.len() - at - 3).then_some(len)
     }
-    let len = usize::from(u16_at(file, at + 1));
-    (len <= file.len() - at - 3).then_some(len)
-}
 
-// Whether the field with this tag and `len` bytes of data stands at `at`.
-#[tactic(auto, unfolding(crate::specs::Frame::field_at, crate::specs::Frame::field_len))]
-fn field_at(file: &[u8], at: usize, tag: u8, len: usize) -> bool
-    requires { at ≤ length file.now }
-    ensures value { result ≡ field_at file.now at tag len }
-    ensures inside { IsTrue result → at + 3 + len ≤ length file.now }
-{
-    field_len(file, at, tag) == Some(len)
-}
+    // Whether the field with this tag and `len` bytes of data stands here.
+    #[tactic(auto, unfolding(crate::specs::Frame::field_at, crate::specs::Frame::field_len))]
+    fn field_at(&self, tag: u8, len: usize) -> bool
+        ensures value { result ≡ field_at self.now.file.now self.now.at tag len }
+        ensures inside { IsTrue result → self.now.at + 3 + len ≤ length self.now.file.now }
+    {
+        self.field_len(tag) == Some(len)
+    }
 
-// The end of the file, which the last field must reach: it ends at `at`.
-#[tactic(auto, unfolding(crate::specs::Frame::end_from))]
-fn end_from(file: &[u8], at: usize, f: Layout) -> Option<Layout>
-    ensures { result ≡ end_from file.now at f }
-{
-    (at == file.len()).then_some(f)
-}
+    // The place after a field with `len` bytes of data.
+    fn after(&self, len: usize) -> Place<'a>
+        requires { self.now.at + 3 + len ≤ length self.now.file.now }
+        ensures file { result.file ≡ self.now.file }
+        ensures place { result.at ≡ self.now.at + 3 + len }
+    {
+        Place {
+            file: self.file,
+            at: self.at + 3 + len,
+        }
+    }
 
-// Tag 4, if it stands at `at`, and then the end of the file.
-#[tactic(auto, unfolding(crate::specs::Frame::field_len, crate::specs::Frame::strengths_from))]
-fn strengths_from(file: &[u8], at: usize, f: Layout) -> Option<Layout>
-    requires { at ≤ length file.now }
-    ensures { result ≡ strengths_from file.now at f }
-{
-    match field_len(file, at, 4) {
-        Some(len) => end_from(
-            file,
-            at + 3 + len,
-            Layout {
-                weights: Some(Weights { at: at + 3, len }),
+    // The end of the file, which the last field must reach: it ends here.
+    #[tactic(auto, unfolding(crate::specs::Frame::end_from))]
+    fn end(&self, f: Layout) -> Option<Layout>
+        ensures { result ≡ end_from self.now.file.now self.now.at f }
+    {
+        (self.at == self.file.len()).then_some(f)
+    }
+
+    // Tag 4, if it stands here, and then the end of the file.
+    #[tactic(auto, unfolding(crate::specs::Frame::field_len, crate::specs::Frame::strengths_from))]
+    fn strengths(&self, f: Layout) -> Option<Layout>
+        ensures { result ≡ strengths_from self.now.file.now self.now.at f }
+    {
+        match self.field_len(4) {
+            Some(len) => self.after(len).end(Layout {
+                weights: Some(Weights {
+                    at: self.at + 3,
+                    len,
+                }),
                 ..f
-            },
-        ),
-        None => end_from(file, at, f),
+            }),
+            None => self.end(f),
+        }
     }
-}
 
-// Tag 3, and then tag 4.
-#[tactic(auto, unfolding(crate::specs::Frame::field_len, crate::specs::Frame::points_from))]
-fn points_from(file: &[u8], at: usize, full: bool, gated: bool) -> Option<Layout>
-    requires { at ≤ length file.now }
-    ensures { result ≡ points_from file.now at full gated }
-{
-    let len = field_len(file, at, 3)?;
-    if len % 20 != 0 {
-        return None;
+    // Tag 3, and then tag 4.
+    #[tactic(auto, unfolding(crate::specs::Frame::field_len, crate::specs::Frame::points_from))]
+    fn points(&self, full: bool, gated: bool) -> Option<Layout>
+        ensures { result ≡ points_from self.now.file.now self.now.at full gated }
+    {
+        let len = self.field_len(3)?;
+        if len % 20 != 0 {
+            return None;
+        }
+        let f = Layout {
+            full,
+            gated,
+            points: self.at + 3,
+            count: len / 20,
+            weights: None,
+        };
+        self.after(len).strengths(f)
     }
-    let f = Layout {
-        full,
-        gated,
-        points: at + 3,
-        count: len / 20,
-        weights: None,
-    };
-    strengths_from(file, at + 3 + len, f)
-}
 
-// Tag 2, if it stands at `at`, and then tag 3.
-#[tactic(auto, unfolding(crate::specs::Frame::gate_from))]
-fn gate_from(file: &[u8], at: usize, full: bool) -> Option<Layout>
-    requires { at ≤ length file.now }
-    ensures { result ≡ gate_from file.now at full }
-{
-    if field_at(file, at, 2, 17) {
-        return points_from(file, at + 20, full, true);
+    // Tag 2, if it stands here, and then tag 3.
+    #[tactic(auto, unfolding(crate::specs::Frame::gate_from))]
+    fn gate(&self, full: bool) -> Option<Layout>
+        ensures { result ≡ gate_from self.now.file.now self.now.at full }
+    {
+        if self.field_at(2, 17) {
+            return self.after(17).points(full, true);
+        }
+        self.points(full, false)
     }
-    points_from(file, at, full, false)
 }
 
 // The fields of the whole file, if they are the right ones in their order.
@@ -259,11 +277,12 @@ fn gate_from(file: &[u8], at: usize, full: bool) -> Option<Layout>
 pub fn frame(file: &[u8]) -> Option<Layout>
     ensures { result ≡ framing_of file.now }
 {
-    if field_at(file, 0, 1, 21) {
-        return gate_from(file, 24, true);
+    let start = Place { file, at: 0 };
+    if start.field_at(1, 21) {
+        return start.after(21).gate(true);
     }
-    if field_at(file, 0, 1, 4) {
-        return gate_from(file, 7, false);
+    if start.field_at(1, 4) {
+        return start.after(4).gate(false);
     }
     None
 }

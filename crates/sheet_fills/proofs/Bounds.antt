@@ -2,7 +2,7 @@
 use Rattle.std.proofs.Common.{◌≡◌, ℕ, ◌*◌, ◌/◌, ◌<◌, ◌≤◌, Bool, true, false, cond, not, eqb, ltb, List, length, get_or, sym, refl, arith, ltb-false, ltb-true, lt-ltb, Ok, Err}
 use Rattle.refusals.proofs.Number.{err-no-ok}
 use Rattle.folds.specs.Among.{any_in}
-use Rattle.folds.proofs.Below.{both_ways, tally-le}
+use Rattle.folds.proofs.Below.{tally-le}
 use Rattle.view.specs.View.{max_points}
 use Rattle.sheet_file.specs.Bytes.{Bytes}
 use Rattle.ruling.specs.Ruling.{Ruling, refused, accepted, sheet_numbers}
@@ -13,6 +13,7 @@ use Rattle.rows.specs.Rows.{row_size}
 use Rattle.sheet_fills.specs.Bytes.{fill_size, dropped_count}
 use Rattle.sheet_fills.specs.Answer.{as_rows, fill_ruling, fill_answer_by, fill_answer_of}
 use Rattle.sheet_fills.specs.declared.FillCounts.{FillCounts}
+use Rattle.std.specs.Cmp.{both_ways}
 
 -- Of at most the most points of a sheet: the buffer is shorter than a row for each exactly where it is shorter than 20 bytes for each.
 pub short-exactly : (room n : ℕ) → n ≤ max_points → (ltb (as_rows room) (row_size * n)) ≡ ltb room (fill_size * n)

@@ -13,7 +13,7 @@ use Rattle.predict.specs.Fills.{fills_of}
 use Rattle.predict.specs.Predict.{Prediction}
 use Rattle.drop_set.specs.Filters.{sides_of}
 use Rattle.judging.specs.Judging.{Arrays, judged_by, judged_for, fills_for}
-use Rattle.judging.proofs.Sheets.{AcceptedSheet, accepted-sheet, refused-sheet, sheet-arrays, sheet-judged, sheet-fills, sheet-few}
+use Rattle.judging.proofs.Sheets.{AcceptedSheet, accepted-sheet, refused-sheet, sheet-arrays, sheet-judged, sheet-fills}
 use Rattle.kept.proofs.Cases.{rows_fit}
 use Rattle.std.specs.Prelude.{Result, Ok, Err}
 use Rattle.refusals.specs.Number.{refusal_number}
@@ -45,9 +45,6 @@ module _ (file buffer : List ℕ) (bytes : Bytes file) (r : Sheet) (h : Ruled (f
 
   pub arrays : Arrays r.count r.table.keys r.table.x r.table.y r.table.strength
   arrays = sheet-arrays file room r bytes o
-
-  pub few : r.count ≤ max_points
-  few = sheet-few file room r bytes o
 
   -- with the table of ranks, the judged sheet and its fills
   module _ {ranks : List ℕ} (f : ranks ≡ ranks_of r.count r.table.keys r.table.idx) {j : Judged} {fills : List Prediction}

@@ -2,9 +2,9 @@
 // specs/Bytes.antt and specs/Answer.antt.
 #![tactic(auto)]
 
-ghost use Rattle.std.specs.Prelude.{◌≡◌, ◌≤◌, ◌++◌, length, pos, ◌-ℤ◌, Ok};
+ghost use Rattle.std.specs.Prelude.{◌≡◌, ◌++◌, length, pos, ◌-ℤ◌, Ok};
 ghost use Rattle.refusals.specs.Number.{numbered};
-ghost use Rattle.view.specs.View.{max_points, view_at};
+ghost use Rattle.view.specs.View.{view_at};
 ghost use Rattle.cells.specs.Points.{bias};
 ghost use Rattle.cells.specs.Cell.{cell_of_key, cells_at};
 ghost use Rattle.sheet_file.specs.Bytes.{little_endian};
@@ -22,7 +22,7 @@ use predict::{Fills, PredictedPosition};
 use refusals::Refusal;
 use ruling::{ROWS_SIZE, Sheet};
 use text::{NoRoom, Writer};
-use view::{Lattice, MAX_POINTS, Marks, Positions, RANKS_SIZE, Ranks};
+use view::{Lattice, MAX_POINTS, Marks, RANKS_SIZE, Ranks};
 
 // The bytes of a fill.
 pub const FILL_SIZE: usize = 20;
@@ -78,33 +78,37 @@ fn put_fill(w: &mut Writer, key: u32, marks: u8, fill: Option<PredictedPosition>
 
 // The fills of a sheet's points in cell order, from the start of the buffer: how many bytes they are.
 #[inline(never)]
-fn put_fills(sheet: &Sheet, marks: &Marks, fills: &Fills, out: &mut [u8]) -> Result<usize, NoRoom>
-    requires { sheet.now.count ≤ max_points }
-    ensures { Shows (fills_bytes (cells_at sheet.now.table.keys) marks.now fills.now sheet.now.count) out.old out.new result }
+fn put_fills(
+    columns: &Columns,
+    marks: &Marks,
+    fills: &Fills,
+    out: &mut [u8],
+) -> Result<usize, NoRoom>
+    ensures { Shows (fills_bytes (cells_at columns.now.points.keys.now) marks.now fills.now columns.now.points.count) out.old out.new result }
 {
     let mut w = Writer::new(out);
-    for k in 0..sheet.count {
-        put_fill(&mut w, sheet.table.keys[k], marks[k], fills[k]);
+    for k in 0..columns.points.count {
+        put_fill(&mut w, columns.points.keys[k], marks[k], fills[k]);
     }
     w.answer()
 }
 
 // The fills of a judged sheet, from the start of the buffer: how many bytes they are.
 #[inline(never)]
-fn write_fills(sheet: &Sheet, ranks: &Ranks, marks: &Marks, out: &mut [u8]) -> Result<usize, NoRoom>
-    requires { sheet.now.count ≤ max_points }
-    ensures { Shows (fills_bytes (cells_at sheet.now.table.keys) marks.now (fills_of (view_at sheet.now.count ranks.now sheet.now.table.x sheet.now.table.y) (sides_of sheet.now.settings) marks.now) sheet.now.count) out.old out.new result }
+fn write_fills(
+    columns: &Columns,
+    ranks: &Ranks,
+    marks: &Marks,
+    out: &mut [u8],
+) -> Result<usize, NoRoom>
+    ensures { Shows (fills_bytes (cells_at columns.now.points.keys.now) marks.now (fills_of (view_at columns.now.points.count ranks.now columns.now.seen.x.now columns.now.seen.y.now) (sides_of columns.now.settings) marks.now) columns.now.points.count) out.old out.new result }
 {
     let lattice = Lattice {
         ranks,
-        count: sheet.count,
+        count: columns.points.count,
     };
-    let seen = Positions {
-        x: &sheet.table.x,
-        y: &sheet.table.y,
-    };
-    let fills = judging::fills(&lattice, &seen, marks);
-    put_fills(sheet, marks, &fills, out)
+    let fills = judging::fills(&lattice, &columns.seen, marks);
+    put_fills(columns, marks, &fills, out)
 }
 
 // ---- the call
@@ -129,18 +133,10 @@ fn fill_read(file: &[u8], sheet: &Sheet, out: &mut [u8]) -> FillCounts
 {
     let mut figures = [NO_FIGURES; MAX_POINTS];
     let mut ranks = [0u16; RANKS_SIZE];
-    let points = Columns {
-        settings: sheet.settings,
-        count: sheet.count,
-        keys: &sheet.table.keys,
-        idx: &sheet.table.idx,
-        x: &sheet.table.x,
-        y: &sheet.table.y,
-        strength: &sheet.table.strength,
-    };
-    let j = judging::judge_sheet(&points, &mut ranks, &mut figures);
+    let columns = Columns::of(sheet);
+    let j = judging::judge_sheet(&columns, &mut ranks, &mut figures);
     let marks = j.marks;
-    let Ok(size) = write_fills(sheet, &ranks, &marks, out) else {
+    let Ok(size) = write_fills(&columns, &ranks, &marks, out) else {
         unreachable!()
     };
     FillCounts {
@@ -155,8 +151,6 @@ pub fn fill_sheet(file: &[u8], out: &mut [u8]) -> Result<FillCounts, Refusal>
     ensures answer { numbered result ≡ fill_answer_of file.now (length out.old) }
     ensures fills { out.new ≡ fills_after file.now out.old }
 {
-    match &ruling::read(file, as_rows(out.len())) {
-        Ok(sheet) => Ok(fill_read(file, sheet, out)),
-        Err(refusal) => Err(*refusal),
-    }
+    let sheet = ruling::read(file, as_rows(out.len()))?;
+    Ok(fill_read(file, &sheet, out))
 }

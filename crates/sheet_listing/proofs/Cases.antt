@@ -1,12 +1,12 @@
 -- The two cases of the ruling, as the code meets them. Assumes nothing.
 use mathlib.Core.Path.{◌≡◌, sym, ap, ◌∙◌}
 use mathlib.Core.List.{List}
-use Prim.Native.Nat.{ℕ, ◌≤◌}
+use Prim.Native.Nat.{ℕ}
 use lib.ListN.{length}
 use Rattle.std.proofs.Common.{Ok, Err}
 use Rattle.refusals.specs.Number.{refusal_number}
 use Rattle.refusals.specs.declared.Refusal.{Refusal}
-use Rattle.view.specs.View.{max_points, view_at}
+use Rattle.view.specs.View.{view_at}
 use Rattle.cells.specs.Points.{indices_of}
 use Rattle.cells.specs.Cell.{Cell, cells_at, cells_of}
 use Rattle.cells.proofs.Keys.{cells_are}
@@ -21,7 +21,7 @@ use Rattle.predict.specs.Fills.{fills_of}
 use Rattle.predict.specs.Predict.{Prediction}
 use Rattle.drop_set.specs.Filters.{sides_of}
 use Rattle.judging.specs.Judging.{Arrays, judged_by, judged_for, fills_for}
-use Rattle.judging.proofs.Sheets.{AcceptedSheet, accepted-sheet, refused-sheet, sheet-arrays, sheet-judged, sheet-fills, sheet-few}
+use Rattle.judging.proofs.Sheets.{AcceptedSheet, accepted-sheet, refused-sheet, sheet-arrays, sheet-judged, sheet-fills}
 use Rattle.text.specs.Text.{refusal_of}
 use Rattle.listing.specs.Listing.{listing_of}
 use Rattle.sheet_listing.specs.Text.{text_by, text_of}
@@ -34,9 +34,6 @@ module _ (file : List ℕ) (bytes : Bytes file) (r : Sheet) (h : Ruled (ruling_o
 
   pub arrays : Arrays r.count r.table.keys r.table.x r.table.y r.table.strength
   arrays = sheet-arrays file rows_size r bytes o
-
-  pub few : r.count ≤ max_points
-  few = sheet-few file rows_size r bytes o
 
   -- with the table of ranks
   module _ {ranks : List ℕ} (f : ranks ≡ ranks_of r.count r.table.keys r.table.idx) where

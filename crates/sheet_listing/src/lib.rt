@@ -6,10 +6,9 @@ ghost use Rattle.sheet_listing.specs.Text.{text_of};
 
 use edge_shape::NO_FIGURES;
 use judging::Columns;
-use listing::Points;
 use ruling::ROWS_SIZE;
 use text::NoRoom;
-use view::{Lattice, MAX_POINTS, Positions, RANKS_SIZE};
+use view::{Lattice, MAX_POINTS, RANKS_SIZE};
 
 // Writes the listing of a sheet file, or `refused` and the number.
 pub fn list_sheet(file: &[u8], out: &mut [u8]) -> Result<usize, NoRoom>
@@ -19,31 +18,14 @@ pub fn list_sheet(file: &[u8], out: &mut [u8]) -> Result<usize, NoRoom>
         Ok(sheet) => {
             let mut figures = [NO_FIGURES; MAX_POINTS];
             let mut ranks = [0u16; RANKS_SIZE];
-            let columns = Columns {
-                settings: sheet.settings,
-                count: sheet.count,
-                keys: &sheet.table.keys,
-                idx: &sheet.table.idx,
-                x: &sheet.table.x,
-                y: &sheet.table.y,
-                strength: &sheet.table.strength,
-            };
+            let columns = Columns::of(sheet);
             let j = judging::judge_sheet(&columns, &mut ranks, &mut figures);
             let lattice = Lattice {
                 ranks: &ranks,
-                count: sheet.count,
+                count: columns.points.count,
             };
-            let seen = Positions {
-                x: &sheet.table.x,
-                y: &sheet.table.y,
-            };
-            let fills = judging::fills(&lattice, &seen, &j.marks);
-            let points = Points {
-                keys: columns.keys,
-                idx: columns.idx,
-                count: sheet.count,
-            };
-            listing::write_listing(&points, &j, &fills, |k| figures[k].reason, out)
+            let fills = judging::fills(&lattice, &columns.seen, &j.marks);
+            listing::write_listing(&columns.points, &j, &fills, |k| figures[k].reason, out)
         }
         Err(refusal) => text::write_refusal(refusal.number(), out),
     }

@@ -16,12 +16,11 @@ use Rattle.ruling.specs.Ruling.{refused, accepted, ruling_of, rows_size}
 use Rattle.ruling.specs.Sheet.{Ruled}
 use Rattle.ruling.specs.declared.Sheet.{Sheet}
 use Rattle.ruling.proofs.Standing.{accepted-order}
-use Rattle.judging.specs.Judging.{Arrays, judged_for}
+use Rattle.judging.specs.Judging.{Arrays, judged_by, judged_for}
 use Rattle.judging.proofs.Sheets.{AcceptedSheet, accepted-sheet, refused-sheet, sheet-arrays, sheet-judged}
 use Rattle.text.specs.Text.{refusal_of}
 use Rattle.map_lines.specs.Map.{too_wide, map_of}
 use Rattle.sheet_map.specs.Text.{map_by, map_text_of}
-use Rattle.sheet_map.specs.Table.{drawn_by}
 use Rattle.sheet_map.proofs.Laws.{text-is, older-first, drawn-or-ten}
 
 choice : (t : Bool) (k : ℕ) (s : Settings) (ps : List Point) → map_by (cond t (refused k) (accepted s ps)) ≡ cond t (refusal_of k) (map_by (accepted s ps))
@@ -29,7 +28,7 @@ choice true k s ps = refl
 choice false k s ps = refl
 
 -- what is printed of n points with these cells and marks
-abbrev shown : ℕ → (ℕ → Cell) → List ℕ → List ℕ
+abbrev pub shown : ℕ → (ℕ → Cell) → List ℕ → List ℕ
 shown n cell marks = cond (too_wide n cell) (refusal_of 10) (map_of n cell marks)
 
 -- a sheet that was read of an accepted file
@@ -43,7 +42,7 @@ module _ (file : List ℕ) (bytes : Bytes file) (r : Sheet) (h : Ruled (ruling_o
   cells : cells_at r.table.keys ≡ cells_of o.points
   cells = ap cells_at o.sheet.table_is.keys-are ∙ cells_are o.points (accepted-order file rows_size o.settings o.points bytes o.ruled).inside
 
-  pub drawn : drawn_by r.settings r.count r.table.keys r.table.idx r.table.x r.table.y r.table.strength ≡ map_text_of file
+  pub drawn : shown r.count (cells_at r.table.keys) (judged_by r.settings r.count r.table.keys r.table.idx r.table.x r.table.y r.table.strength).marks ≡ map_text_of file
   drawn =
       ap (λ x. shown r.count (cells_at r.table.keys) x.marks) (sheet-judged file rows_size r bytes o)
       ∙ ap (λ (n : ℕ). shown n (cells_at r.table.keys) (judged_for o.settings o.points).marks) o.sheet.count-is

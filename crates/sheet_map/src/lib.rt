@@ -3,7 +3,7 @@
 
 ghost use Rattle.text.specs.Answer.{Shows};
 ghost use Rattle.sheet_map.specs.Text.{map_text_of};
-ghost use Rattle.sheet_map.specs.Table.{drawn_by};
+ghost use Rattle.sheet_map.specs.Table.{drawn_in};
 
 use edge_shape::NO_FIGURES;
 use judging::Columns;
@@ -16,18 +16,18 @@ use view::MAX_POINTS;
 
 // Writes the map of points in cell order, or `refused 10`.
 #[inline(never)]
-fn draw(points: &Columns, out: &mut [u8]) -> Result<usize, NoRoom>
-    ensures { Shows (drawn_by points.now.settings points.now.count points.now.keys.now points.now.idx.now points.now.x.now points.now.y.now points.now.strength.now) out.old out.new result }
+fn draw(columns: &Columns, out: &mut [u8]) -> Result<usize, NoRoom>
+    ensures { Shows (drawn_in columns.now) out.old out.new result }
 {
-    let column = points.keys;
-    let keys = &column[..points.count];
+    let column = columns.points.keys;
+    let keys = &column[..columns.points.count];
     let u = spans::span_along(keys, Axis::AlongU);
     let v = spans::span_along(keys, Axis::AlongV);
     if map_lines::too_wide(u, v) {
         return text::write_refusal(Refusal::MapTooWide.number(), out);
     }
     let mut figures = [NO_FIGURES; MAX_POINTS];
-    let j = judging::judge(points, &mut figures);
+    let j = judging::judge(columns, &mut figures);
     map_lines::write_map(keys, &j.marks, u, v, out)
 }
 
@@ -36,18 +36,7 @@ pub fn draw_sheet(file: &[u8], out: &mut [u8]) -> Result<usize, NoRoom>
     ensures { Shows (map_text_of file.now) out.old out.new result }
 {
     match &ruling::read(file, ROWS_SIZE) {
-        Ok(sheet) => {
-            let points = Columns {
-                settings: sheet.settings,
-                count: sheet.count,
-                keys: &sheet.table.keys,
-                idx: &sheet.table.idx,
-                x: &sheet.table.x,
-                y: &sheet.table.y,
-                strength: &sheet.table.strength,
-            };
-            draw(&points, out)
-        }
+        Ok(sheet) => draw(&Columns::of(sheet), out),
         Err(refusal) => text::write_refusal(refusal.number(), out),
     }
 }

@@ -10,7 +10,6 @@ use lib.ListN.{length, get_or, replicate}
 use lib.Ieee.{Float, nan, lt}
 use Rattle.float.specs.Constants.{zero}
 use Rattle.folds.specs.Below.{tally}
-use Rattle.folds.proofs.Below.{and-false}
 use Rattle.folds.proofs.Lists.{listed-length}
 use Rattle.folds.specs.Column.{column}
 use Rattle.folds.proofs.Column.{column-ext, filled, replicate-at}
@@ -18,6 +17,7 @@ use Rattle.folds.specs.Marked.{bit}
 use Rattle.median.specs.Median.{median_of}
 use Rattle.median.specs.Packed.{positives}
 use Rattle.step.specs.Deviation.{steps_in, is_step_outside, deviates}
+use Rattle.std.proofs.Math.Bool.{and-false}
 
 -- the steps that an array holds
 abbrev held : List Float → ℕ → Float

@@ -128,13 +128,7 @@ pub fn scales(sheet: &SheetLattice, steps: &Floats, size: f32) -> Floats
 fn how_many(steps: &Numbers) -> usize
     ensures { result ≡ tally (λ (k : ℕ). lt zero (get_or steps.now.values.now k nan)) steps.now.count }
 {
-    let mut c: usize = 0;
-    for i in 0..steps.count {
-        if 0.0 < steps.values[i] {
-            c += 1;
-        }
-    }
-    c
+    view::counted(steps.count, |k| 0.0 < steps.values[k])
 }
 
 fn is_outside(median: f32, t: f32, s: f32) -> bool

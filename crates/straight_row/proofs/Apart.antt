@@ -10,7 +10,7 @@ use borrow.Author.Tests.{eqb-false, ltb-false, le-ltb}
 use lib.Ieee.{Float, lt, le, mul, round, of_bits}
 use Rattle.folds.specs.Arith.{◌⊕◌, ◌⊖◌, ◌⊗◌, zero_f}
 use Rattle.folds.specs.Below.{some}
-use Rattle.folds.proofs.Below.{some-no, and-false, not-true}
+use Rattle.folds.proofs.Below.{some-no}
 use Rattle.float.proofs.Order.{lt-after}
 use Rattle.whole_floats.specs.Whole.{as_float}
 use Rattle.whole_floats.proofs.Whole.{whole-mono}
@@ -20,6 +20,8 @@ use Rattle.close_pairs.proofs.Places.{place, place-order}
 use Rattle.close_pairs.proofs.Squares.{far}
 use Rattle.straight_row.specs.Row.{Row, seven}
 use Rattle.straight_row.proofs.Row.{x-plain, x-number, y-finite, next-x, square_to, square-back}
+use Rattle.std.proofs.Math.Bool.{and-false}
+use Rattle.std.proofs.lemmas.Bool.{false_from_ne_true}
 
 -- 49 is not under the square of 0.2 cell sizes
 limit-under : lt (as_float 7 ⊗ as_float 7) (limit_of seven) ≡ false
@@ -45,7 +47,7 @@ module _ (w : View) (r : Row w) where
       let itself : lt (w.x j) (w.x j) ≡ false = place-order (w.x j) (w.x j) a a ∙ le-ltb (place (w.x j)) (place (w.x j)) (omega arith) in
       ltb-false (place (w.x k)) (place (w.x j))
       (sym (place-order (w.x k) (w.x j) b a)
-      ∙ not-true (lt (w.x k) (w.x j)) (λ e. true≢false (sym (lt-after (w.x j) (w.x k) (w.x j) (x-plain w r j i) (x-plain w r k h) at_most e) ∙ itself)))
+      ∙ false_from_ne_true (lt (w.x k) (w.x j)) (λ e. true≢false (sym (lt-after (w.x j) (w.x k) (w.x j) (x-plain w r j i) (x-plain w r k h) at_most e) ∙ itself)))
 
   later-far : (j k : ℕ) → j < k → k < w.count → lt (square_to w j k) (limit_of seven) ≡ false
   later-far j k l h =

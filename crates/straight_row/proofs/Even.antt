@@ -11,7 +11,7 @@ use lib.Ieee.{Float, nan, mul, lt, of_bits}
 use Rattle.folds.specs.Arith.{◌⊖◌, ◌⊗◌, zero_f}
 use Rattle.folds.specs.Below.{some, tally}
 use Rattle.folds.specs.Lists.{All, listed}
-use Rattle.folds.proofs.Below.{some-no, tally-mono, not-true, and-false, and_left, and_right, and_both}
+use Rattle.folds.proofs.Below.{some-no, tally-mono}
 use Rattle.folds.proofs.Counting.{tally-no}
 use Rattle.folds.proofs.Lists.{all_listed, listed-length}
 use Rattle.float.specs.Constants.{overlong_ratio, global_overlong_ratio}
@@ -32,6 +32,9 @@ use Rattle.wrong_label_filters.specs.Frontier.{distance, kink, kink_at, last_in_
 use Rattle.orientation.specs.Orientation.{vote_at, votes_for, orientation_mark}
 use Rattle.straight_row.specs.Row.{Row, seven}
 use Rattle.straight_row.proofs.Row.{next-apart, norm-back}
+use Rattle.std.proofs.Math.Bool.{and-false}
+use Rattle.std.proofs.lemmas.Bool.{and_from, and_parts, false_from_ne_true}
+use Rattle.wrong_label_filters.proofs.FailingEdges.{over-is}
 
 -- ---- what the definitions say, by their parts
 
@@ -67,10 +70,6 @@ fails-is : (w : View) (E : ℕ → StoredEdge) (k : ℕ) → fails w E k ≡ pos
     (leb 8 (length (sheet_lens w E)) && overlong global_overlong_ratio (sheet_lens w E) (E k).len)
 unfolding fails
 fails-is w E k = refl
-
-overlong-is : (ratio : Float) (lens : List Float) (len : Float) → overlong ratio lens len ≡ lt (ratio ⊗ median_of lens) len
-unfolding overlong
-overlong-is ratio lens len = refl
 
 end_is : (w : View) (E : ℕ → StoredEdge) (o : Offset) (m : ℕ) → end_of_failing w E o m ≡ some (λ k. (eqb k m || eqb (rank_at w k o) m) && fails w E k) w.count
 unfolding end_of_failing
@@ -108,7 +107,7 @@ median-seven l a h =
 module _ (w : View) (r : Row w) where
   -- nothing stands beside the row
   absent : (k : ℕ) (o : Offset) → k < w.count → is_near o ≡ true → (o.dv ≡ ±0 → ⊥) → present w k o ≡ false
-  absent k o h near n = not-true (present w k o) (λ e. n (r.beside k o h near e))
+  absent k o h near n = false_from_ne_true (present w k o) (λ e. n (r.beside k o h near e))
 
   no-next-v : (k : ℕ) → k < w.count → present w k next_v ≡ false
   no-next-v k h = absent k next_v h refl (λ e. false≢true (agree_same next_v.dv ±0 e))
@@ -194,8 +193,8 @@ module _ (w : View) (r : Row w) where
           let other = not (eqb j (place_of own)) in
           let rest = present w k (offset_of j) && positive_edge w E (rank_at w k (offset_of j)) in
           let t : other && rest ≡ true = sym (window-is w E k j) ∙ e in
-          let there = and_left (present w k (offset_of j)) (positive_edge w E (rank_at w k (offset_of j))) (and_right other rest t) in
-          and_both other (agree (offset_of j).dv ±0) (and_left other rest t) (agree_same (offset_of j).dv ±0 (r.beside k (offset_of j) h (offset_near j l) there))
+          let there = (and_parts (present w k (offset_of j)) (positive_edge w E (rank_at w k (offset_of j))) (and_parts other rest t).1).0 in
+          and_from other (agree (offset_of j).dv ±0) (and_parts other rest t).0 (agree_same (offset_of j).dv ±0 (r.beside k (offset_of j) h (offset_near j l) there))
 
   module _ (o : Offset) (even : Even o) where
     abbrev E : ℕ → StoredEdge
@@ -219,7 +218,7 @@ module _ (w : View) (r : Row w) where
         go : (p q : Bool) → positive_edge w E k ≡ p → leb 8 (length (sheet_lens w E)) ≡ q → p && (q && overlong global_overlong_ratio (sheet_lens w E) (E k).len) ≡ false
         go false q e f = refl
         go true false e f = refl
-        go true true e f = overlong-is global_overlong_ratio (sheet_lens w E) (E k).len ∙ rw (sheet-median (omega (arith, leb-true 8 (length (sheet_lens w E)) f)), long-seven k h e) not-long
+        go true true e f = over-is global_overlong_ratio (sheet_lens w E) (E k).len ∙ rw (sheet-median (omega (arith, leb-true 8 (length (sheet_lens w E)) f)), long-seven k h e) not-long
 
     no_end : (m : ℕ) → edge_mark w o m ≡ false
     no_end m =

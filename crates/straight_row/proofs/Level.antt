@@ -14,7 +14,7 @@ use lib.Ieee.Positive.{positive}
 use Rattle.folds.specs.Arith.{◌⊕◌, ◌⊖◌, ◌⊗◌, zero_f}
 use Rattle.folds.specs.Below.{tally}
 use Rattle.folds.specs.Lists.{All, over, gather}
-use Rattle.folds.proofs.Below.{some-yes, tally-le, tally-some, and-false}
+use Rattle.folds.proofs.Below.{some-yes, tally-le, tally-some}
 use Rattle.folds.proofs.Lists.{all_listed, listed-length}
 use Rattle.float.specs.Constants.{one, epsilon}
 use Rattle.float.specs.Scalar.{abs_of}
@@ -26,6 +26,7 @@ use Rattle.lines.specs.Fit.{mean_over, moment_of, direction_of, line_through, fi
 use Rattle.lines.specs.Flags.{LineRule, is_on, is_flagged}
 use Rattle.straight_row.specs.Row.{Row}
 use Rattle.straight_row.proofs.Row.{x-plain, x-number}
+use Rattle.std.proofs.Math.Bool.{and-false}
 
 -- ---- by computing
 

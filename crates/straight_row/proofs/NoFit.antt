@@ -6,7 +6,6 @@ use Prim.Native.Nat.{ℕ, ◌<◌}
 use native.Mathlib.Omega.{arith}
 use lib.IntN.{◌-ℤ◌, *ℤ-zero}
 use borrow.Author.Tests.{ltb-true, lt-ltb}
-use Rattle.folds.proofs.Below.{not-true, and_both}
 use Rattle.offsets.specs.declared.Offset.{Offset}
 use Rattle.offsets.specs.Offsets.{±0}
 use Rattle.view.specs.View.{View}
@@ -18,6 +17,7 @@ use Rattle.std.specs.Prelude.{None}
 use Rattle.local_h.proofs.Bases.{base-four, other-rank}
 use Rattle.local_h.proofs.Ordered.{entry-near}
 use Rattle.straight_row.specs.Row.{Row}
+use Rattle.std.proofs.lemmas.Bool.{and_from, false_from_ne_true}
 
 -- three offsets along the row are on one line
 row_line : (a b c : Offset) → a.dv ≡ ±0 → b.dv ≡ ±0 → c.dv ≡ ±0 → on_line a b c ≡ true
@@ -30,7 +30,7 @@ module _ (w : View) (r : Row w) (k : ℕ) (h : k < w.count) where
 
   no-four : has_four w k ≡ false
   no-four =
-      not-true (has_four w k)
+      false_from_ne_true (has_four w k)
       (λ e.
       let o = (base-four w k (ltb-true (places_of w k).d 24 e)).others in
       let c : (places_of w k).c < 24 = omega (arith, o.third-fourth, o.within) in
@@ -38,7 +38,7 @@ module _ (w : View) (r : Row w) (k : ℕ) (h : k < w.count) where
       let along-a = other-along (places_of w k).a (omega (arith, o.first-second, b)) o.one in
       let along-b = other-along (places_of w k).b b o.two in
       true≢false
-      (sym (and_both _ _ (row_line (offset_at (places_of w k).a) (offset_at (places_of w k).b) (offset_at (places_of w k).c) along-a along-b (other-along (places_of w k).c c o.three))
+      (sym (and_from _ _ (row_line (offset_at (places_of w k).a) (offset_at (places_of w k).b) (offset_at (places_of w k).c) along-a along-b (other-along (places_of w k).c c o.three))
       (row_line (offset_at (places_of w k).a) (offset_at (places_of w k).b) (offset_at (places_of w k).d) along-a along-b (other-along (places_of w k).d o.within o.four)))
       ∙ o.off-line))
 

@@ -14,7 +14,7 @@ use Rattle.folds.specs.Below.{tally}
 use Rattle.folds.specs.Column.{column}
 use Rattle.folds.specs.Marked.{bit}
 use Rattle.folds.specs.Scattered.{counts}
-use Rattle.folds.proofs.Below.{some-no, and-false}
+use Rattle.folds.proofs.Below.{some-no}
 use Rattle.folds.proofs.Column.{column-at, column-over}
 use Rattle.folds.proofs.Counting.{tally-no}
 use Rattle.folds.proofs.Lists.{past_end}
@@ -31,7 +31,7 @@ use Rattle.step.specs.Step.{scale_at}
 use Rattle.lines.specs.Flags.{LineRule, is_flagged, flag_count, flags_at}
 use Rattle.local_h.specs.Residual.{residual_at}
 use Rattle.residuals.specs.ByIndex.{over_at, index_flags}
-use Rattle.blame.specs.Marks.{Evidence, rule1, rule2, rule3, rule4, is_visited, blamed, blames, is_marked}
+use Rattle.blame.specs.Marks.{Evidence, is_visited, blamed, blames, is_marked}
 use Rattle.edge_shape.specs.Figures.{no_figures}
 use Rattle.edge_shape.specs.declared.Figures.{Figures}
 use Rattle.validate.specs.Validate.{index_step, scales_of, index_scale, flags_of, residual_flags_of, evidence_of, figures_of, is_reason, has_reason, validate_mark}
@@ -46,6 +46,8 @@ use Rattle.straight_row.proofs.Apart.{no-close}
 use Rattle.straight_row.proofs.Even.{no-orientation, no-frontier, no-edge-u, no-edge-v}
 use Rattle.straight_row.proofs.Level.{no-flag}
 use Rattle.straight_row.proofs.NoFit.{no-residual}
+use Rattle.std.proofs.Math.Bool.{and-false}
+use Rattle.blame.proofs.Blamed.{marked-is}
 
 -- what each entry of a column has, and its filler too, is had at any place
 module _ {A : Type 0} where
@@ -78,10 +80,6 @@ module _ (w : View) (r : Row w) where
   no-wrong-label k = wrong-label-is w seven k ∙ some-no (λ (j : ℕ). wrong_point w seven j && alike w j k) w.count (λ j h. rw (no-wrong j h))
 
 -- ---- validate
-
-marked-is : (w : View) (e : Evidence) (m : ℕ) → is_marked w e m ≡ rule1 e m || (rule2 e m || (rule3 w e m || rule4 e m))
-unfolding is_marked
-marked-is w e m = refl
 
 blames-is : (w : View) (e : Evidence) (k m : ℕ) → blames w e k m ≡ is_visited w e k && is_at (blamed w e.flags k) m
 unfolding blames

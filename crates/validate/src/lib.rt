@@ -31,13 +31,13 @@ fn by_rules(s: Settings, view: &View, keys: &Words, residuals: &mut ResidualColu
     ensures marks { result ≡ blame_marks (view_in view.now) (evidence_of s (view_in view.now) (cells_at keys.now)) }
     ensures residuals { residuals.new ≡ residuals_of (view_in view.now) (cells_at keys.now) }
 {
-    let steps = step::steps(&view.lattice, &view.positions(), s.use_step_aware);
-    let scales = step::scales(&view.sheet(), &steps, s.cell_size);
+    let steps = step::steps(&view.sheet.lattice, &view.seen, s.use_step_aware);
+    let scales = step::scales(&view.sheet, &steps, s.cell_size);
     let flags = lines::line_flags(view, &scales, s.line_tol_rel, s.line_min_members);
     let r = residuals::index_residuals(view, keys, &scales, s.local_h_tol_rel, residuals);
     let index_steps = Numbers {
         values: &steps,
-        count: view.lattice.count,
+        count: view.sheet.lattice.count,
     };
     let deviates = step::deviations(&index_steps, s.step_deviation_thresh_rel);
     let evidence = Evidence {
@@ -46,7 +46,7 @@ fn by_rules(s: Settings, view: &View, keys: &Words, residuals: &mut ResidualColu
         high: &r.high,
         deviates: &deviates,
     };
-    blame::marks(&view.sheet(), &evidence)
+    blame::marks(&view.sheet, &evidence)
 }
 
 // The edge figures of each rank's index, into an empty array; none without a gate.
@@ -62,12 +62,12 @@ pub fn edge_figures(gate: Option<EdgeShapeParams>, edges: &EdgeTable, figures: &
 
 // 1 where each rank's index lies on the boundary of its patch's box; nowhere without a gate.
 fn boundary_by(gate: Option<EdgeShapeParams>, view: &View, keys: &Words) -> Marks
-    requires { CellKeys view.now.lattice.count keys.now }
+    requires { CellKeys view.now.sheet.lattice.count keys.now }
     ensures { result ≡ gate_boundary gate (view_in view.now) (cells_at keys.now) }
 {
     match gate {
         None => [0; MAX_POINTS],
-        Some(_) => patches::boxes::boundary(&view.sheet(), keys, &patches::square_sides()),
+        Some(_) => patches::boxes::boundary(&view.sheet, keys, &patches::square_sides()),
     }
 }
 
@@ -96,7 +96,7 @@ pub fn validate(
 {
     let ruled = by_rules(s, view, keys, residuals);
     Measured {
-        marks: with_reasons(&view.lattice, &ruled, figures),
+        marks: with_reasons(&view.sheet.lattice, &ruled, figures),
         boundary: boundary_by(s.edge_shape, view, keys),
     }
 }

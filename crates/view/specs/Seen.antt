@@ -15,7 +15,7 @@ seen_in l p = view_at l.count l.ranks.now p.x.now p.y.now
 
 -- the view of both in one
 abbrev pub view_in : Held → View
-view_in v = view_at v.lattice.count v.lattice.ranks.now v.x.now v.y.now
+view_in v = seen_in v.sheet.lattice v.seen
 
 -- the rank r, or nothing if it is none: "a number of count or more is none"
 abbrev pub below : ℕ → ℕ → Option ℕ

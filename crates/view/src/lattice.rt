@@ -29,8 +29,6 @@ pub struct SheetLattice<'a> {
 // Such a table, and where each point is seen.
 #[derive(Clone, Copy)]
 pub struct View<'a> {
-    pub lattice: Lattice<'a>,
-    pub x: &'a Floats,
-    pub y: &'a Floats,
-    ghost ranked: { Ranked lattice.count lattice.ranks.now },
+    pub sheet: SheetLattice<'a>,
+    pub seen: Positions<'a>,
 }

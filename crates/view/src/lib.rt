@@ -1,7 +1,8 @@
 // What the filters see of a sheet, as arrays: the most points, the table of ranks and what is read of it. See specs/View.antt.
 #![tactic(auto)]
 
-ghost use Rattle.std.specs.Prelude.{◌≡◌, true, [], ℕ, ◌+◌, ◌*◌, ◌≤◌, ◌<◌, get_or, ltb, IfSome};
+ghost use Rattle.std.specs.Prelude.{◌≡◌, Bool, true, [], ℕ, ◌+◌, ◌*◌, ◌≤◌, ◌<◌, get_or, ltb, IfSome};
+ghost use Rattle.folds.specs.Below.{tally};
 ghost use Rattle.folds.specs.Column.{column, overlaid};
 ghost use Rattle.folds.specs.Marked.{bit};
 ghost use Rattle.offsets.specs.Offsets.{is_near, place_of};
@@ -60,6 +61,18 @@ pub fn filled<T: Copy, F: Fn(usize) -> T>(rest: T, n: usize, f: F) -> [T; MAX_PO
         out[k] = f(k);
     }
     out
+}
+
+// How many of the first n pass the test f.
+pub fn counted<F: Fn(usize) -> bool>(n: usize, f: F) -> usize
+    requires callable { (k : ℕ) → k < n → F.pre f k }
+    ensures { (g : ℕ → Bool) → ((k : ℕ) (r : Bool) → k < n → F.post f k r → r ≡ g k) → result ≡ tally g n }
+{
+    let mut c = 0;
+    for i in 0..n {
+        c += usize::from(f(i));
+    }
+    c
 }
 
 // What the table has at place d of the 25 round rank k: the rank there, or a number that is no rank.
@@ -181,28 +194,6 @@ impl SheetLattice<'_> {
     {
         for k in 0..self.lattice.count {
             out[k] = held[self.lattice.index(k)];
-        }
-    }
-}
-
-impl<'a> View<'a> {
-    // The view's table of ranks, without the positions.
-    pub fn sheet(&self) -> SheetLattice<'a>
-        ensures { result.lattice ≡ self.now.lattice }
-    {
-        SheetLattice {
-            lattice: self.lattice,
-        }
-    }
-
-    // Where each point of the view is seen, without the table.
-    pub fn positions(&self) -> Positions<'a>
-        ensures x { result.x ≡ self.now.x }
-        ensures y { result.y ≡ self.now.y }
-    {
-        Positions {
-            x: self.x,
-            y: self.y,
         }
     }
 }

@@ -7,7 +7,6 @@ use native.Mathlib.Omega.{arith}
 use lib.IntN.{nat_abs, pos-ne-negsuc}
 use lib.ListN.{get_or}
 use borrow.Author.Tests.{ltb-false}
-use Rattle.folds.proofs.Below.{not-true}
 use Rattle.offsets.specs.declared.Offset.{Offset}
 use Rattle.offsets.specs.Offsets.{prev_u, next_v, prev_v}
 use Rattle.view.specs.View.{View, max_points, rank_at, present}
@@ -16,10 +15,11 @@ use Rattle.peel_rounds.specs.Rounds.{InRow}
 use Rattle.worst_sheet.specs.Worst.{worst_points}
 use Rattle.worst_row.proofs.Row.{counted, row-view, next-found, prev-found, own-index}
 use Rattle.worst_row.proofs.Weak.{weak_marks, others-weak, last-strong}
+use Rattle.std.proofs.lemmas.Bool.{false_from_ne_true}
 
 -- there is no point at an offset
 absent : (w : View) (k : ℕ) (o : Offset) → (present w k o ≡ true → ⊥) → w.count ≤ rank_at w k o
-absent w k o f = ltb-false (rank_at w k o) w.count (not-true (present w k o) f)
+absent w k o f = ltb-false (rank_at w k o) w.count (false_from_ne_true (present w k o) f)
 
 module _ (n : ℕ) (few : n ≤ max_points) (three : 3 ≤ n) where
   abbrev w : View

@@ -89,8 +89,7 @@ fn put_head(w: &mut Writer, tag: u8, size: usize)
     ensures { Stored w.old (tag ∷ size % 256 ∷ size / 256 ∷ []) w.new }
 {
     w.byte(tag);
-    w.byte((size % 256) as u8);
-    w.byte((size / 256) as u8);
+    w.text(&(size as u16).to_le_bytes());
 }
 
 fn put_point(w: &mut Writer, u: usize)

@@ -14,7 +14,7 @@ use lib.Ieee.{Float, nan, lt, of_bits}
 use lib.Ieee.Positive.{positive as positive-float}
 use Rattle.folds.specs.Arith.{◌⊗◌, zero_f}
 use Rattle.folds.specs.Below.{tally, sum_of, some}
-use Rattle.folds.proofs.Below.{tally-more, sum_more, sum-ext, some-ext, some-no, and-false, and-under, and_left, and_right}
+use Rattle.folds.proofs.Below.{tally-more, sum_more, sum-ext, some-ext, some-no, and-under}
 use Rattle.folds.specs.Lists.{listed}
 use Rattle.folds.proofs.Lists.{listed-length, listed-ext}
 use Rattle.folds.specs.Column.{column}
@@ -36,6 +36,8 @@ use Rattle.offsets.specs.Axes.{forward}
 use Rattle.wrong_label_filters.specs.Judged.{positive_edge, in_window, window_lens, sheet_lens, window_x, window_y, overlong, off_axis, fails, end_of_failing, edge_mark}
 use Rattle.wrong_label_filters.specs.Windows.{edge_along, is_under, window_to, with_edge_at, positive_lens, sheet_limit_of, Asked, failing_ends}
 use Rattle.wrong_label_filters.specs.declared.judged_edges.Window.{Window}
+use Rattle.std.proofs.Math.Bool.{and-false}
+use Rattle.std.proofs.lemmas.Bool.{and_parts}
 
 cond-ext : (b : Bool) {x x' y y' : Bool} → (b ≡ true → x ≡ x') → y ≡ y' → cond b x y ≡ cond b x' y'
 cond-ext true p q = p refl
@@ -45,7 +47,7 @@ ratio-positive : T (positive-float overlong_ratio)
 unfolding of_bits
 ratio-positive = tt
 
-over-is : (r : Float) (l : List Float) (x : Float) → overlong r l x ≡ lt (r ⊗ median_of l) x
+pub over-is : (r : Float) (l : List Float) (x : Float) → overlong r l x ≡ lt (r ⊗ median_of l) x
 unfolding overlong
 over-is r l x = refl
 
@@ -110,7 +112,7 @@ module _ (w : View) (E : ℕ → StoredEdge) where
     in-positive i p =
         let o = offset_of i in
         let there = positive_edge w E (rank_at w k o) in
-        and_right (present w k o) there (and_right (not (eqb i (place_of own))) (present w k o && there) p)
+        (and_parts (present w k o) there (and_parts (not (eqb i (place_of own))) (present w k o && there) p).1).1
 
     local : leb 5 (tally (in_window w E k) 25) ≡ true → overlong overlong_ratio (window_lens w E k) (E k).len ≡ ltb (tally (in_window w E k) 25 / 2) (unders (E k).len 25)
     local h =
@@ -169,7 +171,7 @@ module _ (w v : View) (E F : ℕ → StoredEdge) (k l : ℕ) (a : Alike w v E F 
   within j h p =
       let o = offset_of j in
       let there = positive_edge v F (rank_at v l o) in
-      a.edges o (offset_near j h) (and_left (present v l o) there (and_right (not (eqb j (place_of own))) (present v l o && there) p))
+      a.edges o (offset_near j h) (and_parts (present v l o) there (and_parts (not (eqb j (place_of own))) (present v l o && there) p).1).0
 
   same-lens : window_lens w E k ≡ window_lens v F l
   same-lens =

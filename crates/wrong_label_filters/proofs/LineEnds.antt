@@ -2,7 +2,7 @@
 use mathlib.Core.Path.{◌≡◌, refl, sym, ◌∙◌}
 use mathlib.Core.Bool.{Bool, true, false, cond, ◌&&◌, ◌||◌}
 use mathlib.Core.List.{List, []}
-use Prim.Native.Nat.{ℕ, ◌+◌, ◌≤◌, ◌<◌}
+use Prim.Native.Nat.{ℕ, ◌+◌, ◌<◌}
 use native.Mathlib.Omega.{arith}
 use native.Mathlib.Decide.{ℕ_discrete, dec_lt}
 use Prim.{Dec, yes, no}
@@ -13,7 +13,7 @@ use lib.Seq.{get_or-set_same, get_or-set_other}
 use lib.Ieee.{Float}
 use Rattle.folds.specs.Arith.{◌⊖◌}
 use Rattle.folds.specs.Below.{some, last}
-use Rattle.folds.proofs.Below.{some-ext, some-no, some_one, last_none, last_more, and-false}
+use Rattle.folds.proofs.Below.{some-no, some_one, last_none, last_more}
 use Rattle.folds.proofs.Column.{replicate-at}
 use Rattle.folds.specs.Marked.{Marked}
 use Rattle.folds.proofs.Marked.{marked-as, marked-then}
@@ -25,9 +25,9 @@ use Rattle.view.specs.View.{View, view_at, max_points, rank_at, degree_at}
 use Rattle.std.specs.Prelude.{Option, None, Some}
 use Rattle.view.specs.Seen.{lattice_in, view_in, below}
 use Rattle.view.specs.declared.lattice.View.{View as Held}
-use Rattle.marks.proofs.Guards.{guard, past}
 use Rattle.wrong_label_filters.specs.Frontier.{kink, kink_at, last_in_line, end_mark, frontier_mark}
 use Rattle.wrong_label_filters.specs.Lasts.{line_mark, Lasts}
+use Rattle.std.proofs.Math.Bool.{and-false}
 
 -- ---- the kink at a rank
 
@@ -66,16 +66,16 @@ few-sides d b = go (dec_lt 2 d)
 
 module _ (v : Held) where
   abbrev from : ℕ → Offset → (ℕ → Bool) → Bool
-  from k o f = if_there (below v.lattice.count (rank_at (view_in v) k o)) f
+  from k o f = if_there (below v.sheet.lattice.count (rank_at (view_in v) k o)) f
 
   -- a kink by its four ranks
   abbrev kink_by : ℕ → ℕ → ℕ → ℕ → Bool
-  kink_by k a b c = cond (ltb 2 (degree_at (lattice_in v.lattice) k)) false (kink (between (view_in v) k a) (between (view_in v) a b) (between (view_in v) b c))
+  kink_by k a b c = cond (ltb 2 (degree_at (lattice_in v.sheet.lattice) k)) false (kink (between (view_in v) k a) (between (view_in v) a b) (between (view_in v) b c))
 
   pub kink_steps : (inward : Offset) (k : ℕ) → kink_at (view_in v) inward k ≡ from k inward (λ a. from a inward (λ b. from b inward (kink_by k a b)))
   kink_steps inward k =
       let w = view_in v in
-      let n = v.lattice.count in
+      let n = v.sheet.lattice.count in
       let a = rank_at w k inward in
       let b = rank_at w a inward in
       let c = rank_at w b inward in
@@ -84,16 +84,16 @@ module _ (v : Held) where
       ∙ next n a (ltb b n && (ltb c n && x)) (λ d. from d inward (λ e. from e inward (kink_by k d e)))
       (next n b (ltb c n && x) (λ e. from e inward (kink_by k a e))
       (next n c x (kink_by k a b)
-      (rw (degree-same n v.lattice.ranks.now v.x.now v.y.now k) (few-sides (degree_at (lattice_in v.lattice) k) (kink (between w k a) (between w a b) (between w b c))))))
+      (rw (degree-same n v.sheet.lattice.ranks.now v.seen.x.now v.seen.y.now k) (few-sides (degree_at (lattice_in v.sheet.lattice) k) (kink (between w k a) (between w a b) (between w b c))))))
 
 -- ---- the ends that a loop marks
 
-pub end-marks : (t : ℕ → Bool) (n : ℕ) {a b : List ℕ} → Marked (λ (m : ℕ). some (λ (k : ℕ). t k && (ltb k n && eqb k m)) n) a b → Marked (λ (m : ℕ). ltb m n && t m) a b
-end-marks t n r = marked-as (λ (m : ℕ). some (λ (k : ℕ). t k && (ltb k n && eqb k m)) n) (λ (m : ℕ). ltb m n && t m) (λ m l. go m (dec_lt m n)) r
+pub end-marks : (t : ℕ → Bool) (n : ℕ) {a b : List ℕ} → Marked (λ (m : ℕ). some (λ (k : ℕ). t k && eqb k m) n) a b → Marked (λ (m : ℕ). ltb m n && t m) a b
+end-marks t n r = marked-as (λ (m : ℕ). some (λ (k : ℕ). t k && eqb k m) n) (λ (m : ℕ). ltb m n && t m) (λ m l. go m (dec_lt m n)) r
   where
-    go : (m : ℕ) → Dec (m < n) → some (λ (k : ℕ). t k && (ltb k n && eqb k m)) n ≡ ltb m n && t m
-    go m (yes h) = rw (lt-ltb m n h) (some-ext (λ (k : ℕ). t k && (ltb k n && eqb k m)) (λ (k : ℕ). t k && eqb k m) n (λ k l. rw (guard k m n h)) ∙ some_one t n m h)
-    go m (no h) = let g : n ≤ m = omega (arith, h) in rw (le-ltb m n g) (some-no (λ (k : ℕ). t k && (ltb k n && eqb k m)) n (λ k l. rw (past k m n g) (and-false (t k))))
+    go : (m : ℕ) → Dec (m < n) → some (λ (k : ℕ). t k && eqb k m) n ≡ ltb m n && t m
+    go m (yes h) = rw (lt-ltb m n h) (some_one t n m h)
+    go m (no h) = rw (le-ltb m n (omega (arith, h))) (some-no (λ (k : ℕ). t k && eqb k m) n (λ k l. rw (ne_eqb k m (λ q. omega (arith, h, l, q))) (and-false (t k))))
 
 -- ---- lines
 

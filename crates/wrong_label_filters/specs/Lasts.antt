@@ -3,15 +3,21 @@
 use Rattle.std.specs.Prelude.{◌≡◌, Bool, ◌||◌, List, ℕ, ◌<◌, eqb, length, get_or}
 use Rattle.folds.specs.Below.{last}
 use Rattle.view.specs.View.{View, max_points}
+use Rattle.view.specs.Seen.{view_in}
 use Rattle.offsets.specs.declared.axis.Axis.{Axis}
 use Rattle.offsets.specs.declared.axis.Axis.TheVariants.{AlongU, AlongV}
 use Rattle.offsets.specs.Axes.{forward, back}
 use Rattle.wrong_label_filters.specs.Frontier.{last_in_line, end_mark}
+use Rattle.wrong_label_filters.specs.declared.frontier.LinesAlong.{LinesAlong}
 
 -- the first rank of rank k's line, which stands for the line
 abbrev pub line_start : View → Axis → ℕ → ℕ
 line_start w AlongU = w.row
 line_start w AlongV = w.column
+
+-- the same of the sheet and the axis that the code's struct holds
+abbrev pub line_in : LinesAlong → ℕ → ℕ
+line_in l = line_start (view_in l.view) l.axis
 
 -- rank k is marked as the first or as the last of its line
 unfoldable pub line_mark : View → Axis → ℕ → Bool

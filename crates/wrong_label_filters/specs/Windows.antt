@@ -11,14 +11,23 @@ use Rattle.offsets.specs.declared.axis.Axis.{Axis}
 use Rattle.offsets.specs.Axes.{forward}
 use Rattle.offsets.specs.Offsets.{offset_of}
 use Rattle.view.specs.View.{View, rank_at, present}
+use Rattle.view.specs.Seen.{view_in}
 use Rattle.edges.specs.Edges.{stored_at}
 use Rattle.edges.specs.declared.StoredEdge.{StoredEdge}
 use Rattle.wrong_label_filters.specs.Judged.{in_window}
+use Rattle.wrong_label_filters.specs.declared.judged_edges.EdgesAlong.{EdgesAlong}
 use Rattle.wrong_label_filters.specs.declared.judged_edges.Window.{Window}
 
 -- the edges along an axis
 abbrev pub edge_along : View → Axis → ℕ → StoredEdge
 edge_along w axis = stored_at w (forward axis)
+
+-- the sheet that the code's struct holds, and its edges along the axis that it holds
+abbrev pub sheet_in : EdgesAlong → View
+sheet_in a = view_in a.table.view
+
+abbrev pub edges_in : EdgesAlong → ℕ → StoredEdge
+edges_in a = edge_along (sheet_in a) a.axis
 
 -- one edge more, if t; u says whether it is under
 abbrev pub with_edge : Bool → Bool → Float → Float → Window → Window

@@ -10,13 +10,20 @@ ghost use Rattle.offsets.specs.Axes.{forward};
 ghost use Rattle.view.specs.View.{max_points};
 ghost use Rattle.view.specs.Seen.{view_in};
 ghost use Rattle.wrong_label_filters.specs.Judged.{off_axis, fails, edge_mark};
-ghost use Rattle.wrong_label_filters.specs.Windows.{edge_along, with_edge, with_edge_at, window_to, sheet_limit_of, Limits, Asked, failing_ends};
+ghost use Rattle.wrong_label_filters.specs.Windows.{sheet_in, edges_in, with_edge, with_edge_at, window_to, sheet_limit_of, Limits, Asked, failing_ends};
 
 use edges::{EdgeTable, StoredEdge};
 use float::constants::{GLOBAL_OVERLONG_RATIO, OVERLONG_RATIO};
 use median::Numbers;
 use offsets::{Axis, OWN};
 use view::{Floats, Marks};
+
+// The edges of a sheet along an axis.
+#[derive(Clone, Copy)]
+struct EdgesAlong<'a> {
+    table: EdgeTable<'a>,
+    axis: Axis,
+}
 
 #[derive(Clone, Copy)]
 struct Window {
@@ -41,45 +48,10 @@ fn with_edge(v: Window, under: bool, e: StoredEdge) -> Window
 {
     Window {
         count: v.count + 1,
-        under: marks::one_more(under, v.under),
+        under: v.under + usize::from(under),
         sx: v.sx + e.ux,
         sy: v.sy + e.uy,
     }
-}
-
-// The window v with the edge that starts at place j round rank k, if that is one of the window of rank k's edge, which has the length own.
-fn with_edge_at(v: Window, table: &EdgeTable, axis: Axis, k: usize, j: usize, own: f32) -> Window
-    requires { (k < table.now.view.lattice.count) × (j < 25) × (v.count ≤ j) × (v.under ≤ j) }
-    ensures { result ≡ with_edge_at (view_in table.now.view) (edge_along (view_in table.now.view) axis) k own j v }
-{
-    if j == offsets::place(OWN) {
-        return v;
-    }
-    let Some(e) = table.view.lattice.at_place(k, j) else {
-        return v;
-    };
-    let edge = table.at(axis, e);
-    if 0.0 < edge.len {
-        return with_edge(v, OVERLONG_RATIO * edge.len < own, edge);
-    }
-    v
-}
-
-// The window of rank k's edge, which has the length own.
-fn window_at(table: &EdgeTable, axis: Axis, k: usize, own: f32) -> Window
-    requires { k < table.now.view.lattice.count }
-    ensures { result ≡ window_to (view_in table.now.view) (edge_along (view_in table.now.view) axis) k own 25 }
-{
-    let mut v = Window {
-        count: 0,
-        under: 0,
-        sx: 0.0,
-        sy: 0.0,
-    };
-    for j in 0..25 {
-        v = with_edge_at(v, table, axis, k, j, own);
-    }
-    v
 }
 
 #[tactic(auto, unfolding(crate::specs::Judged::off_axis))]
@@ -93,45 +65,6 @@ fn off_axis(sx: f32, sy: f32, e: StoredEdge) -> bool
     false
 }
 
-// How many of the edges along an axis have a positive length.
-fn sheet_count(table: &EdgeTable, axis: Axis) -> usize
-    ensures { result ≡ tally (λ (k : ℕ). lt zero_f (edge_along (view_in table.now.view) axis k).len) table.now.view.lattice.count }
-{
-    let mut c = 0;
-    for k in 0..table.view.lattice.count {
-        c = marks::one_more(0.0 < table.at(axis, k).len, c);
-    }
-    c
-}
-
-// The lengths of the edges along an axis.
-fn lengths_of(table: &EdgeTable, axis: Axis) -> Floats
-    ensures { result ≡ column max_points nan table.now.view.lattice.count (λ (k : ℕ). (edge_along (view_in table.now.view) axis k).len) }
-{
-    view::filled(
-        f32::NAN,
-        table.view.lattice.count,
-        |k| table.at(axis, k).len,
-    )
-}
-
-// The sheet's limit, taken where it is not known yet.
-fn sheet_limit(limit: Option<f32>, table: &EdgeTable, axis: Axis) -> f32
-    requires { Limits (edge_along (view_in table.now.view) axis) table.now.view.lattice.count limit }
-    ensures { result ≡ sheet_limit_of (edge_along (view_in table.now.view) axis) table.now.view.lattice.count }
-{
-    match limit {
-        Some(known) => known,
-        None => {
-            let lengths = Numbers {
-                values: &lengths_of(table, axis),
-                count: table.view.lattice.count,
-            };
-            GLOBAL_OVERLONG_RATIO * median::middle(&lengths)
-        }
-    }
-}
-
 // Whether an edge fails by its window, which has counted the edges under it.
 fn fails_in(v: Window, e: StoredEdge) -> bool
     ensures { result ≡ ltb (v.count / 2) v.under || off_axis v.sx v.sy e.ux e.uy }
@@ -139,64 +72,145 @@ fn fails_in(v: Window, e: StoredEdge) -> bool
     v.count / 2 < v.under || off_axis(v.sx, v.sy, e)
 }
 
-// Whether the edge that starts at rank k fails; total of the edges along the axis have a positive length.
-fn fails_at(table: &EdgeTable, axis: Axis, k: usize, total: usize, limit: Option<f32>) -> Verdict
-    requires { Asked (view_in table.now.view) axis k total limit }
-    ensures { (result.fails ≡ fails (view_in table.now.view) (edge_along (view_in table.now.view) axis) k) × Limits (edge_along (view_in table.now.view) axis) table.now.view.lattice.count result.limit }
-{
-    let own = table.at(axis, k);
-    if 0.0 < own.len {
-        let v = window_at(table, axis, k, own.len);
-        if 5 <= v.count {
-            return Verdict {
-                fails: fails_in(v, own),
-                limit,
-            };
-        }
-        if 8 <= total {
-            let sheet = sheet_limit(limit, table, axis);
-            return Verdict {
-                fails: sheet < own.len,
-                limit: Some(sheet),
-            };
-        }
+impl EdgesAlong<'_> {
+    // The edge that starts at rank k.
+    fn at(&self, k: usize) -> StoredEdge
+        requires { k < (sheet_in self.now).count }
+        ensures { result ≡ edges_in self.now k }
+    {
+        self.table.at(self.axis, k)
     }
-    Verdict {
-        fails: false,
-        limit,
-    }
-}
 
-// Marks the ends of the edge that starts at rank k, if it fails.
-fn mark_edge(
-    table: &EdgeTable,
-    axis: Axis,
-    k: usize,
-    total: usize,
-    limit: Option<f32>,
-    mark: &mut Marks,
-) -> Option<f32>
-    requires { Asked (view_in table.now.view) axis k total limit }
-    ensures { Marked (failing_ends (view_in table.now.view) (forward axis) (fails (view_in table.now.view) (edge_along (view_in table.now.view) axis)) k) mark.old mark.new × Limits (edge_along (view_in table.now.view) axis) table.now.view.lattice.count result }
-{
-    let Some(e) = table.view.lattice.neighbour(k, axis.forward()) else {
-        return limit;
-    };
-    let verdict = fails_at(table, axis, k, total, limit);
-    if verdict.fails {
-        mark[k] = 1;
-        mark[e] = 1;
+    // The window v with the edge that starts at place j round rank k, if that is one of the window of rank k's edge, which has the length own.
+    fn with_edge_at(&self, v: Window, k: usize, j: usize, own: f32) -> Window
+        requires { (k < (sheet_in self.now).count) × (j < 25) × (v.count ≤ j) × (v.under ≤ j) }
+        ensures { result ≡ with_edge_at (sheet_in self.now) (edges_in self.now) k own j v }
+    {
+        if j == offsets::place(OWN) {
+            return v;
+        }
+        let Some(e) = self.table.view.sheet.lattice.at_place(k, j) else {
+            return v;
+        };
+        let edge = self.at(e);
+        if 0.0 < edge.len {
+            return with_edge(v, OVERLONG_RATIO * edge.len < own, edge);
+        }
+        v
     }
-    verdict.limit
+
+    // The window of rank k's edge, which has the length own.
+    fn window_at(&self, k: usize, own: f32) -> Window
+        requires { k < (sheet_in self.now).count }
+        ensures { result ≡ window_to (sheet_in self.now) (edges_in self.now) k own 25 }
+    {
+        let mut v = Window {
+            count: 0,
+            under: 0,
+            sx: 0.0,
+            sy: 0.0,
+        };
+        for j in 0..25 {
+            v = self.with_edge_at(v, k, j, own);
+        }
+        v
+    }
+
+    // How many of the edges have a positive length.
+    fn sheet_count(&self) -> usize
+        ensures { result ≡ tally (λ (k : ℕ). lt zero_f (edges_in self.now k).len) (sheet_in self.now).count }
+    {
+        view::counted(
+            self.table.view.sheet.lattice.count,
+            |k| 0.0 < self.at(k).len,
+        )
+    }
+
+    // The lengths of the edges.
+    fn lengths(&self) -> Floats
+        ensures { result ≡ column max_points nan (sheet_in self.now).count (λ (k : ℕ). (edges_in self.now k).len) }
+    {
+        view::filled(
+            f32::NAN,
+            self.table.view.sheet.lattice.count,
+            |k| self.at(k).len,
+        )
+    }
+
+    // The sheet's limit, taken where it is not known yet.
+    fn sheet_limit(&self, limit: Option<f32>) -> f32
+        requires { Limits (edges_in self.now) (sheet_in self.now).count limit }
+        ensures { result ≡ sheet_limit_of (edges_in self.now) (sheet_in self.now).count }
+    {
+        match limit {
+            Some(known) => known,
+            None => {
+                let lengths = Numbers {
+                    values: &self.lengths(),
+                    count: self.table.view.sheet.lattice.count,
+                };
+                GLOBAL_OVERLONG_RATIO * median::middle(&lengths)
+            }
+        }
+    }
+
+    // Whether the edge that starts at rank k fails; total of the edges have a positive length.
+    fn fails_at(&self, k: usize, total: usize, limit: Option<f32>) -> Verdict
+        requires { Asked (sheet_in self.now) self.now.axis k total limit }
+        ensures { (result.fails ≡ fails (sheet_in self.now) (edges_in self.now) k) × Limits (edges_in self.now) (sheet_in self.now).count result.limit }
+    {
+        let own = self.at(k);
+        if 0.0 < own.len {
+            let v = self.window_at(k, own.len);
+            if 5 <= v.count {
+                return Verdict {
+                    fails: fails_in(v, own),
+                    limit,
+                };
+            }
+            if 8 <= total {
+                let sheet = self.sheet_limit(limit);
+                return Verdict {
+                    fails: sheet < own.len,
+                    limit: Some(sheet),
+                };
+            }
+        }
+        Verdict {
+            fails: false,
+            limit,
+        }
+    }
+
+    // Marks the ends of the edge that starts at rank k, if it fails.
+    fn mark_edge(&self, k: usize, total: usize, limit: Option<f32>, mark: &mut Marks) -> Option<f32>
+        requires { Asked (sheet_in self.now) self.now.axis k total limit }
+        ensures { Marked (failing_ends (sheet_in self.now) (forward self.now.axis) (fails (sheet_in self.now) (edges_in self.now)) k) mark.old mark.new × Limits (edges_in self.now) (sheet_in self.now).count result }
+    {
+        let lattice = self.table.view.sheet.lattice;
+        let Some(e) = lattice.neighbour(k, self.axis.forward()) else {
+            return limit;
+        };
+        let verdict = self.fails_at(k, total, limit);
+        if verdict.fails {
+            mark[k] = 1;
+            mark[e] = 1;
+        }
+        verdict.limit
+    }
 }
 
 // Marks the ends of each of the edges along an axis that fails.
 pub(crate) fn mark_failing(table: &EdgeTable, axis: Axis, mark: &mut Marks)
-    ensures { Marked (λ (m : ℕ). ltb m table.now.view.lattice.count && edge_mark (view_in table.now.view) (forward axis) m) mark.old mark.new }
+    ensures { Marked (λ (m : ℕ). ltb m table.now.view.sheet.lattice.count && edge_mark (view_in table.now.view) (forward axis) m) mark.old mark.new }
 {
-    let total = sheet_count(table, axis);
+    let edges = EdgesAlong {
+        table: *table,
+        axis,
+    };
+    let total = edges.sheet_count();
     let mut limit = None;
-    for k in 0..table.view.lattice.count {
-        limit = mark_edge(table, axis, k, total, limit, mark);
+    for k in 0..table.view.sheet.lattice.count {
+        limit = edges.mark_edge(k, total, limit, mark);
     }
 }

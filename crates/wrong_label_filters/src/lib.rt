@@ -16,15 +16,15 @@ use view::{MAX_POINTS, Marks};
 // The wrong-label mark of each rank's index.
 #[inline(never)]
 pub fn topological_wrong_label_drops(table: &EdgeTable, cell: f32) -> Marks
-    requires x { Finite table.now.view.lattice.count table.now.view.x.now }
-    requires y { Finite table.now.view.lattice.count table.now.view.y.now }
+    requires x { Finite table.now.view.sheet.lattice.count table.now.view.seen.x.now }
+    requires y { Finite table.now.view.sheet.lattice.count table.now.view.seen.y.now }
     ensures { result ≡ wrong_label_of (view_in table.now.view) cell }
 {
     let view = &table.view;
     let mut mark = [0u8; MAX_POINTS];
     judged_edges::mark_failing(table, Axis::AlongU, &mut mark);
     judged_edges::mark_failing(table, Axis::AlongV, &mut mark);
-    close_pairs::mark_close(&view.positions(), cell, view.lattice.count, &mut mark);
+    close_pairs::mark_close(&view.seen, cell, view.sheet.lattice.count, &mut mark);
     frontier::mark_frontier(view, &mut mark);
-    marks::by_index(&view.sheet(), &mark)
+    marks::by_index(&view.sheet, &mark)
 }

@@ -2,13 +2,13 @@ use lib.Dec.{ltb}
 use lib.Ieee.{of_bits}
 use Rattle.float.specs.Constants.{duplicate_fraction}
 use Rattle.float.proofs.Order.{mul-plain, above_zero}
-use Rattle.folds.proofs.Below.{and-false}
 use Rattle.folds.proofs.Marked.{marked-none, marked-as}
 use Rattle.view.specs.View.{view_at}
 use Rattle.close_pairs.specs.Close.{limit_of, close_mark}
 use Rattle.close_pairs.proofs.Pairs.{sweepable, swept, nothing-close}
 use Rattle.close_pairs.proofs.Squares.{reaches}
 use Rattle.close_pairs.proofs.mark_close.Goals as goal
+use Rattle.std.proofs.Math.Bool.{and-false}
 
 pub invariant_of-sweep : goal.invariant_of-sweep
 unfolding of_bits

@@ -6,4 +6,4 @@ pub returns-then-s : goal.returns-then-s
 returns-then-s c = wrong-on c.args.s (view_in c.args.table.now.view) c.if-s.true c.topological_wrong_label_drops.ensures
 
 pub returns : goal.returns
-returns c = wrong-off c.args.s (view_in c.args.table.now.view) c.if-s.false c.args.table.now.view.lattice.few
+returns c = wrong-off c.args.s (view_in c.args.table.now.view) c.if-s.false c.args.table.now.view.sheet.lattice.few

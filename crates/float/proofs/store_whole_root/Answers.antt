@@ -1,26 +1,21 @@
 use borrow.Author.Rules.{rules}
-use mathlib.Core.Path.{◌≡◌, sym, subst}
-use mathlib.Core.Bool.{true}
+use mathlib.Core.Path.{◌≡◌}
 use native.Mathlib.Omega.{arith}
-use lib.Dec.{T}
 use lib.IntN.{pos}
-use lib.Ieee.{Float, binary32, fits}
 use mir.Syntax.{w32}
 use mir.Val.{SFits, to_z}
 use Rattle.std.proofs.lemmas.Int.{ints, to_z-of_z}
 use Rattle.float.proofs.Whole.{root_small}
 use Rattle.float.proofs.store_whole_root.Goals as goal
-
-held : (x : Float) → fits binary32 x ≡ true → T (fits binary32 x)
-held x e = subst T (sym e) tt
+use Rattle.std.proofs.lemmas.Float.{T_from_true}
 
 pub overflow_cast-words : goal.overflow_cast-words
-overflow_cast-words c = omega (arith, ints, root_small _ _ (held c.args.x c.well_formed.0.1) c.whole_root.ensures c.in-Some.r c.in-Some.is)
+overflow_cast-words c = omega (arith, ints, root_small _ _ (T_from_true _ c.well_formed.0.1) c.whole_root.ensures c.in-Some.r c.in-Some.is)
 
 pub returns-in-Some-clause-words : goal.returns-in-Some-clause-words
 returns-in-Some-clause-words c =
     let r = c.in-Some.r in
-    let h = root_small _ _ (held c.args.x c.well_formed.0.1) c.whole_root.ensures r c.in-Some.is in
+    let h = root_small _ _ (T_from_true _ c.well_formed.0.1) c.whole_root.ensures r c.in-Some.is in
     let e : to_z w32 r.root ≡ pos r.root = omega (arith, ints, h) in
     let f : SFits w32 r.power = search rules in
     let g : SFits w32 r.remainder = search rules in

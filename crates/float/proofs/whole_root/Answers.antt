@@ -1,9 +1,7 @@
 use borrow.Author.Rules.{rules}
 use mathlib.Core.Path.{◌≡◌, sym, ap, ◌∙◌, subst}
-use mathlib.Core.Bool.{true}
 use Prim.Native.Nat.{ℕ, ◌%◌, ◌<◌}
-use lib.Dec.{T}
-use lib.Ieee.{Float, binary32, fits, to_bits}
+use lib.Ieee.{Float, binary32, to_bits}
 use mir.Syntax.{w32}
 use mir.Val.{SFits, to_z, of_z}
 use Rattle.std.proofs.Common.{Some}
@@ -14,9 +12,7 @@ use Rattle.float.specs.Remainder.{remainder_of, distance_of}
 use Rattle.float.specs.declared.Distance.{Distance}
 use Rattle.float.proofs.Whole.{root-bits, read, neither}
 use Rattle.float.proofs.whole_root.Goals as goal
-
-held : (x : Float) → fits binary32 x ≡ true → T (fits binary32 x)
-held x e = subst T (sym e) tt
+use Rattle.std.proofs.lemmas.Float.{T_from_true}
 
 -- what the distance d of x tells
 rest : (x : Float) {d : Distance} → d ≡ distance_of x → remainder_of x ≡ d.remainder
@@ -29,7 +25,7 @@ pub scaled_root-requires : goal.scaled_root-requires
 scaled_root-requires c =
     let x = c.args.x in
     let e = c.root_distance-d.ensures in
-    subst (λ (b : ℕ). b < infinity_bits) (sym (bits x e c.to_bits.ensures)) (read x c.in_ok-z.z (held x c.well_formed.0.1) (rest x e ∙ c.in_ok-z.was)).low
+    subst (λ (b : ℕ). b < infinity_bits) (sym (bits x e c.to_bits.ensures)) (read x c.in_ok-z.z (T_from_true _ c.well_formed.0.1) (rest x e ∙ c.in_ok-z.was)).low
 
 pub returns : goal.returns
 returns c =
@@ -38,7 +34,7 @@ returns c =
     let e = c.root_distance-d.ensures in
     let f : SFits w32 z = search rules in
     ap Some (c.scaled_root.ensures ∙ ap (λ (b : ℕ). scaled_root_at b (to_z w32 (of_z w32 z))) (bits x e c.to_bits.ensures) ∙ ap (scaled_root_at (root-bits x)) (to_z-of_z w32 z f))
-    ∙ (read x z (held x c.well_formed.0.1) (rest x e ∙ c.in_ok-z.was)).same
+    ∙ (read x z (T_from_true _ c.well_formed.0.1) (rest x e ∙ c.in_ok-z.was)).same
 
 pub returns-in_err-z : goal.returns-in_err-z
 returns-in_err-z c = c.from_residual.ensures ∙ neither c.args.x (rest c.args.x c.root_distance-d.ensures ∙ c.in_err-z.was)

@@ -7,4 +7,4 @@ pub returns : goal.returns
 returns c =
     let a = c.args in
     let m = c.measure-m.ensures in
-    judged-is a.s (view_in a.view.now) (cells_at a.keys.now) a.strength.now _ _ m.findings m.residuals m.figures (rw c.sheet.ensures at c.drop_patches-d.ensures a.view.now.x.now a.view.now.y.now)
+    judged-is a.s (view_in a.view.now) (cells_at a.keys.now) a.strength.now _ _ m.findings m.residuals m.figures (c.drop_patches-d.ensures a.view.now.seen.x.now a.view.now.seen.y.now)

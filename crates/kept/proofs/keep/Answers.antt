@@ -1,5 +1,6 @@
 use Rattle.std.proofs.Common.{◌∙◌}
-use Rattle.kept.proofs.Cases.{handed-on, answer-from}
+use Rattle.refusals.proofs.Number.{handed-on}
+use Rattle.kept.proofs.Cases.{answer-from}
 use Rattle.kept.proofs.keep.Goals as goal
 
 pub returns-in_err-keep_counted-clause-answer : goal.returns-in_err-keep_counted-clause-answer

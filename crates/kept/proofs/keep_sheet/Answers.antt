@@ -3,10 +3,10 @@ use Rattle.judged.specs.Judged.{judged_from}
 use Rattle.kept.proofs.Cases.{arrays, fit, done}
 use Rattle.kept.proofs.keep_sheet.Goals as goal
 
-pub invariant_of-points : goal.invariant_of-points
-invariant_of-points c =
+pub of-requires : goal.of-requires
+of-requires c =
     let a = c.args in
-    record { arrays = arrays a.file.now a.rows.now (λ k. (c.type_inv.file k).fits) a.sheet.now c.requires }
+    arrays a.file.now a.rows.now (λ k. (c.type_inv.file k).fits) a.sheet.now c.requires
 
 pub judge-j-requires : goal.judge-j-requires
 judge-j-requires c = refl
@@ -20,5 +20,7 @@ pub returns : goal.returns
 unfolding judged_from
 returns c =
     let a = c.args in
-    let d = done a.file.now a.rows.now (λ k. (c.type_inv.file k).fits) a.sheet.now c.requires c.judge-j.ensures c.write_rows.ensures in
+    let p = c.of.ensures in
+    let judged = rw (p.settings, p.count, p.keys, p.idx, p.x, p.y, p.strength) at c.judge-j.ensures in
+    let d = done a.file.now a.rows.now (λ k. (c.type_inv.file k).fits) a.sheet.now c.requires judged c.write_rows.ensures in
     record { kept = d.0; rows = d.1 }

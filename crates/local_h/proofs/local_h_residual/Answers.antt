@@ -17,29 +17,29 @@ returns c =
     let s = c.args.seen.now in
     let t = c.in-Some-Some-Some-Some in
     c.residual_from.ensures
-    ∙ fitted l.count l.ranks.now s.x.now s.y.now (cells_at s.keys.now) c.args.k (four-found (view_at l.count l.ranks.now s.x.now s.y.now) c.args.k (c.find_base.ensures s.x.now s.y.now) t.is-0 t.is-1 t.is-2 t.is-3)
+    ∙ fitted l.count l.ranks.now s.positions.x.now s.positions.y.now (cells_at s.keys.now) c.args.k (four-found (view_at l.count l.ranks.now s.positions.x.now s.positions.y.now) c.args.k (c.find_base.ensures s.positions.x.now s.positions.y.now) t.is-0 t.is-1 t.is-2 t.is-3)
 
 -- where the fourth, the third, the second or the first is missing
 pub returns-in_default : goal.returns-in_default
 returns-in_default c =
     let l = c.args.lattice.now in
     let s = c.args.seen.now in
-    unfitted l.count l.ranks.now s.x.now s.y.now (cells_at s.keys.now) c.args.k (no-fourth (view_at l.count l.ranks.now s.x.now s.y.now) c.args.k (c.find_base.ensures s.x.now s.y.now) c.in_default.is-3)
+    unfitted l.count l.ranks.now s.positions.x.now s.positions.y.now (cells_at s.keys.now) c.args.k (no-fourth (view_at l.count l.ranks.now s.positions.x.now s.positions.y.now) c.args.k (c.find_base.ensures s.positions.x.now s.positions.y.now) c.in_default.is-3)
 
 pub returns-in_default-2 : goal.returns-in_default-2
 returns-in_default-2 c =
     let l = c.args.lattice.now in
     let s = c.args.seen.now in
-    unfitted l.count l.ranks.now s.x.now s.y.now (cells_at s.keys.now) c.args.k (no-third (view_at l.count l.ranks.now s.x.now s.y.now) c.args.k (c.find_base.ensures s.x.now s.y.now) c.in_default.is-2)
+    unfitted l.count l.ranks.now s.positions.x.now s.positions.y.now (cells_at s.keys.now) c.args.k (no-third (view_at l.count l.ranks.now s.positions.x.now s.positions.y.now) c.args.k (c.find_base.ensures s.positions.x.now s.positions.y.now) c.in_default.is-2)
 
 pub returns-in_default-3 : goal.returns-in_default-3
 returns-in_default-3 c =
     let l = c.args.lattice.now in
     let s = c.args.seen.now in
-    unfitted l.count l.ranks.now s.x.now s.y.now (cells_at s.keys.now) c.args.k (no-second (view_at l.count l.ranks.now s.x.now s.y.now) c.args.k (c.find_base.ensures s.x.now s.y.now) c.in_default.is-1)
+    unfitted l.count l.ranks.now s.positions.x.now s.positions.y.now (cells_at s.keys.now) c.args.k (no-second (view_at l.count l.ranks.now s.positions.x.now s.positions.y.now) c.args.k (c.find_base.ensures s.positions.x.now s.positions.y.now) c.in_default.is-1)
 
 pub returns-in_default-4 : goal.returns-in_default-4
 returns-in_default-4 c =
     let l = c.args.lattice.now in
     let s = c.args.seen.now in
-    unfitted l.count l.ranks.now s.x.now s.y.now (cells_at s.keys.now) c.args.k (no-first (view_at l.count l.ranks.now s.x.now s.y.now) c.args.k (c.find_base.ensures s.x.now s.y.now) c.in_default.is-0)
+    unfitted l.count l.ranks.now s.positions.x.now s.positions.y.now (cells_at s.keys.now) c.args.k (no-first (view_at l.count l.ranks.now s.positions.x.now s.positions.y.now) c.args.k (c.find_base.ensures s.positions.x.now s.positions.y.now) c.in_default.is-0)

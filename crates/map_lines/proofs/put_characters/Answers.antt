@@ -1,21 +1,20 @@
-use mathlib.Core.Path.{◌≡◌}
+use mathlib.Core.Path.{◌≡◌, ap, subst, ◌∙◌}
+use mathlib.Core.List.{List}
+use Prim.Native.Nat.{ℕ, ◌+◌, ◌-◌, ◌*◌}
 use native.Mathlib.Omega.{arith}
-use Rattle.text.proofs.Stores.{stored-start, stored_more}
-use borrow.Author.Rules.{rules}
+use lib.ListN.{take, drop}
+use Rattle.text.specs.Stored.{Stored}
 use Rattle.map_lines.specs.Map.{columns}
 use Rattle.map_lines.specs.Page.{page_line}
+use Rattle.map_lines.proofs.Slices.{piece}
 use Rattle.map_lines.proofs.put_characters.Goals as goal
-
-pub loop-j-init : goal.loop-j-init
-loop-j-init c =
-    search (rules, stored-start)
-
-pub loop-j-preserved : goal.loop-j-preserved
-loop-j-preserved c =
-    search (rules, stored_more)
 
 pub returns : goal.returns
 unfolding page_line
 returns c =
-    let e : c.loop-j.j ≡ columns = omega arith in
-    rw e at c.loop-j.invariant
+    let page = c.args.page.now in
+    let i = c.args.i in
+    let n : columns * (i + 1) - columns * i ≡ columns = omega arith in
+    subst (λ (t : List ℕ). Stored c.args.w.now t c.text.new.self)
+    (ap (λ (m : ℕ). take m (drop (columns * i) page)) n ∙ piece page (columns * i) columns (omega (arith, c.fits-page)))
+    c.text.ensures

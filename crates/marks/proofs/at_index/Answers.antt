@@ -1,38 +1,33 @@
-use Prim.Native.Nat.{ℕ, ◌+◌}
-use mathlib.Core.Path.{◌≡◌, refl}
-use mathlib.Core.Bool.{Bool, ◌&&◌}
-use mathlib.Core.List.{List}
-use native.Mathlib.Omega.{arith}
-use lib.Dec.{eqb, ltb}
-use lib.ListN.{get_or}
+use Rattle.std.proofs.Common.{◌≡◌, refl, arith, ℕ, ◌&&◌, eqb, eq-eqb, ne_eqb}
 use Rattle.folds.specs.Below.{some}
-use Rattle.folds.proofs.Below.{and-false}
-use Rattle.folds.proofs.Marked.{marked-none, marked_more}
-use Rattle.view.specs.View.{max_points, indices_at}
-use Rattle.marks.specs.Marks.{is_set}
-use Rattle.marks.proofs.Guards.{guard, past, each-as-column}
+use Rattle.folds.proofs.Below.{some-no}
+use Rattle.folds.proofs.Marked.{marked-none, marked-one, marked-as, marked_more, marked-column}
+use Rattle.view.specs.View.{max_points}
+use Rattle.view.specs.Seen.{lattice_in}
+use Rattle.marks.specs.Marks.{is_set, place_has}
 use Rattle.marks.proofs.at_index.Goals as goal
-
--- rank j hits place m
-abbrev hits : List ℕ → List ℕ → ℕ → ℕ → ℕ → Bool
-hits ranks mark n j m = is_set mark j && (ltb (get_or ranks (indices_at + j) 0) n && eqb (get_or ranks (indices_at + j) 0) m)
+use Rattle.marks.proofs.at_index.Goals.{then-mark-k-eq1, else-mark-k-eq1}
+use Rattle.std.proofs.Math.Bool.{and-false}
 
 pub loop-k-init : goal.loop-k-init
 unfolding some
-loop-k-init c =
-    (omega arith, marked-none _ _ (λ m. refl))
+loop-k-init c = marked-none _ _ (λ m. refl)
 
 pub loop-k-preserved : goal.loop-k-preserved
 loop-k-preserved c =
     let a = c.args in
-    (omega arith, marked_more (hits a.lattice.now.ranks.now a.mark.now a.lattice.now.count) c.loop-k.k c.loop-k.invariant.1 (rw c.index.ensures at c.set_if.ensures))
+    marked_more (λ (j m : ℕ). is_set a.mark.now j && eqb ((lattice_in a.sheet.now.lattice).by_idx j) m) c.loop-k.k c.loop-k.invariant (
+    elim c.if-mark-k-eq1.branch [
+      | then-mark-k-eq1 w ↦ rw w.out-is (marked-as _ _ (λ m l. rw (eq-eqb _ _ w.if-mark-k-eq1.true, w.index.ensures) refl) (marked-one w.index.result c.loop-k.out))
+      | else-mark-k-eq1 w ↦ rw w.out-is (marked-none _ _ (λ m. rw (ne_eqb _ _ w.if-mark-k-eq1.false)))
+    ]
+    )
 
 pub returns : goal.returns
 returns c =
     let a = c.args in
-    let h : c.loop-k.k ≡ a.lattice.now.count = omega arith in
-    let place : ℕ → ℕ = λ k. get_or a.lattice.now.ranks.now (indices_at + k) 0 in
-    each-as-column (hits a.lattice.now.ranks.now a.mark.now a.lattice.now.count) (λ (j m : ℕ). is_set a.mark.now j && eqb (place j) m) max_points a.lattice.now.count (omega arith)
-    (λ k m g l. rw (past (place k) m a.lattice.now.count l) (and-false (is_set a.mark.now k)))
-    (λ k m g l. rw (guard (place k) m a.lattice.now.count l))
-    (rw h at c.loop-k.invariant.1)
+    let w = lattice_in a.sheet.now.lattice in
+    let e : c.loop-k.k ≡ w.count = omega arith in
+    marked-column (place_has w a.mark.now) max_points w.count a.sheet.now.lattice.few
+    (λ m l. some-no _ w.count (λ k g. rw (ne_eqb (w.by_idx k) m (λ q. omega (arith, l, a.sheet.now.ranked.indices k g, q))) (and-false _)))
+    (rw e at c.loop-k.invariant)

@@ -1,4 +1,4 @@
-use Rattle.std.proofs.Common.{◌≡◌, ◌<◌, ℕ, get_or, refl}
+use Rattle.std.proofs.Common.{◌<◌, ℕ}
 use Rattle.folds.proofs.Column.{column-at}
 use Rattle.folds.specs.Marked.{bit}
 use Rattle.view.specs.View.{max_points}

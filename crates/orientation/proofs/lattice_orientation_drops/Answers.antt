@@ -6,6 +6,6 @@ pub returns : goal.returns
 returns c =
     let v = c.args.view.now in
     marks-are (view_in v) _ c.votes-vote.ensures _ _ _ _ _ _ _ c.votes_for-np.ensures c.votes_for-nn.ensures
-    (c.side_members.ensures, rw c.sheet-sheet.ensures at c.by_index-positive.ensures v.x.now v.y.now)
-    (c.side_members-2.ensures, rw c.sheet-sheet.ensures at c.by_index-negative.ensures v.x.now v.y.now)
+    (c.side_members.ensures, c.by_index-positive.ensures v.seen.x.now v.seen.y.now)
+    (c.side_members-2.ensures, c.by_index-negative.ensures v.seen.x.now v.seen.y.now)
     c.combined.ensures

@@ -16,6 +16,6 @@ loop-k-preserved c = marked_more (voters _ _ _) c.loop-k.k c.loop-k.invariant c.
 pub returns : goal.returns
 returns c =
     let a = c.args in
-    let lattice = a.view.now.lattice in
+    let lattice = a.view.now.sheet.lattice in
     let h : c.loop-k.k ≡ lattice.count = omega arith in
     members-column (view_in a.view.now) a.vote.now a.side lattice.few (rw h at c.loop-k.invariant)

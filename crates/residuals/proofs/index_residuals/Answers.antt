@@ -12,5 +12,5 @@ returns c =
     let cell = cells_at c.args.keys.now in
     record {
       residuals = residuals-are w cell c.cell_residuals.ensures c.gather.ensures;
-      flags = flags-are w (residual_at w cell) (λ (j : ℕ). get_or c.args.scale.now j nan) c.args.tolerance c.cell_residuals.ensures c.flags_of.ensures (rw c.sheet.ensures at (c.by_index.ensures c.args.view.now.x.now c.args.view.now.y.now)) (rw c.sheet-2.ensures at (c.by_index-2.ensures c.args.view.now.x.now c.args.view.now.y.now));
+      flags = flags-are w (residual_at w cell) (λ (j : ℕ). get_or c.args.scale.now j nan) c.args.tolerance c.cell_residuals.ensures c.flags_of.ensures (c.by_index.ensures c.args.view.now.seen.x.now c.args.view.now.seen.y.now) (c.by_index-2.ensures c.args.view.now.seen.x.now c.args.view.now.seen.y.now);
     }

@@ -5,21 +5,21 @@ use Rattle.sheet_map.proofs.draw.Goals as goal
 
 pub returns-then-too_wide : goal.returns-then-too_wide
 returns-then-too_wide c =
-    let t = c.args.points.now in
-    let inside : t.count ≤ length t.keys.now = omega (arith, t.arrays.keyed.few) in
+    let t = c.args.columns.now.points in
+    let inside : t.count ≤ length t.keys.now = omega (arith, t.few) in
     rw (wide-first t.count t.keys.now inside c.span_along-u.ensures c.span_along-v.ensures ∙ sym c.too_wide.ensures ∙ c.if-too_wide.true) (rw c.number.ensures at c.write_refusal.ensures)
 
 pub write_map-requires : goal.write_map-requires
 write_map-requires c =
-    let t = c.args.points.now in
-    let inside : t.count ≤ length t.keys.now = omega (arith, t.arrays.keyed.few) in
+    let t = c.args.columns.now.points in
+    let inside : t.count ≤ length t.keys.now = omega (arith, t.few) in
     let narrow = wide-first t.count t.keys.now inside c.span_along-u.ensures c.span_along-v.ensures ∙ sym c.too_wide.ensures ∙ c.if-too_wide.false in
-    (omega (arith, t.arrays.keyed.few), c.span_along-u.ensures, c.span_along-v.ensures, wide-kept t.count t.keys.now inside ∙ narrow)
+    (omega (arith, t.few), c.span_along-u.ensures, c.span_along-v.ensures, wide-kept t.count t.keys.now inside ∙ narrow)
 
 pub returns : goal.returns
 unfolding judged_from
 returns c =
-    let t = c.args.points.now in
-    let inside : t.count ≤ length t.keys.now = omega (arith, t.arrays.keyed.few) in
+    let t = c.args.columns.now.points in
+    let inside : t.count ≤ length t.keys.now = omega (arith, t.few) in
     let narrow = wide-first t.count t.keys.now inside c.span_along-u.ensures c.span_along-v.ensures ∙ sym c.too_wide.ensures ∙ c.if-too_wide.false in
     rw narrow (rw (map-first t.count t.keys.now inside c.judge-j.result.marks, ap (λ (x : Judged). x.marks) c.judge-j.ensures) at c.write_map.ensures)

@@ -6,9 +6,9 @@ use Rattle.validate.proofs.boundary_by.Goals as goal
 pub returns-in-None : goal.returns-in-None
 returns-in-None c =
     let a = c.args in
-    off-boundary (view_in a.view.now) (cells_at a.keys.now) c.in-None.is a.view.now.lattice.few
+    off-boundary (view_in a.view.now) (cells_at a.keys.now) c.in-None.is a.view.now.sheet.lattice.few
 
 pub returns-in-Some : goal.returns-in-Some
 returns-in-Some c =
     let a = c.args in
-    on-boundary (view_in a.view.now) (cells_at a.keys.now) _ c.in-Some.is c.square_sides.ensures (rw c.sheet.ensures at (c.boundary.ensures a.view.now.x.now a.view.now.y.now))
+    on-boundary (view_in a.view.now) (cells_at a.keys.now) _ c.in-Some.is c.square_sides.ensures (c.boundary.ensures a.view.now.seen.x.now a.view.now.seen.y.now)

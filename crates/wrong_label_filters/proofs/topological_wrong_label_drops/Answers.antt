@@ -5,4 +5,4 @@ use Rattle.wrong_label_filters.proofs.topological_wrong_label_drops.Goals as goa
 pub returns : goal.returns
 returns c =
     let v = c.args.table.now.view in
-    labels-are (view_in v) c.args.cell v.lattice.few c.mark_failing.ensures c.mark_failing-2.ensures (rw (c.positions.ensures.x, c.positions.ensures.y) at (c.mark_close.ensures v.lattice.ranks.now)) c.mark_frontier.ensures (rw c.sheet.ensures at (c.by_index.ensures v.x.now v.y.now))
+    labels-are (view_in v) c.args.cell v.sheet.lattice.few c.mark_failing.ensures c.mark_failing-2.ensures (c.mark_close.ensures v.sheet.lattice.ranks.now) c.mark_frontier.ensures (c.by_index.ensures v.seen.x.now v.seen.y.now)

@@ -6,6 +6,6 @@ use Rattle.judged.proofs.figures.evaluate_edge_shape.Goals as goal
 pub returns : goal.returns
 unfolding index_figures
 returns c =
-    let lattice = c.args.edges.now.view.lattice in
+    let lattice = c.args.edges.now.view.sheet.lattice in
     let e : c.loop-k.k ≡ lattice.count = omega arith in
     filled _ lattice.few (rw e at c.loop-k.invariant)

@@ -20,4 +20,4 @@ returns c xs ys =
     let a = c.args in
     let w = view_at a.sheet.now.lattice.count a.sheet.now.lattice.ranks.now xs ys in
     c.boundary_among.ensures xs ys
-    ∙ ap (λ (s : List ℕ). boundary_among w s (cells_at a.keys.now)) (c.labels-label.ensures [] [] ∙ all_alike w.count w.near (places a.sides.now))
+    ∙ ap (λ (s : List ℕ). boundary_among w s (cells_at a.keys.now)) (c.labels.ensures [] [] ∙ all_alike w.count w.near (places a.sides.now))

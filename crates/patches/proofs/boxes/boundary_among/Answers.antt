@@ -9,9 +9,9 @@ use Rattle.patches.proofs.boxes.boundary_among.Goals as goal
 pub returns : goal.returns
 unfolding boundary_among
 returns c xs ys =
-    let a = c.args in
-    let w = view_at a.sheet.now.lattice.count a.sheet.now.lattice.ranks.now xs ys in
+    let a = c.args.points.now in
+    let w = view_at a.sheet.lattice.count a.sheet.lattice.ranks.now xs ys in
     c.filled.ensures _ (λ k r h p.
-    let s = get_or a.label.now (w.by_idx k) 0 in
+    let s = get_or a.label (w.by_idx k) 0 in
     let at : r ≡ bit (ltb s w.count && at_some_end c.new-extents.result s (get_or a.keys.now (w.by_idx k) 0)) = search rules in
-    at ∙ ap bit (boundary-is w.count a.label.now a.keys.now c.requires (w.by_idx k) (a.sheet.now.ranked.indices k h) c.new-extents.result c.new-extents.ensures))
+    at ∙ ap bit (boundary-is w.count a.label a.keys.now a.celled (w.by_idx k) (a.sheet.ranked.indices k h) c.new-extents.result c.new-extents.ensures))

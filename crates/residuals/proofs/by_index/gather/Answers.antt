@@ -14,6 +14,6 @@ returns c =
     let v = c.args.view.now in
     let w = view_in v in
     let values = c.args.values.now in
-    (rw c.sheet.ensures at c.spread.ensures None)
+    (c.spread.ensures None)
     ∙ ap (λ (l : List (Option Distance)). l ++ drop w.count values)
-    (list_ext None w.count _ _ (λ k h. value-placed w (λ (j : ℕ). get_or values j None) c.put_last.ensures k (omega (arith, v.ranked.indices k h, v.lattice.few))))
+    (list_ext None w.count _ _ (λ k h. value-placed w (λ (j : ℕ). get_or values j None) c.put_last.ensures k (omega (arith, v.sheet.ranked.indices k h, v.sheet.lattice.few))))

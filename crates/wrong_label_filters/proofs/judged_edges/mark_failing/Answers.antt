@@ -18,5 +18,5 @@ loop-k-preserved c =
 pub returns : goal.returns
 returns c =
     let a = c.args in
-    let h : c.loop-k.k ≡ a.table.now.view.lattice.count = omega arith in
+    let h : c.loop-k.k ≡ a.table.now.view.sheet.lattice.count = omega arith in
     marks-are (view_in a.table.now.view) a.axis (rw h at c.loop-k.invariant.0)

@@ -5,4 +5,4 @@ use Rattle.patches.proofs.Gathering.{AtLabels}
 use Rattle.patches.proofs.boxes.Way.farthest.Given as goal
 
 abbrev pub invariant-loop-i : goal.invariant-loop-i
-invariant-loop-i l = AtLabels l.label l.n (larger (λ (k : ℕ). extent l.self (get_or l.keys k 0))) l.i l.far
+invariant-loop-i l = AtLabels l.points.label l.points.sheet.lattice.count (larger (λ (k : ℕ). extent l.self (get_or l.points.keys.now k 0))) l.i l.far

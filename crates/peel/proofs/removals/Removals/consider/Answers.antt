@@ -1,6 +1,6 @@
 use Rattle.std.proofs.Common.{◌<◌, ◌∙◌, sym, ap, refl, ℕ, Some, arith, eqb-true}
-use Rattle.peel.specs.Work.{index_at, last_below, past, with_index}
-use Rattle.peel.proofs.Chaining.{past-le, last-is}
+use Rattle.peel.specs.Work.{index_at, last_below, with_index}
+use Rattle.peel.proofs.Chaining.{past, past-le, last-is}
 use Rattle.peel.proofs.Searching.{put-new, put-more, put-end}
 use Rattle.peel.proofs.removals.Removals.consider.Goals as goal
 

@@ -1,5 +1,6 @@
 use Rattle.std.proofs.Common.{◌≡◌, ℕ}
-use Rattle.peel.specs.Work.{index_at, last_below, past, with_index}
+use Rattle.peel.specs.Work.{index_at, last_below, with_index}
+use Rattle.peel.proofs.Chaining.{past}
 use Rattle.peel.proofs.Searching.{Putting}
 use Rattle.peel.proofs.removals.Removals.consider.Given as goal
 

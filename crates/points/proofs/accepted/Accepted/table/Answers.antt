@@ -1,4 +1,4 @@
-use Rattle.std.proofs.Common.{ℕ, refl, ◌∙◌, ◌/◌, get_or, rules}
+use Rattle.std.proofs.Common.{ℕ, ◌∙◌, ◌/◌, get_or, rules}
 use lib.Ieee.{nan, of_bits}
 use Rattle.cells.specs.Points.{Point, indices_of, xs_of, ys_of, strengths_of}
 use Rattle.folds.specs.Arith.{f32}

@@ -1,6 +1,0 @@
-use Rattle.grid.specs.Tables.{entry_in}
-use Rattle.grid.proofs.Indices.{Walked}
-use Rattle.grid.proofs.Points.fill_indices.Given as goal
-
-abbrev pub invariant-loop-i : goal.invariant-loop-i
-invariant-loop-i l = Walked (entry_in l.self.idx.now) l.self.count l.order l.initial.ranks l.i l.ranks l.last
