@@ -1,6 +1,7 @@
 // What the programs that replay recorded files share (harness/README.md, "Vectors"): reading a case, what stands in a buffer before the call,
-// what came against what is recorded, and the lines that are printed. No contract can speak of what is read or printed: a function that does
-// either is proved safe and ending, and promises what else it returns. What the others return stands in specs/Recorded.antt.
+// what came against what is recorded, and the lines that are printed. No contract speaks of what standard input holds or of what is printed: a
+// function that reads or prints is proved safe and ending, and promises what else it returns. What the others return stands in
+// specs/Recorded.antt.
 #![tactic(auto)]
 
 ghost use Rattle.std.specs.Prelude.{◌≡◌, length};
