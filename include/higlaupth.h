@@ -51,8 +51,8 @@ extern "C" {
    caller raises the first number, an addition the second, anything else the third. */
 #define HIGLAUPTH_VERSION_MAJOR 5
 #define HIGLAUPTH_VERSION_MINOR 0
-#define HIGLAUPTH_VERSION_PATCH 4
-#define HIGLAUPTH_VERSION "5.0.4"
+#define HIGLAUPTH_VERSION_PATCH 5
+#define HIGLAUPTH_VERSION "5.0.5"
 
 /* Sizes, in bytes but for the first three. */
 #define HIGLAUPTH_MOST_POINTS 2304  /* a sheet with more is refused */

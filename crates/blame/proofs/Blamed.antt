@@ -1,4 +1,5 @@
 -- The members of a base are ranks; whom a corner blames; and the marks of all rules together. Assumes nothing.
+use Rattle.std.specs.List.{fold}
 use Rattle.std.proofs.Common.{◌≡◌, refl, sym, ap, ◌∙◌, Bool, true, false, cond, ◌&&◌, ◌||◌, List, [], Float, ℕ, ◌+◌, ◌≤◌, ◌<◌, length, get_or, take, arith}
 use Prim.Native.Nat.{zero, suc}
 use Rattle.std.specs.Prelude.{Option, Some, None, IfSome}
@@ -8,7 +9,6 @@ use lib.Dec.{ltb}
 use lib.ListN.{replicate}
 use Rattle.folds.specs.Below.{some}
 use Rattle.folds.proofs.Below.{first_holds}
-use Rattle.folds.specs.Lists.{over}
 use Rattle.folds.specs.Column.{column, overlaid}
 use Rattle.folds.proofs.Column.{column-at, length-column}
 use Rattle.folds.specs.Marked.{bit, Marked}
@@ -69,7 +69,7 @@ module _ (w : View) (k : ℕ) where
 -- ---- whom a corner blames
 
 module _ (w : View) (flags : ℕ → ℕ) (k : ℕ) where
-  worst-is : (b : List (Option ℕ)) → over (worse_of w flags k) None b ≡ worst_of w flags k b
+  worst-is : (b : List (Option ℕ)) → fold (worse_of w flags k) None b ≡ worst_of w flags k b
   unfolding worst_of
   worst-is b = refl
 
@@ -78,7 +78,7 @@ module _ (w : View) (flags : ℕ → ℕ) (k : ℕ) where
   blamed-is = refl
 
   -- after all members of the base
-  pub blamed-by : {b : List (Option ℕ)} {worst : Option Worst} {r : Option ℕ} (n : ℕ) → b ≡ base_of w k → length b ≤ n → worst ≡ over (worse_of w flags k) None (take n b) → r ≡ place_in worst → r ≡ blamed w flags k
+  pub blamed-by : {b : List (Option ℕ)} {worst : Option Worst} {r : Option ℕ} (n : ℕ) → b ≡ base_of w k → length b ≤ n → worst ≡ fold (worse_of w flags k) None (take n b) → r ≡ place_in worst → r ≡ blamed w flags k
   blamed-by {b} n e h f g = rw (g, f, take_all n b h, worst-is b, e) blamed-is
 
 -- the place of the worst is that of an index

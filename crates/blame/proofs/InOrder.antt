@@ -1,5 +1,6 @@
 -- Rule 3 as the Rust walks it: the corners in some order, each only if it is not marked yet. The order does not show, since rule 3 looks
 -- at indices with no line flag and marks indices with one. Assumes nothing.
+use Rattle.std.specs.List.{list_any, fold}
 use mathlib.Core.Path.{◌≡◌, refl, sym, ap, ◌∙◌}
 use mathlib.Core.Logic.{◌⊎◌, inl, inr}
 use mathlib.Core.Bool.{Bool, true, false, not, cond, ◌&&◌, ◌||◌, false≢true, true≢false}
@@ -10,10 +11,8 @@ use Rattle.std.specs.Prelude.{Option, Some, None}
 use native.Mathlib.Omega.{arith}
 use borrow.Author.Tests.{eqb-true, ltb-true, lt-leb}
 use lib.Dec.{eqb, ltb}
-use Rattle.folds.specs.Among.{any_in}
 use Rattle.folds.specs.Below.{some}
 use Rattle.folds.proofs.Below.{some-yes, some_at, or-right-first}
-use Rattle.folds.specs.Lists.{over}
 use Rattle.view.specs.View.{View}
 use Rattle.marks.specs.Marks.{is_at}
 use Rattle.local_h.specs.Base.{member_at, base_of}
@@ -37,36 +36,35 @@ module _ (key : ℕ → Option ℕ) (q : ℕ → Bool) (n : ℕ) (apart : (j k :
   Fresh s = (k : ℕ) → k < n → q k ≡ true → s k ≡ false
 
   -- what the turns of numbers below n leave, in any order
-  walked : (l : List ℕ) → ((k : ℕ) → Memᴰ k l → k < n) → (s : ℕ → Bool) → Fresh s → (m : ℕ) → over (visit key q) s l m ≡ s m || any_in (hits key q m) l
-  unfolding over
+  walked : (l : List ℕ) → ((k : ℕ) → Memᴰ k l → k < n) → (s : ℕ → Bool) → Fresh s → (m : ℕ) → fold (visit key q) s l m ≡ s m || list_any (hits key q m) l
   walked [] below s fresh m = sym (or-false (s m))
   walked (a ∷ l) below s fresh m = go (q a) refl (walked l (λ k d. below k (Memᴰ.tail d)))
     where
-      go : (b : Bool) → q a ≡ b → ((t : ℕ → Bool) → Fresh t → (m : ℕ) → over (visit key q) t l m ≡ t m || any_in (hits key q m) l) → over (visit key q) (visit key q s a) l m ≡ s m || any_in (hits key q m) (a ∷ l)
-      go true e h = rw (e, fresh a (below a (Memᴰ.head refl)) e) (h (λ j. s j || is_at (key a) j) (λ k g d. rw (fresh k g d) (apart a k g d)) m ∙ or_assoc (s m) (is_at (key a) m) (any_in (hits key q m) l))
+      go : (b : Bool) → q a ≡ b → ((t : ℕ → Bool) → Fresh t → (m : ℕ) → fold (visit key q) t l m ≡ t m || list_any (hits key q m) l) → fold (visit key q) (visit key q s a) l m ≡ s m || list_any (hits key q m) (a ∷ l)
+      go true e h = rw (e, fresh a (below a (Memᴰ.head refl)) e) (h (λ j. s j || is_at (key a) j) (λ k g d. rw (fresh k g d) (apart a k g d)) m ∙ or_assoc (s m) (is_at (key a) m) (list_any (hits key q m) l))
       go false e h = rw e (h s fresh m)
 
-any-yes : (t : ℕ → Bool) (l : List ℕ) (k : ℕ) → Memᴰ k l → t k ≡ true → any_in t l ≡ true
+any-yes : (t : ℕ → Bool) (l : List ℕ) (k : ℕ) → Memᴰ k l → t k ≡ true → list_any t l ≡ true
 any-yes t [] k d e = absurd (Memᴰ.not-nil d)
 any-yes t (a ∷ l) k d e = go (t a) refl (any-yes t l k) (Memᴰ.cases_cons d)
   where
-    go : (b : Bool) → t a ≡ b → (Memᴰ k l → t k ≡ true → any_in t l ≡ true) → (k ≡ a) ⊎ Memᴰ k l → b || any_in t l ≡ true
+    go : (b : Bool) → t a ≡ b → (Memᴰ k l → t k ≡ true → list_any t l ≡ true) → (k ≡ a) ⊎ Memᴰ k l → b || list_any t l ≡ true
     go true f r w = refl
     go false f r (inl w) = absurd (true≢false (sym e ∙ ap t w ∙ f))
     go false f r (inr w) = r w e
 
-any_at : (t : ℕ → Bool) (l : List ℕ) → any_in t l ≡ true → (k : ℕ) × Memᴰ k l × (t k ≡ true)
+any_at : (t : ℕ → Bool) (l : List ℕ) → list_any t l ≡ true → (k : ℕ) × Memᴰ k l × (t k ≡ true)
 any_at t [] e = absurd (false≢true e)
 any_at t (a ∷ l) e = go (t a) refl e (any_at t l)
   where
-    go : (b : Bool) → t a ≡ b → b || any_in t l ≡ true → (any_in t l ≡ true → (k : ℕ) × Memᴰ k l × (t k ≡ true)) → (k : ℕ) × Memᴰ k (a ∷ l) × (t k ≡ true)
+    go : (b : Bool) → t a ≡ b → b || list_any t l ≡ true → (list_any t l ≡ true → (k : ℕ) × Memᴰ k l × (t k ≡ true)) → (k : ℕ) × Memᴰ k (a ∷ l) × (t k ≡ true)
     go true f h r = (a, Memᴰ.head refl, f)
     go false f h r = let w = r h in (w.0, Memᴰ.tail w.1, w.2)
 
 -- a list of numbers below n that has each with t
-any_some : (t : ℕ → Bool) (l : List ℕ) (n : ℕ) → ((k : ℕ) → Memᴰ k l → k < n) → ((k : ℕ) → k < n → t k ≡ true → Memᴰ k l) → any_in t l ≡ some t n
+any_some : (t : ℕ → Bool) (l : List ℕ) (n : ℕ) → ((k : ℕ) → Memᴰ k l → k < n) → ((k : ℕ) → k < n → t k ≡ true → Memᴰ k l) → list_any t l ≡ some t n
 any_some t l n below all =
-    both_ways (any_in t l) (some t n)
+    both_ways (list_any t l) (some t n)
     (λ e. let w = any_at t l e in some-yes t n w.0 (below w.0 w.1) w.2)
     (λ e. let w = some_at t n e in any-yes t l w.0 (all w.0 w.1 w.2) w.2)
 
@@ -89,10 +87,10 @@ worse-flagged w flags k worst (Some p) h = go (ltb (flags_in worst) (flags m)) r
     go false e = h
 
 worst-flagged : (w : View) (flags : ℕ → ℕ) (k : ℕ) (b : List (Option ℕ)) → Flagged flags (worst_of w flags k b)
-unfolding worst_of over Flagged
+unfolding worst_of Flagged
 worst-flagged w flags k b = go b None tt
   where
-    go : (b : List (Option ℕ)) (worst : Option Worst) → Flagged flags worst → Flagged flags (over (worse_of w flags k) worst b)
+    go : (b : List (Option ℕ)) (worst : Option Worst) → Flagged flags worst → Flagged flags (fold (worse_of w flags k) worst b)
     go [] worst h = h
     go (p ∷ b) worst h = go b (worse_of w flags k worst p) (worse-flagged w flags k worst p h)
 
@@ -119,7 +117,7 @@ fresh w e k l v =
 -- "(3) in index order, .. not yet marked": after rules 1 and 2, the corners of any listing of ranks that has each corner rule 3 looks at,
 -- one after the other and each only if it is not marked yet, leave with rule 4 the marks of the definition.
 pub in_order : (w : View) (e : Evidence) (l : List ℕ) → ((k : ℕ) → Memᴰ k l → k < w.count) → ((k : ℕ) → k < w.count → is_visited w e k ≡ true → Memᴰ k l)
-    → (m : ℕ) → over (visit (blamed w e.flags) (is_visited w e)) (marked12 e) l m || rule4 e m ≡ is_marked w e m
+    → (m : ℕ) → fold (visit (blamed w e.flags) (is_visited w e)) (marked12 e) l m || rule4 e m ≡ is_marked w e m
 unfolding is_marked blames
 in_order w e l below all m =
     ap (λ (b : Bool). b || rule4 e m)

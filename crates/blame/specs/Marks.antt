@@ -1,7 +1,7 @@
 -- Which indices the rules 1 to 4 mark. What is known of an index stands at the last of its ranks, its place. Assumes nothing.
+use Rattle.std.specs.List.{fold}
 use Rattle.std.specs.Prelude.{Bool, cond, ◌&&◌, ◌||◌, List, ℕ, Option, Some, None, eqb, ltb, leb, get_or}
 use Rattle.folds.specs.Below.{first, first_in, some}
-use Rattle.folds.specs.Lists.{over}
 use Rattle.folds.specs.Column.{column}
 use Rattle.folds.specs.Marked.{bit}
 use Rattle.marks.specs.Marks.{is_set, is_at}
@@ -66,8 +66,8 @@ module _ (w : View) (flags : ℕ → ℕ) where
 
   -- the worst of the members of the base b of corner k
   unfoldable pub worst_of : ℕ → List (Option ℕ) → Option Worst
-  unfolding over worse_of
-  worst_of k b = over (worse_of k) None b
+  unfolding worse_of
+  worst_of k b = fold (worse_of k) None b
 
   -- the place of the index that corner k blames, if it blames one
   unfoldable pub blamed : ℕ → Option ℕ

@@ -1,12 +1,12 @@
 // The marks of indices, from their line flags, residuals and steps.
 #![tactic(auto)]
 
-ghost use Rattle.std.specs.Prelude.{◌≡◌, ℕ, ◌<◌, List, Float, IfSome};
+ghost use Rattle.std.specs.Prelude.{◌≡◌, ℕ, ◌<◌, IfSome};
 ghost use Rattle.folds.specs.Column.{column};
 ghost use Rattle.folds.specs.Below.{some};
 ghost use Rattle.folds.specs.Marked.{bit, Marked};
-ghost use Rattle.view.specs.View.{max_points, view_at};
-ghost use Rattle.view.specs.Seen.{lattice_in};
+ghost use Rattle.view.specs.View.{max_points};
+ghost use Rattle.view.specs.Seen.{lattice_in, WhereverSeen};
 ghost use Rattle.local_h.specs.Base.{member_at};
 ghost use Rattle.blame.specs.Marks.{evidence_in, is_outlier, worse_of, blamed, is_visited, blames, blame_marks};
 
@@ -127,7 +127,7 @@ impl SheetEvidence<'_> {
 // At each rank 1 if its index is marked by rule 1, 2, 3 or 4, else 0.
 #[inline(never)]
 pub fn marks(sheet: &SheetLattice, evidence: &Evidence) -> Marks
-    ensures { (xs ys : List Float) → result ≡ blame_marks (view_at sheet.now.lattice.count sheet.now.lattice.ranks.now xs ys) (evidence_in evidence.now) }
+    ensures { WhereverSeen sheet.now.lattice (λ w. result ≡ blame_marks w (evidence_in evidence.now)) }
 {
     let both = SheetEvidence {
         sheet: *sheet,
@@ -135,7 +135,5 @@ pub fn marks(sheet: &SheetLattice, evidence: &Evidence) -> Marks
     };
     let mut held = both.outliers();
     both.mark_all_blamed(&mut held);
-    let mut out = [0u8; MAX_POINTS];
-    sheet.spread(&held, &mut out);
-    out
+    sheet.by_index(&held, 0)
 }

@@ -6,7 +6,7 @@ ghost use Rattle.view.specs.View.{max_points};
 ghost use Rattle.cells.specs.Points.{stride, biased, key_at};
 ghost use Rattle.cells.specs.Cell.{signed, within};
 
-use view::Words;
+use view::{View, Words};
 
 // The key of a cell is (u + BIAS) * STRIDE + (v + BIAS).
 pub const BIAS: u32 = 8003;
@@ -25,6 +25,13 @@ pub struct Points<'a> {
     pub idx: &'a Words,
     pub count: usize,
     ghost few: { count ≤ max_points },
+}
+
+// A view with the key of each point's cell.
+#[derive(Clone, Copy)]
+pub struct CelledView<'a> {
+    pub view: View<'a>,
+    pub keys: &'a Words,
 }
 
 // The key's parts: u and v, each plus BIAS.

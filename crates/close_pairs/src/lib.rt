@@ -1,12 +1,13 @@
 // Points that lie on almost one pixel: a sweep in the order of x, which compares each point only with those that follow it closely.
 #![tactic(auto)]
 
-ghost use Rattle.std.specs.Prelude.{◌≡◌, ◌&&◌, ◌||◌, List, ℕ, ◌≤◌, ◌<◌, eqb, ltb, get_or};
+ghost use Rattle.std.specs.Prelude.{◌≡◌, ◌%◌, ◌&&◌, ◌||◌, List, ℕ, ◌≤◌, ◌<◌, eqb, ltb, get_or};
 ghost use Rattle.std.specs.Float.{nan};
 ghost use Rattle.std.specs.Float.Ieee.{lt};
 ghost use Rattle.folds.specs.Arith.{◌⊖◌};
 ghost use Rattle.folds.specs.Marked.{Marked};
 ghost use Rattle.view.specs.View.{max_points, view_at, Finite};
+ghost use Rattle.sort.specs.Packed.{packed_places};
 ghost use Rattle.close_pairs.specs.Close.{square_of, close_mark};
 ghost use Rattle.close_pairs.specs.Ranks.{OrderedByX};
 ghost use Rattle.close_pairs.specs.Hits.{hits_from, hits_in};
@@ -27,7 +28,14 @@ fn order_of(x: &Floats, n: usize) -> Places
         values: x,
         count: n,
     });
-    view::filled(0, n, |i| (a[i] % sort::PACKED_PLACES) as u16)
+    view::filled(
+        0,
+        n,
+        |i| -> u16
+            requires { i < max_points }
+            ensures { result ≡ get_or a i 0 % packed_places }
+        { a[i].place() as u16 },
+    )
 }
 
 // Whether a and b are both marked already.

@@ -33,9 +33,9 @@ largest-le l (suc i) = go (ltb (get_or l (largest_at l i) 0) (get_or l i 0)) (la
     go true h = omega arith
     go false h = omega arith
 
-pub sizes-are : (labels : List ℕ) (n : ℕ) (a : List ℕ) → n ≤ max_points → AtLabels labels n one_more n a → a ≡ sizes_of n labels
+pub sizes-are : (labels : List ℕ) (n : ℕ) (a : List ℕ) → n ≤ max_points → AtLabels 0 labels n one_more n a → a ≡ sizes_of n labels
 unfolding sizes_of
 sizes-are labels n a few t =
-    labels-column labels n one_more a few t
+    labels-column 0 labels n one_more a few t
     ∙ column-ext max_points 0 n (λ (s : ℕ). fold (turn (λ (k : ℕ). eqb (get_or labels k 0) s) one_more) 0 n) (λ (s : ℕ). tally (λ (k : ℕ). eqb (get_or labels k 0) s) n)
     (λ s h. omega (arith, fold-tally (λ (k : ℕ). eqb (get_or labels k 0) s) 0 n))

@@ -3,14 +3,14 @@
 
 mod labelled;
 
-ghost use Rattle.std.specs.Prelude.{◌≡◌, List, Float};
+ghost use Rattle.std.specs.Prelude.{◌≡◌};
 ghost use Rattle.offsets.specs.Offsets.{places};
-ghost use Rattle.view.specs.View.{view_at};
-ghost use Rattle.patches.specs.Search.{AreNear};
+ghost use Rattle.view.specs.Seen.{WhereverSeen};
 ghost use Rattle.components.specs.Components.{filter_of};
 
 use labelled::Labelled;
 use offsets::Offset;
+use patches::LinkedLattice;
 use view::{Marks, SheetLattice};
 
 // The component mark of each rank, and how many patches there are.
@@ -27,11 +27,14 @@ pub fn largest_component_filter(
     dropped: &Marks,
     sides: &[Offset],
 ) -> ComponentFilter
-    requires { AreNear sides.now }
-    ensures { (xs ys : List Float) → result ≡ filter_of (view_at sheet.now.lattice.count sheet.now.lattice.ranks.now xs ys) (places sides.now) dropped.now }
+    ensures { WhereverSeen sheet.now.lattice (λ w. result ≡ filter_of w (places sides.now) dropped.now) }
 {
+    let linked = LinkedLattice {
+        lattice: sheet.lattice,
+        sides,
+    };
     let points = Labelled {
-        label: patches::labels(&sheet.lattice, dropped, sides),
+        label: patches::labels(&linked, dropped),
         count: sheet.lattice.count,
     };
     let outside = points.others(points.winner());

@@ -1,11 +1,11 @@
 // The filters of a sheet, in two steps: those that go by the points themselves, and those that go by what these leave. See specs/Filters.antt.
 #![tactic(auto)]
 
-ghost use Rattle.std.specs.Prelude.{◌≡◌, List, [], ◌∷◌, ℕ, Float, ◌≤◌};
+ghost use Rattle.std.specs.Prelude.{◌≡◌, [], ◌∷◌, ℕ, ◌≤◌};
 ghost use Rattle.folds.specs.Column.{column};
 ghost use Rattle.folds.specs.Marked.{bit};
-ghost use Rattle.view.specs.View.{max_points, Finite, view_at};
-ghost use Rattle.view.specs.Seen.{view_in};
+ghost use Rattle.view.specs.View.{max_points, Finite};
+ghost use Rattle.view.specs.Seen.{view_in, WhereverSeen};
 ghost use Rattle.cells.specs.Cell.{cells_at};
 ghost use Rattle.marks.specs.Filters.{validate as Validate, orientation as Orientation, wrong as Wrong};
 ghost use Rattle.marks.specs.Marks.{is_set};
@@ -18,6 +18,7 @@ ghost use Rattle.drop_set.specs.Filters.{by_points, wrong_mark, no_leaves, peel_
 
 mod weighed;
 
+use cells::CelledView;
 use components::ComponentFilter;
 use edges::{EdgeTable, Edges};
 use judged::Measured;
@@ -28,7 +29,7 @@ use marks::filters::Filter;
 use median::Numbers;
 use peel::Peeled;
 use sheet_file::{Fraction, Settings};
-use view::{MAX_POINTS, Marks, SheetLattice, View, Words};
+use view::{MAX_POINTS, Marks, SheetLattice};
 pub use weighed::WeighedSheet;
 
 // The bytes of marks, how many patches the survivors have, how many rounds removed a weak end, and the tally.
@@ -68,19 +69,19 @@ fn point_marks(validate: &Marks, orientation: &Marks, wrong: &Marks, n: usize) -
 #[inline(never)]
 pub fn measure(
     s: Settings,
-    view: &View,
-    keys: &Words,
+    celled: &CelledView,
     figures: &mut FigureColumn,
     residuals: &mut ResidualColumn,
 ) -> Measured
-    requires { Celled view.now.sheet.lattice.count keys.now view.now.seen.x.now view.now.seen.y.now × (figures.old ≡ blank_figures) }
-    ensures findings { result ≡ measured_of s (view_in view.now) (cells_at keys.now) }
-    ensures residuals { residuals.new ≡ residuals_of (view_in view.now) (cells_at keys.now) }
-    ensures figures { figures.new ≡ figures_of s (view_in view.now) }
+    requires { Celled celled.now.view.sheet.lattice.count celled.now.keys.now celled.now.view.seen.x.now celled.now.view.seen.y.now × (figures.old ≡ blank_figures) }
+    ensures findings { result ≡ measured_of s (view_in celled.now.view) (cells_at celled.now.keys.now) }
+    ensures residuals { residuals.new ≡ residuals_of (view_in celled.now.view) (cells_at celled.now.keys.now) }
+    ensures figures { figures.new ≡ figures_of s (view_in celled.now.view) }
 {
+    let view = &celled.view;
     let mut along_u = [edges::no_edge(); MAX_POINTS];
     let mut along_v = [edges::no_edge(); MAX_POINTS];
-    edges::fill(&view.sheet.lattice, &view.seen, &mut along_u, &mut along_v);
+    edges::fill(&view.points(), &mut along_u, &mut along_v);
     let table = EdgeTable {
         view: *view,
         edges: Edges {
@@ -89,7 +90,7 @@ pub fn measure(
         },
     };
     validate::edge_figures(s.edge_shape, &table, figures);
-    let mut j = validate::validate(s, view, keys, figures, residuals);
+    let mut j = validate::validate(s, celled, figures, residuals);
     let orientation = orientation::lattice_orientation_drops(view);
     let wrong = wrong_marks(s, &table);
     let validated = j.marks;
@@ -100,7 +101,7 @@ pub fn measure(
 
 // The component marks and count among the points whose byte is 0; none with the switch off.
 fn component_marks(s: Settings, sheet: &SheetLattice, marks: &Marks) -> ComponentFilter
-    ensures { (xs ys : List Float) → Joined s (view_at sheet.now.lattice.count sheet.now.lattice.ranks.now xs ys) marks.now result }
+    ensures { WhereverSeen sheet.now.lattice (λ w. Joined s w marks.now result) }
 {
     if s.apply_largest_component {
         return components::largest_component_filter(sheet, marks, &patches::square_sides());
@@ -123,7 +124,7 @@ fn no_leaves() -> Peeled
 
 // The weak ends of what the marks leave, and the rounds; none without tag 4.
 fn leaf_marks(s: Settings, weighed: &WeighedSheet, marks: &Marks) -> Peeled
-    ensures { (xs ys : List Float) → result ≡ peel_of s (view_at weighed.now.sheet.lattice.count weighed.now.sheet.lattice.ranks.now xs ys) weighed.now.strength.now marks.now }
+    ensures { WhereverSeen weighed.now.sheet.lattice (λ w. result ≡ peel_of s w weighed.now.strength.now marks.now) }
 {
     let fraction = s.score_frac;
     match fraction {
@@ -143,7 +144,7 @@ fn leaf_marks(s: Settings, weighed: &WeighedSheet, marks: &Marks) -> Peeled
 // The filters that go by the marks before them: the bytes with their marks too, the count of patches, the rounds, and the tally.
 #[inline(never)]
 pub fn drop_patches(s: Settings, weighed: &WeighedSheet, marks: &Marks) -> DropSet
-    ensures { (xs ys : List Float) → result ≡ patched_of s (view_at weighed.now.sheet.lattice.count weighed.now.sheet.lattice.ranks.now xs ys) weighed.now.strength.now marks.now }
+    ensures { WhereverSeen weighed.now.sheet.lattice (λ w. result ≡ patched_of s w weighed.now.strength.now marks.now) }
 {
     let sheet = &weighed.sheet;
     let n = sheet.lattice.count;

@@ -1,9 +1,8 @@
 // Edge figures and edge reasons: how edges continue through a corner, and the shape of the cells around it.
 #![tactic(auto)]
 
-ghost use Rattle.std.specs.Prelude.{◌≡◌, true, cond, ◌<◌};
+ghost use Rattle.std.specs.Prelude.{◌≡◌, cond, ◌<◌};
 ghost use Rattle.std.specs.Float.Ieee.{lt};
-ghost use Rattle.offsets.specs.Offsets.{is_near};
 ghost use Rattle.offsets.specs.Axes.{forward, back};
 ghost use Rattle.view.specs.View.{rank_at};
 ghost use Rattle.view.specs.Seen.{view_in};
@@ -65,7 +64,7 @@ pub const NO_FIGURES: Figures = Figures {
 fn compare(a: Side, b: Side) -> Option<Measure>
     ensures { result ≡ compared a b }
 {
-    if a.len <= float::constants::EPSILON || b.len <= float::constants::EPSILON {
+    if a.len <= f32::EPSILON || b.len <= f32::EPSILON {
         return None;
     }
     Some(Measure {
@@ -131,7 +130,7 @@ fn continuation_at(edges: &EdgeTable, axis: Axis, k: usize) -> Option<Measure>
 #[inline(always)]
 #[tactic(auto, using(crate::proofs::Laws::cell_steps))]
 fn cell_at(edges: &EdgeTable, k: usize, o: Offset) -> Option<CellShape>
-    requires { (k < edges.now.view.sheet.lattice.count) × (is_near o ≡ true) }
+    requires { k < edges.now.view.sheet.lattice.count }
     ensures { result ≡ shape_at (view_in edges.now.view) (rank_at (view_in edges.now.view) k o) }
 {
     let lattice = &edges.view.sheet.lattice;

@@ -13,7 +13,7 @@ mod table;
 use float::Distance;
 use offsets::Axis;
 pub use table::EdgeTable;
-use view::{Lattice, MAX_POINTS, Positions};
+use view::{MAX_POINTS, SeenLattice};
 
 // An edge: its length and its unit vector, which means something only where the length is above 0.
 #[derive(Clone, Copy)]
@@ -42,6 +42,7 @@ pub struct Edges<'a> {
 }
 
 // No edge: what stands past the last rank.
+#[tactic(auto, unfolding(crate::specs::Edges::edges_along))]
 pub fn no_edge() -> StoredEdge
     ensures { result ≡ no_stored }
 {
@@ -53,11 +54,11 @@ pub fn no_edge() -> StoredEdge
 }
 
 // The edge that starts at rank k along an axis: zeros where it leads to no point.
-fn edge_at(lattice: &Lattice, seen: &Positions, axis: Axis, k: usize) -> Edge
-    requires { k < lattice.now.count }
-    ensures { result ≡ edge_at (seen_in lattice.now seen.now) (forward axis) k }
+fn edge_at(points: &SeenLattice, axis: Axis, k: usize) -> Edge
+    requires { k < points.now.lattice.count }
+    ensures { result ≡ edge_at (seen_in points.now) (forward axis) k }
 {
-    let Some(j) = lattice.neighbour(k, axis.forward()) else {
+    let Some(j) = points.lattice.neighbour(k, axis.forward()) else {
         return Edge {
             len: Distance {
                 value: 0.0,
@@ -67,8 +68,8 @@ fn edge_at(lattice: &Lattice, seen: &Positions, axis: Axis, k: usize) -> Edge
             uy: 0.0,
         };
     };
-    let dx = seen.x[j] - seen.x[k];
-    let dy = seen.y[j] - seen.y[k];
+    let dx = points.seen.x[j] - points.seen.x[k];
+    let dy = points.seen.y[j] - points.seen.y[k];
     let len = float::norm(dx, dy);
     Edge {
         len,
@@ -91,23 +92,23 @@ impl Edge {
 
 // Fills an empty column with the edges along an axis.
 #[inline(never)]
-fn fill_along(lattice: &Lattice, seen: &Positions, axis: Axis, column: &mut EdgeColumn)
+fn fill_along(points: &SeenLattice, axis: Axis, column: &mut EdgeColumn)
     requires { column.old ≡ blank_column }
-    ensures { column.new ≡ edges_along (seen_in lattice.now seen.now) axis }
+    ensures { column.new ≡ edges_along (seen_in points.now) axis }
 {
-    for k in 0..lattice.count {
-        column[k] = edge_at(lattice, seen, axis, k).stored();
+    for k in 0..points.lattice.count {
+        column[k] = edge_at(points, axis, k).stored();
     }
 }
 
 // Fills empty columns with the edges along both axes.
-pub fn fill(lattice: &Lattice, seen: &Positions, along_u: &mut EdgeColumn, along_v: &mut EdgeColumn)
+pub fn fill(points: &SeenLattice, along_u: &mut EdgeColumn, along_v: &mut EdgeColumn)
     requires { (along_u.old ≡ blank_column) × (along_v.old ≡ blank_column) }
-    ensures u { along_u.new ≡ edges_along (seen_in lattice.now seen.now) AlongU }
-    ensures v { along_v.new ≡ edges_along (seen_in lattice.now seen.now) AlongV }
+    ensures u { along_u.new ≡ edges_along (seen_in points.now) AlongU }
+    ensures v { along_v.new ≡ edges_along (seen_in points.now) AlongV }
 {
-    fill_along(lattice, seen, Axis::AlongU, along_u);
-    fill_along(lattice, seen, Axis::AlongV, along_v);
+    fill_along(points, Axis::AlongU, along_u);
+    fill_along(points, Axis::AlongV, along_v);
 }
 
 impl Edges<'_> {

@@ -2,8 +2,6 @@
 
 pub const MINUS_ONE: f32 = -1.0;
 
-pub const EPSILON: f32 = 1.1920928955078125e-7;
-
 pub const NEGLIGIBLE: f32 = 1e-12;
 
 pub const OVERLONG_RATIO: f32 = 1.5;

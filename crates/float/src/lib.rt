@@ -29,6 +29,14 @@ pub struct Distance {
     pub remainder: Option<i32>,
 }
 
+impl Distance {
+    fn new(value: f32, remainder: Option<i32>) -> Distance
+        ensures { result ≡ record { value = value; remainder = remainder } }
+    {
+        Distance { value, remainder }
+    }
+}
+
 // Near the root of n: off by at most 1 from the nearest whole number, by a run over all scaled numbers. A line between two roots of the table,
 // and what its square leaves of n times the line's slope.
 fn guess(n: u64) -> u64
@@ -126,51 +134,31 @@ fn positive_root(b: u32) -> Distance
     significand_root(0x80_0000 + b % 0x80_0000, b / 0x80_0000 + 25)
 }
 
-// A root that is the number itself and leaves nothing.
-fn own_root(x: f32) -> Distance
-    ensures { result ≡ record { value = x; remainder = Some (pos 0) } }
-{
-    Distance {
-        value: x,
-        remainder: Some(0),
-    }
-}
-
-// What stands in the place of a root where there is neither root nor remainder by whole numbers.
-fn no_root(x: f32) -> Distance
-    ensures { result ≡ record { value = x; remainder = None } }
-{
-    Distance {
-        value: x,
-        remainder: None,
-    }
-}
-
 // The nearest f32 to the root of x, with its remainder. The roots of -0 and of +infinity are themselves, and that of a negative number is NaN.
 // That of 1 is given at once: four of the nine roots of a fit to the four nearest cells are of 1.
 pub fn root_distance(x: f32) -> Distance
     ensures { result ≡ distance_of x }
 {
     if x.is_nan() {
-        return no_root(x);
+        return Distance::new(x, None);
     }
     let b = x.to_bits();
     if b == 0 {
-        return own_root(x);
+        return Distance::new(x, Some(0));
     }
     if b == 0x3f80_0000 {
-        return own_root(x);
+        return Distance::new(x, Some(0));
     }
     if b < 0x7f80_0000 {
         return positive_root(b);
     }
     if b == 0x7f80_0000 {
-        return no_root(x);
+        return Distance::new(x, None);
     }
     if b == 0x8000_0000 {
-        return own_root(x);
+        return Distance::new(x, Some(0));
     }
-    no_root(f32::NAN)
+    Distance::new(f32::NAN, None)
 }
 
 // The nearest f32 to the root of x.
@@ -223,6 +211,7 @@ pub fn store_whole_root(x: f32, words: &mut [i32; 3]) -> i32
 }
 
 // The length of (x, y) with its remainder.
+#[tactic(auto, unfolding(crate::specs::Scalar::norm_of))]
 pub fn norm(x: f32, y: f32) -> Distance
     ensures { result ≡ length_of x y }
 {
@@ -268,6 +257,7 @@ pub fn abs(x: f32) -> f32
 
 // The larger of x and -x, for comparisons: x with its sign cleared, but for the sign of a zero (`compares-as`). It takes fewer operations than
 // `abs`.
+#[tactic(auto, unfolding(crate::specs::Scalar::magnitude_of))]
 pub fn magnitude(x: f32) -> f32
     ensures { result ≡ magnitude_of x }
 {
@@ -276,6 +266,7 @@ pub fn magnitude(x: f32) -> f32
 }
 
 // The larger: the other where one is a NaN, a where they are equal; the language leaves open which of equals, so the sign of a zero.
+#[tactic(auto, unfolding(crate::specs::Scalar::max_of))]
 pub fn max(a: f32, b: f32) -> f32
     ensures { result ≡ max_of a b }
 {
@@ -286,6 +277,7 @@ pub fn max(a: f32, b: f32) -> f32
 }
 
 // The smaller: the other where one is a NaN, a where they are equal; likewise.
+#[tactic(auto, unfolding(crate::specs::Scalar::min_of))]
 pub fn min(a: f32, b: f32) -> f32
     ensures { result ≡ min_of a b }
 {

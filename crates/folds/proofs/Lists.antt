@@ -1,5 +1,7 @@
 -- How long a list by number is, and what stands at each place; what holds of all its elements; and a loop that keeps the numbers that pass.
 -- Assumes nothing.
+use Rattle.std.proofs.lemmas.List.Sums.{fold_push}
+use Rattle.std.specs.List.{fold as over}
 use mathlib.Core.Path.{◌≡◌, refl, sym, ap, ◌∙◌}
 use mathlib.Core.Bool.{Bool, true, false, cond, ◌&&◌}
 use mathlib.Core.List.{List, [], ◌∷◌, ◌++◌}
@@ -12,7 +14,7 @@ use mathlib.Core.Logic.{◌⊎◌, inl, inr}
 use lib.Seq.{sets, ext_get_or, take-suc, take-suc-set, get_or-set_same, get_or-set_other}
 use borrow.Author.Count.{below_more}
 use Rattle.folds.specs.Below.{fold, tally}
-use Rattle.folds.specs.Lists.{up_from, list_of, listed, All, over, Gathered}
+use Rattle.folds.specs.Lists.{up_from, list_of, listed, All, Gathered}
 
 module _ {A : Type 0} where
   pub past_end : (d : A) (k : ℕ) → get_or [] k d ≡ d
@@ -127,28 +129,15 @@ module _ {A : Type 0} where
       go false e = e
 
 module _ {A B : Type 0} where
-  pub over-snoc : (step : A → B → A) (a : A) (l : List B) (x : B) → over step a (l ++ (x ∷ [])) ≡ step (over step a l) x
-  unfolding over
-  over-snoc step a [] x = refl
-  over-snoc step a (y ∷ l) x = over-snoc step (step a y) l x
-
-  pub over_none : (step : A → B → A) (a : A) (l : List B) → over step a (take 0 l) ≡ a
-  unfolding over
-  over_none step a l = refl
-
-  -- one more turn of a loop along a list
-  pub over-more : (step : A → B → A) (a : A) (l : List B) (i : ℕ) (d : B) → i < length l → over step a (take (i + 1) l) ≡ step (over step a (take i l)) (get_or l i d)
-  over-more step a l i d h = rw (add-one i, take-suc l i d h) (over-snoc step a (take i l) (get_or l i d))
-
   -- over the f k that pass, as a fold over all k
   pub over-listed : (step : A → B → A) (a : A) (p : ℕ → Bool) (f : ℕ → B) (n : ℕ) → over step a (listed p f n) ≡ fold (λ k b. cond (p k) (step b (f k)) b) a n
-  unfolding listed over fold
+  unfolding listed fold
   over-listed step a p f zero = refl
   over-listed step a p f (suc n) = go (p n) (over-listed step a p f n)
     where
       go : (b : Bool) → over step a (listed p f n) ≡ fold (λ k b. cond (p k) (step b (f k)) b) a n
           → over step a (cond b (listed p f n ++ (f n ∷ [])) (listed p f n)) ≡ cond b (step (fold (λ k b. cond (p k) (step b (f k)) b) a n) (f n)) (fold (λ k b. cond (p k) (step b (f k)) b) a n)
-      go true h = over-snoc step a (listed p f n) (f n) ∙ ap (λ b. step b (f n)) h
+      go true h = fold_push step a (listed p f n) (f n) ∙ ap (λ b. step b (f n)) h
       go false h = h
 
 -- ---- the numbers that pass, kept in an array

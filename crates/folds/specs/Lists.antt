@@ -23,12 +23,6 @@ module _ {A : Type 0} where
   All P [] = Unit {0}
   All P (a ∷ l) = P a × All P l
 
-module _ {A B : Type 0} where
-  -- from a on, each element in turn, left to right
-  unfoldable pub over : (A → B → A) → A → List B → A
-  over step a [] = a
-  over step a (x ∷ l) = over step (step a x) l
-
 -- ---- the numbers that pass, kept in an array
 
 -- the k below n with p k, rising

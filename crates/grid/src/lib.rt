@@ -10,6 +10,7 @@ ghost use Rattle.grid.specs.Tables.{entry_in, neighbour_entry, first_in_row, fir
 ghost use Rattle.grid.specs.Sweep.{key_centre, Behind, Reached, FiveFit, standing_from};
 
 use cells::Points;
+use sort::Entry;
 use view::Ranks;
 
 // A rank stands at a target if its key plus this is the target, so that the targets of two cells down are no negative numbers.
@@ -72,15 +73,13 @@ impl KeyedPoints<'_> {
         ensures { ranks.new ≡ spliced at 5 (standing_from self.now.points.count (entry_in self.now.points.keys.now) target) ranks.old }
     {
         let mut p = from;
-        let mut goal = target;
         for e in 0..5 {
-            if self.stands(p, goal) {
+            if self.stands(p, target + e as u32) {
                 ranks[at + e] = p as u16;
                 p += 1;
             } else {
                 ranks[at + e] = self.points.count as u16;
             }
-            goal += 1;
         }
     }
 
@@ -135,15 +134,15 @@ impl KeyedPoints<'_> {
     }
 
     // The last rank with the index at place i of the order by index and rank; `after` is that of the next place.
-    fn last_rank(&self, order: &[u64; view::MAX_POINTS], i: usize, after: u16) -> u16
+    fn last_rank(&self, order: &[Entry; view::MAX_POINTS], i: usize, after: u16) -> u16
         requires { i < self.now.points.count }
         ensures { result ≡ cond (ltb (i + 1) self.now.points.count && eqb (entry_in order.now i / packed_places) (entry_in order.now (i + 1) / packed_places)) after (entry_in order.now i % packed_places) }
     {
-        let rank = (order[i] % sort::PACKED_PLACES) as u16;
+        let rank = order[i].place() as u16;
         if self.points.count <= i + 1 {
             return rank;
         }
-        if order[i] / sort::PACKED_PLACES == order[i + 1] / sort::PACKED_PLACES {
+        if order[i].key() == order[i + 1].key() {
             return after;
         }
         rank
@@ -157,7 +156,7 @@ impl KeyedPoints<'_> {
         let mut last: u16 = 0;
         for i in (0..self.points.count).rev() {
             last = self.last_rank(&order, i, last);
-            let k = (order[i] % sort::PACKED_PLACES) as usize;
+            let k = order[i].place();
             ranks[view::INDICES_AT + k] = last;
         }
     }

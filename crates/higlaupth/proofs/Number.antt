@@ -1,4 +1,5 @@
 -- The returned numbers, for every file and buffer. Assumes nothing.
+use Rattle.std.specs.List.{list_any}
 use Rattle.std.specs.Prelude.{Ok, Err}
 use mathlib.Core.Path.{◌≡◌, refl, ap}
 use mathlib.Core.Bool.{Bool, true, false, cond}
@@ -11,7 +12,6 @@ use native.Mathlib.Omega.{arith}
 use borrow.Author.Tests.{le-leb, lt-leb}
 use lib.Dec.{eqb}
 use lib.ListN.{length}
-use Rattle.folds.specs.Among.{any_in}
 use Rattle.sheet_file.specs.Bytes.{Bytes}
 use Rattle.ruling.specs.Ruling.{sheet_numbers}
 use Rattle.ruling.proofs.Given.{sheet-number}
@@ -50,7 +50,7 @@ countable file room b = go (answer_of file room) refl
 
 -- taken apart: above the low 32 bits a refusal has 0; the counts have an odd number there, above it 16 bits of rounds, and below it 16 bits of
 -- points and 16 bits of components
-pub refusal-apart : (number : ℕ) → any_in (eqb number) sheet_numbers ≡ true → number / 2 ^ 32 ≡ 0
+pub refusal-apart : (number : ℕ) → list_any (eqb number) sheet_numbers ≡ true → number / 2 ^ 32 ≡ 0
 refusal-apart k h = omega (arith, (sheet-number k h).high)
 
 pub record Apart (n points components rounds : ℕ) : Type 0 where

@@ -17,14 +17,14 @@ use Rattle.kept_in_run.specs.Through.{Call, run_through}
 use Rattle.higlaupth.specs.Words.{words_of, run_in, words_by, words_after, words_through}
 
 -- the entries of a list of this length, one by one
-entries : (n : ℕ) (l : List ℕ) → length l ≡ n → list_of n (λ (i : ℕ). get_or l i 0) ≡ l
+pub entries : (n : ℕ) (l : List ℕ) → length l ≡ n → list_of n (λ (i : ℕ). get_or l i 0) ≡ l
 entries n l e = sym (is-list 0 n (λ (i : ℕ). get_or l i 0) l e (λ k h. refl))
 
 module _ (r : Run) (old : length r.old_sums ≡ old_sums) (new : length r.new_sums ≡ length summed) where
   abbrev one_by_one : List ℕ → ℕ → List ℕ
   one_by_one l n = list_of n (λ (i : ℕ). get_or l i 0)
 
-  pub words_are : one_by_one r.old_sums old_sums ++ (r.sheets ∷ one_by_one r.new_sums (length summed)) ≡ words_of r
+  words_are : one_by_one r.old_sums old_sums ++ (r.sheets ∷ one_by_one r.new_sums (length summed)) ≡ words_of r
   words_are =
       ap (λ (l : List ℕ). l ++ (r.sheets ∷ one_by_one r.new_sums (length summed))) (entries old_sums r.old_sums old)
       ∙ ap (λ (l : List ℕ). r.old_sums ++ (r.sheets ∷ l)) (entries (length summed) r.new_sums new)

@@ -1,6 +1,6 @@
 -- The numbers that the calls hand to C. Assumes nothing.
+use Rattle.std.specs.List.{list_any}
 use Rattle.std.specs.Prelude.{◌≡◌, true, cond, ◌⊎◌, ℕ, ◌+◌, ◌-◌, ◌*◌, ◌^◌, ◌≤◌, ◌<◌, eqb, leb, Ok, Err}
-use Rattle.folds.specs.Among.{any_in}
 use Rattle.view.specs.View.{max_points}
 use Rattle.ruling.specs.Ruling.{sheet_numbers}
 use Rattle.kept.specs.Answer.{Answer}
@@ -25,7 +25,7 @@ Countable (Ok counts) = SheetCounts counts.points counts.components counts.round
 
 -- what the number that higlaupth_keep returns is: that of a refusal of a sheet, or 2^48 · rounds + 2^32 + 2^16 · points + components
 pub data Returned : ℕ → Type 0 where
-  refusal : (number : ℕ) → any_in (eqb number) sheet_numbers ≡ true → Returned number
+  refusal : (number : ℕ) → list_any (eqb number) sheet_numbers ≡ true → Returned number
   counts : (points components rounds : ℕ) → SheetCounts points components rounds → Returned (2 ^ 48 * rounds + 2 ^ 32 + 2 ^ 16 * points + components)
 
 -- what the number that higlaupth_keep_in_run returns is: the same, or 11
@@ -63,5 +63,5 @@ FewFills (Ok c) = FillsOfSheet c.points c.fills
 
 -- what the number that higlaupth_fills returns is: that of a refusal of a sheet, or 2^32 + 2^16 · points + fills
 pub data FillsReturned : ℕ → Type 0 where
-  no-fills : (number : ℕ) → any_in (eqb number) sheet_numbers ≡ true → FillsReturned number
+  no-fills : (number : ℕ) → list_any (eqb number) sheet_numbers ≡ true → FillsReturned number
   fill-counts : (points fills : ℕ) → FillsOfSheet points fills → FillsReturned (2 ^ 32 + 2 ^ 16 * points + fills)

@@ -2,7 +2,7 @@
 // `sheet_map::draw_sheet`, over `sheet_fills::fill_sheet`, and over `float::store_whole_root`.
 #![tactic(auto)]
 
-ghost use Rattle.std.specs.Prelude.{◌≡◌, ◌++◌, length, take, drop};
+ghost use Rattle.std.specs.Prelude.{◌≡◌, ◌+◌, ◌*◌, ◌^◌, ◌++◌, length, take, drop};
 ghost use Rattle.std.specs.Float.{binary32};
 ghost use Rattle.std.specs.Float.Ieee.{of_bits};
 ghost use Rattle.float.specs.Remainder.{whole_root_of};
@@ -13,7 +13,7 @@ ghost use Rattle.kept.specs.Answer.{answer_of, rows_after};
 ghost use Rattle.kept_in_run.specs.InRun.{answer_in_run, rows_in_run};
 ghost use Rattle.sheet_map.specs.Text.{map_text_of};
 ghost use Rattle.sheet_fills.specs.Answer.{fill_answer_of, fills_after};
-ghost use Rattle.higlaupth.specs.Number.{number_of, Countable, text_number, fill_number_of, FewFills};
+ghost use Rattle.higlaupth.specs.Number.{number_of, SheetCounts, Countable, text_number, fill_number_of, FewFills};
 ghost use Rattle.higlaupth.specs.Words.{words_of, run_in, words_after};
 
 use kept::Counts;
@@ -22,6 +22,14 @@ use runs::{NEW_SUMS, OLD_SUMS, Run};
 use sheet_fills::FillCounts;
 use text::NoRoom;
 
+// 2^48 * rounds + 2^32 + 2^16 * points + last.
+fn packed(rounds: usize, points: usize, last: usize) -> u64
+    requires { SheetCounts points last rounds }
+    ensures { result ≡ 2 ^ 48 * rounds + 2 ^ 32 + 2 ^ 16 * points + last }
+{
+    0x1_0000_0000_0000 * (rounds as u64) + 0x1_0000_0000 + 0x1_0000 * (points as u64) + last as u64
+}
+
 // The number of an answer: that of a refusal; else 2^48 * rounds + 2^32 + 2^16 * points + components.
 fn number_of(answer: Result<Counts, Refusal>) -> u64
     requires { Countable (numbered answer) }
@@ -29,15 +37,7 @@ fn number_of(answer: Result<Counts, Refusal>) -> u64
 {
     match answer {
         Err(refusal) => u64::from(refusal.number()),
-        Ok(counts) => {
-            let points = counts.points;
-            let components = counts.components;
-            let rounds = counts.rounds;
-            0x1_0000_0000_0000 * (rounds as u64)
-                + 0x1_0000_0000
-                + 0x1_0000 * (points as u64)
-                + components as u64
-        }
+        Ok(counts) => packed(counts.rounds, counts.points, counts.components),
     }
 }
 
@@ -60,25 +60,21 @@ type RunWords = [u32; RUN_SIZE];
 fn run_in(words: &RunWords) -> Run
     ensures { result ≡ run_in words.now }
 {
-    let old_sums = [words[0], words[1], words[2], words[3], words[4]];
-    let new_sums = [words[6], words[7], words[8], words[9], words[10], words[11]];
-    Run {
-        old_sums,
-        sheets: words[5],
-        new_sums,
-    }
+    let mut run = Run::new();
+    run.old_sums.copy_from_slice(&words[..OLD_SUMS]);
+    run.sheets = words[OLD_SUMS];
+    run.new_sums.copy_from_slice(&words[OLD_SUMS + 1..]);
+    run
 }
 
 fn words_of(run: Run) -> RunWords
     ensures { result ≡ words_of run }
 {
-    let old = run.old_sums;
-    let new = run.new_sums;
-    let sheets = run.sheets;
-    [
-        old[0], old[1], old[2], old[3], old[4], sheets, new[0], new[1], new[2], new[3], new[4],
-        new[5],
-    ]
+    let mut words = [0u32; RUN_SIZE];
+    words[..OLD_SUMS].copy_from_slice(&run.old_sums);
+    words[OLD_SUMS] = run.sheets;
+    words[OLD_SUMS + 1..].copy_from_slice(&run.new_sums);
+    words
 }
 
 // The record of a run that starts now.
@@ -107,10 +103,11 @@ pub extern "C" fn higlaupth_keep_in_run(file: &[u8], rows: &mut [u8], run: &mut 
     ensures rows { rows.new ≡ rows_in_run (run_in run.old) file.now rows.old }
     ensures run { run.new ≡ words_after run.old file.now (length rows.old) }
 {
-    let k = kept_in_run::keep_in_run(file, rows, run_in(run));
-    let number = number_of(k.answer);
-    if k.answer.is_ok() {
-        let words = words_of(k.run);
+    let mut after = run_in(run);
+    let answer = kept_in_run::keep_in_run(file, rows, &mut after);
+    let number = number_of(answer);
+    if answer.is_ok() {
+        let words = words_of(after);
         *run = words;
     }
     number
@@ -140,11 +137,7 @@ fn fill_number_of(answer: Result<FillCounts, Refusal>) -> u64
 {
     match answer {
         Err(refusal) => u64::from(refusal.number()),
-        Ok(counts) => {
-            let points = counts.points;
-            let fills = counts.fills;
-            0x1_0000_0000 + 0x1_0000 * (points as u64) + fills as u64
-        }
+        Ok(counts) => packed(0, counts.points, counts.fills),
     }
 }
 

@@ -32,6 +32,7 @@ fn mean(a: f32, b: f32, c: f32, d: f32) -> f32
 }
 
 // A mean is no root, so that it has no remainder.
+#[tactic(auto, unfolding(crate::specs::Fit::mean_distance))]
 fn mean_distance(p: [PlanePoint; 4], x: f32, y: f32) -> f32
     ensures { result ≡ mean_distance p x y }
 {
@@ -42,6 +43,7 @@ fn mean_distance(p: [PlanePoint; 4], x: f32, y: f32) -> f32
     mean(a.value, b.value, c.value, d.value)
 }
 
+#[tactic(auto, unfolding(crate::specs::Fit::normalizing_scale))]
 fn scale(d: f32) -> f32
     ensures { result ≡ normalizing_scale d }
 {
@@ -53,6 +55,7 @@ fn scale(d: f32) -> f32
 }
 
 // The matrix that centres and scales the four points p.
+#[tactic(auto, unfolding(crate::specs::Fit::normalization_of))]
 #[inline(always)]
 fn normalization(p: [PlanePoint; 4]) -> [[f32; 3]; 3]
     ensures { result ≡ normalization_of p }
@@ -72,6 +75,7 @@ fn moved(t: [[f32; 3]; 3], p: PlanePoint) -> PlanePoint
     }
 }
 
+#[tactic(auto, unfolding(crate::specs::Fit::normalized_by))]
 fn normalized(t: [[f32; 3]; 3], p: [PlanePoint; 4]) -> [PlanePoint; 4]
     ensures { result ≡ normalized_by t p }
 {
@@ -95,6 +99,7 @@ fn equation_v(p: PlanePoint, q: PlanePoint) -> [f32; 8]
     [0.0, 0.0, 0.0, p.x, p.y, 1.0, (-q.y) * p.x, (-q.y) * p.y]
 }
 
+#[tactic(auto, unfolding(crate::specs::Fit::equations_of))]
 fn equations(p: [PlanePoint; 4], q: [PlanePoint; 4]) -> [[f32; 8]; 8]
     ensures { result ≡ equations_of p q }
 {
@@ -125,6 +130,7 @@ fn matrix_of(x: [f32; 8]) -> [[f32; 3]; 3]
 }
 
 // The map m with each entry over its last, unless that is negligible.
+#[tactic(auto, unfolding(crate::specs::Fit::normalized_map))]
 fn normalize_homography(m: [[f32; 3]; 3]) -> Option<Homography>
     ensures { result ≡ normalized_map m }
 {
@@ -146,6 +152,7 @@ fn normalize_homography(m: [[f32; 3]; 3]) -> Option<Homography>
 }
 
 // The scalings s and d taken back from the map m between the scaled points.
+#[tactic(auto, unfolding(crate::specs::Fit::denormalized_map))]
 fn denormalize_homography(
     m: [[f32; 3]; 3],
     s: [[f32; 3]; 3],
@@ -161,6 +168,7 @@ fn denormalize_homography(
 }
 
 // The map that takes the four points p to the four points q, if there is one.
+#[tactic(auto, unfolding(crate::specs::Fit::map_by, crate::specs::Fit::homography_from4pt))]
 pub fn homography_from_4pt(p: [PlanePoint; 4], q: [PlanePoint; 4]) -> Option<Homography>
     ensures { result ≡ homography_from4pt p q }
 {
@@ -173,6 +181,7 @@ pub fn homography_from_4pt(p: [PlanePoint; 4], q: [PlanePoint; 4]) -> Option<Hom
 }
 
 // Where the map h takes p.
+#[tactic(auto, unfolding(crate::specs::Fit::applied_to))]
 pub fn apply(h: Homography, p: PlanePoint) -> PlanePoint
     ensures { result ≡ applied_to h p }
 {

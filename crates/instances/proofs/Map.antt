@@ -20,6 +20,7 @@ use Rattle.sheet_file.specs.declared.Layout.{Layout}
 use Rattle.sheet_file.specs.declared.Settings.{Settings}
 use Rattle.ruling.specs.Ruling.{refused, accepted, points_of, ruling_of, rows_size}
 use Rattle.ruling.specs.Order.{records_in}
+use Rattle.ruling.proofs.Given.{not-refused}
 use Rattle.ruling.proofs.Weights.{bytes-by}
 use Rattle.marks.specs.Filters.{filter_count, leaf, component}
 use Rattle.marks.specs.Byte.{has_mark, first_mark}
@@ -28,7 +29,6 @@ use Rattle.text.proofs.Stores.{each_long}
 use Rattle.map_lines.specs.Map.{line_length, map_size, smallest, largest, span, smallest_v, span_v, too_wide, point_character, cell_character, line_of, line_text, lines_from, map_of}
 use Rattle.map_lines.proofs.Moved.{map_same}
 use Rattle.sheet_map.specs.Text.{map_ruling_of, map_text_of}
-use Rattle.sheet_map.proofs.Laws.{not-refused}
 use Rattle.judging.specs.Judging.{judged_for}
 use Rattle.promises.proofs.MovingMap.{drawn-text}
 use Rattle.promises.specs.Map.{on_map, Lines, PointsShown}

@@ -15,13 +15,13 @@ use Rattle.sheet_file.specs.Bytes.{Bytes}
 use Rattle.sheet_file.specs.declared.Settings.{Settings}
 use Rattle.ruling.specs.Ruling.{refused, accepted, ruling_of, rows_size}
 use Rattle.ruling.specs.Offset.{moved_file, StaysInRange}
+use Rattle.ruling.proofs.Given.{not-refused}
 use Rattle.ruling.proofs.Weights.{bytes-by}
 use Rattle.marks.specs.Filters.{validate}
 use Rattle.marks.specs.Byte.{has_mark}
 use Rattle.text.specs.Text.{bytes}
 use Rattle.map_lines.specs.Map.{span, too_wide, lines_from, map_of}
 use Rattle.sheet_map.specs.Text.{map_ruling_of, map_text_of}
-use Rattle.sheet_map.proofs.Laws.{not-refused}
 use Rattle.promises.specs.Words.{marks_in}
 use Rattle.promises.specs.Map.{BothRefused, LinesMoved, MovedMap}
 use Rattle.promises.proofs.Theorems.{map-numbers, moved-file-map}

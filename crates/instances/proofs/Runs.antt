@@ -1,5 +1,6 @@
 -- "totals of a run": three small files, one of them refused, in two orders and in another listing; records near their limits, where an order
 -- matters. Assumes nothing.
+use Rattle.std.specs.List.{list_any}
 use Rattle.std.specs.Prelude.{Some, Ok, Err}
 use mathlib.Core.Path.{◌≡◌, refl, sym, ap, ◌∙◌}
 use mathlib.Core.Bool.{false}
@@ -12,7 +13,6 @@ use native.Mathlib.Omega.{arith}
 use lib.Dec.{leb}
 use lib.ListN.{length, get_or, replicate}
 use borrow.Author.Tests.{leb-false}
-use Rattle.folds.specs.Among.{any_in}
 use Rattle.sheet_file.specs.Bytes.{Bytes}
 use Rattle.sheet_file.specs.Frame.{framing_of, layout_of}
 use Rattle.sheet_file.specs.declared.Layout.{Layout}
@@ -204,7 +204,7 @@ largest = record_of (replicate 5 (2 ^ 32 - 1)) 65534 (replicate 6 (2 ^ 31 - 1))
 largest-fits : FitsU32 largest
 largest-fits = record { old = words-by (replicate 5 (2 ^ 32 - 1)) refl; count = omega arith; new = words-by (replicate 6 (2 ^ 31 - 1)) refl }
   where
-    words-by : (l : List ℕ) → any_in (leb (2 ^ 32)) l ≡ false → (i : ℕ) → get_or l i 0 < 2 ^ 32
+    words-by : (l : List ℕ) → list_any (leb (2 ^ 32)) l ≡ false → (i : ℕ) → get_or l i 0 < 2 ^ 32
     words-by l e i = leb-false (2 ^ 32) (get_or l i 0) (none-at (leb (2 ^ 32)) 0 l refl e i)
 
 pub last_fits : FitsU32 (run_through largest (call_on file 140 ∷ []))

@@ -1,37 +1,29 @@
 -- The arrays of points in cell order are as the filters ask, and what is judged of them is what is judged of the points. Assumes nothing.
 use mathlib.Core.Path.{◌≡◌, ap, ◌∙◌}
-use mathlib.Core.Bool.{false, true≢false}
 use mathlib.Core.List.{List}
-use Prim.Native.Nat.{ℕ, ◌≤◌, ◌<◌}
-use lib.Dec.{T}
+use Prim.Native.Nat.{ℕ, ◌≤◌}
 use lib.ListN.{length, get_or}
-use lib.Ieee.{Float, nan, inf, fin}
-use lib.Ieee.Scale.{finite}
-use Rattle.folds.specs.Arith.{f32}
-use Rattle.folds.proofs.Column.{column-at}
-use Rattle.view.specs.View.{View, view_at, max_points, Finite, Ranked}
-use Rattle.cells.specs.Points.{Point, nowhere, keys_of, indices_of, xs_of, ys_of, strengths_of}
+use lib.Ieee.{Float}
+use Rattle.view.specs.View.{View, view_at, Ranked}
+use Rattle.cells.specs.Points.{Point, keys_of, indices_of, xs_of, ys_of, strengths_of}
 use Rattle.cells.specs.Cell.{Cell, cells_at, cells_of}
 use Rattle.cells.proofs.Keys.{cells_are}
 use Rattle.grid.specs.Tables.{ranks_of}
 use Rattle.grid.specs.InOrder.{CellOrder}
 use Rattle.grid.specs.Views.{view_of}
-use Rattle.grid.proofs.InOrder.{keys-ready}
 use Rattle.grid.proofs.Views.{view-is, ranks-ranked}
 use Rattle.grid.proofs.Standing.{keys-small}
 use Rattle.grid.proofs.Mirror.{ranks-mirrored}
-use Rattle.sheet_file.specs.Limit.{outside}
 use Rattle.sheet_file.specs.declared.Settings.{Settings}
-use Rattle.points.specs.Refusals.{off_limit, off_strength}
 use Rattle.points.specs.Table.{Tabled}
 use Rattle.points.specs.declared.Table.{Table}
+use Rattle.ruling.specs.Arrays.{Arrays}
 use Rattle.marks.proofs.Counts.{counts-few}
 use Rattle.predict.specs.Fills.{fills_of}
 use Rattle.drop_set.specs.Filters.{sides_of, judged_of, measured_of, peeled_marks, patched_of}
 use Rattle.drop_set.proofs.Laws.{components-few, rounds-few}
 use Rattle.drop_set.specs.Given.{Celled, Weighed}
-use Rattle.judging.specs.Judging.{Arrays, judged_by, judged_for, fills_for}
-use Rattle.std.proofs.lemmas.Bool.{or_parts}
+use Rattle.judging.specs.Judging.{judged_by, judged_for, fills_for}
 
 -- what the filters ask of the arrays
 module _ (n : ℕ) (keys idx : List ℕ) (xs ys strength : List Float) {ranks : List ℕ} (a : Arrays n keys xs ys strength) (e : ranks ≡ ranks_of n keys idx) where
@@ -49,11 +41,6 @@ pub ranked-by : (s : Settings) (n : ℕ) (keys idx : List ℕ) (xs ys strength :
     → judged_of s (view_at n ranks xs ys) (cells_at keys) strength ≡ judged_by s n keys idx xs ys strength
 ranked-by s n keys idx xs ys strength e = ap (λ (ranks : List ℕ). judged_of s (view_at n ranks xs ys) (cells_at keys) strength) e
 
-inside-finite : (x : Float) → outside x ≡ false → T (finite x)
-inside-finite nan e = absurd (true≢false e)
-inside-finite (inf s) e = absurd (true≢false e)
-inside-finite (fin s m k) e = tt
-
 same-arrays : (s : Settings) {n m : ℕ} {a a' b b' : List ℕ} {x x' y y' z z' : List Float} → n ≡ m → a ≡ a' → b ≡ b' → x ≡ x' → y ≡ y' → z ≡ z'
     → judged_by s n a b x y z ≡ judged_by s m a' b' x' y' z'
 same-arrays s {n} {m} {a} {a'} {b} {b'} {x} {x'} {y} {y'} {z} {z'} e f g h i j =
@@ -65,41 +52,17 @@ unfolding judged_for
 from-points s ps o =
     ap (λ (w : View). judged_of s w (cells_at (keys_of ps)) (strengths_of ps)) (view-is ps o) ∙ ap (λ (cell : ℕ → Cell). judged_of s (view_of ps) cell (strengths_of ps)) (cells_are ps o.inside)
 
-module _ (ps : List Point) (o : CellOrder ps) (limits : (k : ℕ) → k < length ps → off_limit (get_or ps k nowhere) ≡ false) (strengths : (k : ℕ) → k < length ps → off_strength (get_or ps k nowhere) ≡ false) where
-  limited : (k : ℕ) → k < length ps → (outside (f32 (get_or ps k nowhere).x) ≡ false) × (outside (f32 (get_or ps k nowhere).y) ≡ false)
-  limited k h = or_parts _ _ (limits k h)
+module _ (ps : List Point) (o : CellOrder ps) (n : ℕ) (t : Table) (size : n ≡ length ps) (h : Tabled ps t) where
+  pub judged-for : (s : Settings) → judged_by s n t.keys t.idx t.x t.y t.strength ≡ judged_for s ps
+  judged-for s = same-arrays s size h.keys-are h.indices-are h.xs-are h.ys-are h.strengths-are ∙ from-points s ps o
 
-  finite-xs : Finite (length ps) (xs_of ps)
-  unfolding xs_of
-  finite-xs k h = rw (column-at max_points nan (length ps) (λ (k : ℕ). f32 (get_or ps k nowhere).x) k h) (inside-finite (f32 (get_or ps k nowhere).x) (limited k h).0)
+  -- the view of the arrays is that of the points
+  view-for : view_at n (ranks_of n t.keys t.idx) t.x t.y ≡ view_of ps
+  view-for = rw (size, h.keys-are, h.indices-are, h.xs-are, h.ys-are) (view-is ps o)
 
-  finite-ys : Finite (length ps) (ys_of ps)
-  unfolding ys_of
-  finite-ys k h = rw (column-at max_points nan (length ps) (λ (k : ℕ). f32 (get_or ps k nowhere).y) k h) (inside-finite (f32 (get_or ps k nowhere).y) (limited k h).1)
-
-  finite-strengths : Finite (length ps) (strengths_of ps)
-  unfolding strengths_of
-  finite-strengths k h = rw (column-at max_points nan (length ps) (λ (k : ℕ). f32 (get_or ps k nowhere).strength) k h) (inside-finite (f32 (get_or ps k nowhere).strength) (strengths k h))
-
-  module _ (n : ℕ) (t : Table) (size : n ≡ length ps) (h : Tabled ps t) where
-    pub arrays-ready : Arrays n t.keys t.x t.y t.strength
-    arrays-ready = record {
-      keyed = rw (size, h.keys-are) (keys-ready ps o);
-      finite-x = rw (size, h.xs-are) finite-xs;
-      finite-y = rw (size, h.ys-are) finite-ys;
-      finite-strength = rw (size, h.strengths-are) finite-strengths;
-    }
-
-    pub judged-for : (s : Settings) → judged_by s n t.keys t.idx t.x t.y t.strength ≡ judged_for s ps
-    judged-for s = same-arrays s size h.keys-are h.indices-are h.xs-are h.ys-are h.strengths-are ∙ from-points s ps o
-
-    -- the view of the arrays is that of the points
-    view-for : view_at n (ranks_of n t.keys t.idx) t.x t.y ≡ view_of ps
-    view-for = rw (size, h.keys-are, h.indices-are, h.xs-are, h.ys-are) (view-is ps o)
-
-    pub fills-for : (s : Settings) {marks : List ℕ} → marks ≡ (judged_for s ps).marks → fills_of (view_at n (ranks_of n t.keys t.idx) t.x t.y) (sides_of s) marks ≡ fills_for s ps
-    unfolding fills_for
-    fills-for s {marks} e = ap (λ (w : View). fills_of w (sides_of s) marks) view-for ∙ ap (fills_of (view_of ps) (sides_of s)) e
+  pub fills-for : (s : Settings) {marks : List ℕ} → marks ≡ (judged_for s ps).marks → fills_of (view_at n (ranks_of n t.keys t.idx) t.x t.y) (sides_of s) marks ≡ fills_for s ps
+  unfolding fills_for
+  fills-for s {marks} e = ap (λ (w : View). fills_of w (sides_of s) marks) view-for ∙ ap (fills_of (view_of ps) (sides_of s)) e
 
 -- there are at most as many patches as points
 pub few-components : (s : Settings) (ps : List Point) → (judged_for s ps).components ≤ length ps

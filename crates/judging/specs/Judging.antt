@@ -1,9 +1,9 @@
 -- The judged sheet of a list of points in cell order with settings. Assumes nothing.
 use Rattle.std.specs.Prelude.{List, ℕ, Float}
-use Rattle.view.specs.View.{view_at, Finite}
+use Rattle.view.specs.View.{view_at}
 use Rattle.cells.specs.Points.{Point, strengths_of}
 use Rattle.cells.specs.Cell.{cells_at, cells_of}
-use Rattle.grid.specs.Tables.{Keys, ranks_of}
+use Rattle.grid.specs.Tables.{ranks_of}
 use Rattle.grid.specs.Views.{view_of}
 use Rattle.sheet_file.specs.declared.Settings.{Settings}
 use Rattle.predict.specs.Fills.{fills_of}
@@ -22,13 +22,6 @@ unfolding view_of judged_for fills_of
 fills_for s ps = fills_of (view_of ps) (sides_of s) (judged_for s ps).marks
 
 -- ---- for the code: the same of arrays
-
--- the first n keys rise, and the positions and the strengths are finite
-pub record Arrays (n : ℕ) (keys : List ℕ) (xs ys strength : List Float) : Type 0 where
-  pub keyed : Keys keys n
-  pub finite-x : Finite n xs
-  pub finite-y : Finite n ys
-  pub finite-strength : Finite n strength
 
 abbrev pub judged_by : Settings → ℕ → List ℕ → List ℕ → List Float → List Float → List Float → Judged
 judged_by s n keys idx xs ys strength = judged_of s (view_at n (ranks_of n keys idx) xs ys) (cells_at keys) strength

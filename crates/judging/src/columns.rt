@@ -1,11 +1,13 @@
 // The points of a sheet as columns that are lent.
 ghost use Rattle.std.specs.Prelude.{◌≡◌};
-ghost use Rattle.judging.specs.Judging.{Arrays};
+ghost use Rattle.view.specs.View.{view_at};
+ghost use Rattle.view.specs.Seen.{seen_in};
+ghost use Rattle.ruling.specs.Arrays.{Arrays};
 
 use cells::Points;
 use ruling::Sheet;
 use sheet_file::Settings;
-use view::{Floats, Positions};
+use view::{Floats, Lattice, Positions, Ranks, SeenLattice};
 
 // The settings of a sheet, and its points in cell order, one array a field.
 #[derive(Clone, Copy)]
@@ -20,7 +22,6 @@ pub struct Columns<'a> {
 impl<'a> Columns<'a> {
     // The columns of a sheet.
     pub fn of(sheet: &'a Sheet) -> Columns<'a>
-        requires { Arrays sheet.now.count sheet.now.table.keys sheet.now.table.x sheet.now.table.y sheet.now.table.strength }
         ensures settings { result.settings ≡ sheet.now.settings }
         ensures count { result.points.count ≡ sheet.now.count }
         ensures keys { result.points.keys.now ≡ sheet.now.table.keys }
@@ -42,6 +43,19 @@ impl<'a> Columns<'a> {
                 y: &table.y,
             },
             strength: &table.strength,
+        }
+    }
+
+    // Its points with their table of ranks.
+    pub fn with_ranks(&self, ranks: &'a Ranks) -> SeenLattice<'a>
+        ensures { seen_in result ≡ view_at self.now.points.count ranks.now self.now.seen.x.now self.now.seen.y.now }
+    {
+        SeenLattice {
+            lattice: Lattice {
+                ranks,
+                count: self.points.count,
+            },
+            seen: self.seen,
         }
     }
 }

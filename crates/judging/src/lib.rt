@@ -14,6 +14,7 @@ ghost use Rattle.judging.specs.Columns.{judged_in};
 
 mod columns;
 
+use cells::CelledView;
 pub use columns::Columns;
 use drop_set::WeighedSheet;
 use grid::KeyedPoints;
@@ -22,26 +23,25 @@ use judged::figures::FigureColumn;
 use predict::Fills;
 use sheet_file::Settings;
 use view::{
-    Floats, Lattice, MAX_POINTS, Marks, Positions, RANKS_SIZE, Ranks, SheetLattice, View, Words,
+    Floats, Lattice, MAX_POINTS, Marks, RANKS_SIZE, Ranks, SeenLattice, SheetLattice, View,
 };
 
 // The judged sheet of a view with the keys of its cells and its strengths, its edge figures into an empty array.
 #[inline(never)]
 pub fn judge_view(
     s: Settings,
-    view: &View,
-    keys: &Words,
+    celled: &CelledView,
     strength: &Floats,
     figures: &mut FigureColumn,
 ) -> Findings
-    requires { Celled view.now.sheet.lattice.count keys.now view.now.seen.x.now view.now.seen.y.now × Weighed (view_in view.now) strength.now × (figures.old ≡ blank_figures) }
-    ensures { judged_from result figures.new ≡ judged_of s (view_in view.now) (cells_at keys.now) strength.now }
+    requires { Celled celled.now.view.sheet.lattice.count celled.now.keys.now celled.now.view.seen.x.now celled.now.view.seen.y.now × Weighed (view_in celled.now.view) strength.now × (figures.old ≡ blank_figures) }
+    ensures { judged_from result figures.new ≡ judged_of s (view_in celled.now.view) (cells_at celled.now.keys.now) strength.now }
 {
     let mut residuals = [None; MAX_POINTS];
-    let m = drop_set::measure(s, view, keys, figures, &mut residuals);
+    let m = drop_set::measure(s, celled, figures, &mut residuals);
     let measured = m.marks;
     let weighed = WeighedSheet {
-        sheet: view.sheet,
+        sheet: celled.view.sheet,
         strength,
     };
     let d = drop_set::drop_patches(s, &weighed, &measured);
@@ -77,13 +77,11 @@ fn judge_ranked<'a>(
         sheet: SheetLattice { lattice },
         seen: columns.seen,
     };
-    judge_view(
-        columns.settings,
-        &view,
-        columns.points.keys,
-        columns.strength,
-        figures,
-    )
+    let celled = CelledView {
+        view,
+        keys: columns.points.keys,
+    };
+    judge_view(columns.settings, &celled, columns.strength, figures)
 }
 
 // The judged sheet of points that were read of an accepted file, its table of ranks and its edge figures into empty arrays.
@@ -108,8 +106,8 @@ pub fn judge(columns: &Columns, figures: &mut FigureColumn) -> Findings
 
 // The fills of a judged sheet: what is predicted for each point with a mark. The offsets are those of any sheet.
 #[inline(never)]
-pub fn fills(lattice: &Lattice, seen: &Positions, marks: &Marks) -> Fills
-    ensures { (s : Settings) → result ≡ fills_of (seen_in lattice.now seen.now) (sides_of s) marks.now }
+pub fn fills(points: &SeenLattice, marks: &Marks) -> Fills
+    ensures { (s : Settings) → result ≡ fills_of (seen_in points.now) (sides_of s) marks.now }
 {
-    predict::fills(lattice, seen, marks, &patches::square_sides())
+    predict::fills(points, marks, &patches::square_sides())
 }

@@ -3,8 +3,6 @@ use mathlib.Core.Path.{◌≡◌, refl, sym, ap, ◌∙◌}
 use mathlib.Core.List.{List}
 use mathlib.Core.Option.{Option, none, some}
 use Rattle.std.proofs.Common.{Result, Ok, Err}
-use Rattle.refusals.specs.Number.{refusal_number}
-use Rattle.refusals.specs.declared.Refusal.{Refusal}
 use Prim.Native.Nat.{ℕ, ◌*◌, ◌≤◌}
 use native.Mathlib.Omega.{arith}
 use lib.ListN.{length}
@@ -16,16 +14,15 @@ use Rattle.sheet_file.specs.Frame.{layout_of}
 use Rattle.sheet_file.specs.declared.Settings.{Settings}
 use Rattle.ruling.specs.Ruling.{Ruling, refused, accepted, ruling_of, applies}
 use Rattle.ruling.specs.Sheet.{Ruled}
-use Rattle.ruling.specs.declared.Sheet.{Sheet}
+use Rattle.ruling.specs.declared.sheet.Sheet.{Sheet}
 use Rattle.ruling.proofs.Given.{none-applies}
 use Rattle.ruling.proofs.Standing.{accepted-file}
 use Rattle.judged.specs.Shown.{shown_at}
 use Rattle.judged.specs.Judged.{Judged}
-use Rattle.judging.specs.Judging.{Arrays, judged_by, judged_for}
-use Rattle.judging.proofs.Sheets.{AcceptedSheet, accepted-sheet, refused-sheet, sheet-arrays, sheet-judged, sheet-few}
+use Rattle.judging.specs.Judging.{judged_by, judged_for}
+use Rattle.judging.proofs.Sheets.{AcceptedSheet, accepted-sheet, sheet-judged, sheet-few}
 use Rattle.rows.specs.Rows.{row_size, rows_over}
 use Rattle.kept.specs.Answer.{Answer, answer_by, tally_by, kept_by, answer_of, rows_after, tally_of, kept_of}
-use Rattle.kept.specs.declared.Counts.{Counts}
 use Rattle.kept.specs.declared.Kept.{Kept}
 
 -- what is kept of n points with these findings
@@ -42,9 +39,6 @@ module _ (file rows : List ℕ) (bytes : Bytes file) (r : Sheet) (h : Ruled (rul
   abbrev o : AcceptedSheet file (length rows) r
   o = accepted-sheet file (length rows) r h
 
-  pub arrays : Arrays r.count r.table.keys r.table.x r.table.y r.table.strength
-  arrays = sheet-arrays file (length rows) r bytes o
-
   pub fit : (r.count ≤ max_points) × (row_size * r.count ≤ length rows)
   fit = (sheet-few file (length rows) r bytes o, rw o.sheet.count-is (rows_fit file (length rows) o.settings o.points o.ruled))
 
@@ -57,11 +51,6 @@ module _ (file rows : List ℕ) (bytes : Bytes file) (r : Sheet) (h : Ruled (rul
         ap (λ (n : ℕ). Ok (kept_with n j)) o.sheet.count-is ∙ ap (λ (x : Judged). Ok (kept_with (length o.points) x)) q,
         f ∙ ap (λ (n : ℕ). rows_over n (shown_at j) rows) o.sheet.count-is ∙ ap (λ (x : Judged). rows_over (length o.points) (shown_at x) rows) q,
       )
-
--- a refusal
-pub turned : (file rows : List ℕ) (d : Refusal) → Ruled (ruling_of file (length rows)) (Err d) → (Err (refusal_number d) ≡ kept_of file (length rows)) × (rows ≡ rows_after file rows)
-unfolding kept_of rows_after
-turned file rows d h = rw (refused-sheet file (length rows) d h) (refl, refl)
 
 -- ---- what is kept, and the answer and the tally
 

@@ -14,7 +14,7 @@ use refusals::Refusal;
 use ruling::Sheet;
 use view::MAX_POINTS;
 
-#[derive(Clone, Copy)]
+#[derive(Clone, Copy, PartialEq, Eq)]
 pub struct Counts {
     pub points: usize,
     pub components: usize,

@@ -8,15 +8,14 @@ use Prim.Native.Nat.{ℕ}
 use lib.ListN.{length}
 use Rattle.std.proofs.Common.{Ok, Err}
 use Rattle.refusals.proofs.Number.{err-no-ok}
-use Rattle.ruling.specs.Ruling.{Ruling, refused, accepted, ruling_of}
 use Rattle.runs.specs.Run.{full, with_sheet, run_with}
 use Rattle.runs.specs.declared.Run.{Run}
 use Rattle.runs.proofs.Theorems.{after-sheet}
 use Rattle.judging.specs.Judging.{judged_for}
-use Rattle.kept.specs.Answer.{answer_by, tally_by, rows_by, answer_of, rows_after, tally_of}
+use Rattle.kept.specs.Answer.{tally_by, rows_by, answer_of, rows_after, tally_of}
 use Rattle.kept.specs.declared.Counts.{Counts}
 use Rattle.ruling.proofs.Given.{sheet-number}
-use Rattle.kept.proofs.Bounds.{refusal-listed}
+use Rattle.kept.proofs.Bounds.{refused-ruling, accepted-ruling, refusal-listed}
 use Rattle.kept_in_run.specs.InRun.{answer_in_run, run_after, rows_in_run}
 
 module _ (r : Run) (file : List ℕ) where
@@ -39,28 +38,16 @@ never-eleven file room e = (sheet-number 11 (refusal-listed file room e)).not-ru
 module _ (file : List ℕ) (room : ℕ) where
   -- a refused sheet has no tally, an accepted one has one
   refused-tally : {k : ℕ} → answer_of file room ≡ Err k → tally_of file room ≡ none
-  unfolding answer_of tally_of
-  refused-tally {k} e = go (ruling_of file room) e
-    where
-      go : (x : Ruling) → answer_by x ≡ Err k → tally_by x ≡ none
-      go (refused j) e = refl
-      go (accepted s ps) e = absurd (err-no-ok (sym e))
+  unfolding tally_of
+  refused-tally e = ap tally_by (refused-ruling file room e)
 
   pub accepted-tally : {c : Counts} → answer_of file room ≡ Ok c → (t : List ℕ) × (tally_of file room ≡ some t)
-  unfolding answer_of tally_of
-  accepted-tally {c} e = go (ruling_of file room) e
-    where
-      go : (x : Ruling) → answer_by x ≡ Ok c → (t : List ℕ) × (tally_by x ≡ some t)
-      go (refused j) e = absurd (err-no-ok e)
-      go (accepted s ps) e = ((judged_for s ps).tally, refl)
+  unfolding tally_of
+  accepted-tally e = let m = accepted-ruling file room e in ((judged_for m.settings m.points).tally, ap tally_by m.ruled)
 
 refused-buffer : (file buffer : List ℕ) {k : ℕ} → answer_of file (length buffer) ≡ Err k → rows_after file buffer ≡ buffer
-unfolding answer_of rows_after
-refused-buffer file buffer {k} e = go (ruling_of file (length buffer)) e
-  where
-    go : (x : Ruling) → answer_by x ≡ Err k → rows_by buffer x ≡ buffer
-    go (refused j) e = refl
-    go (accepted s ps) e = absurd (err-no-ok (sym e))
+unfolding rows_after
+refused-buffer file buffer e = ap (rows_by buffer) (refused-ruling file (length buffer) e)
 
 module _ (r : Run) (file buffer : List ℕ) where
   abbrev room : ℕ

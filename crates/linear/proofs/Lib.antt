@@ -1,2 +1,3 @@
 pub mod Pivot
 pub mod Worked
+pub mod Turns

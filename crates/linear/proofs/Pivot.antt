@@ -11,7 +11,7 @@ use lib.Ieee.{Float, lt, le}
 use borrow.Author.Tests.{lt-ltb, le-ltb}
 use Rattle.std.proofs.Common.{Some, None}
 use Rattle.folds.specs.Below.{first, first_in}
-use Rattle.folds.proofs.Below.{first_more, first-from}
+use Rattle.folds.proofs.Below.{first_more, first-from, first-end}
 use Rattle.folds.specs.Run.{run, up_to}
 use Rattle.folds.proofs.Run.{run-keeps}
 use Rattle.float.specs.Scalar.{abs_of, magnitude_of}
@@ -78,6 +78,10 @@ module _ (m : List (List Float)) (i best : ℕ) where
       go : (n : ℕ) (t : Bool) → best + 1 ≤ n → cond t (Some n) None ≡ Some k → best < k
       go n true l q = let z : n ≡ k = cc in omega arith
       go n false l q = cc
+
+pub ruleset searching = (search-goes-on, search-ends, next-after)
+
+pub ruleset passing = (next-found, next-passed, first-end, lt-ltb, le-ltb)
 
 -- ---- the search
 

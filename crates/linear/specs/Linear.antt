@@ -10,6 +10,7 @@ use Rattle.folds.specs.Below.{some, first}
 use Rattle.float.specs.Constants.{one}
 use Rattle.float.specs.Scalar.{abs_of}
 use Rattle.linear.specs.Rows.{entry_at, matrix_row, entry, with_entry}
+use Rattle.linear.specs.declared.System.{System}
 
 -- ---- "pivot of largest magnitude, first of equals"
 
@@ -34,10 +35,6 @@ unfoldable pub pivot_row : List (List Float) → ℕ → ℕ
 pivot_row m i = run (better_row m i) (i + 1) 8 i
 
 -- ---- elimination: below the diagonal the multipliers take the place of the zeros
-
-pub record System : Type 0 where
-  pub rows : List (List Float)
-  pub right : List Float
 
 -- rows i and k exchanged, and entries i and k of the right side
 abbrev pub swap_rows : List (List Float) → ℕ → ℕ → List (List Float)

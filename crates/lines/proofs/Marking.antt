@@ -1,4 +1,5 @@
 -- The marks that one line sets, those of all lines together, and the counts of an index from the marks of its ranks. Assumes nothing.
+use Rattle.std.specs.List.{fold as over}
 use mathlib.Core.Path.{◌≡◌, refl, sym, ap, ◌∙◌}
 use mathlib.Core.Bool.{Bool, true, false, cond, ◌&&◌}
 use mathlib.Core.List.{List, [], ◌∷◌}
@@ -11,8 +12,8 @@ use lib.Dec.{eqb, ltb, leb}
 use lib.ListN.{length, get_or, set, replicate, length-replicate, get_or-eq_default}
 use Rattle.folds.specs.Below.{fold, some, tally}
 use Rattle.folds.proofs.Below.{some_one, some-no, some-ext, tally-ext}
-use Rattle.folds.specs.Lists.{over, gather}
-use Rattle.folds.proofs.Lists.{over_none, over-listed}
+use Rattle.folds.specs.Lists.{gather}
+use Rattle.folds.proofs.Lists.{over-listed}
 use Rattle.std.proofs.lemmas.List.{take_all}
 use Rattle.folds.specs.Marked.{bit, Marked}
 use Rattle.folds.proofs.Marked.{marked-none, marked-one, marked-as, marked-then, marked_more, marked-column, bit_is}
@@ -29,12 +30,10 @@ use Rattle.std.proofs.Math.Bool.{and-false, and-true}
 
 -- two tests that agree set the same marks
 over-ext : (f g : ℕ → Bool) (a l : List ℕ) → ((k : ℕ) → f k ≡ g k) → over (mark_if f) a l ≡ over (mark_if g) a l
-unfolding over
 over-ext f g a [] h = refl
 over-ext f g a (k ∷ l) h = rw (h k) (over-ext f g (mark_if g a k) l h)
 
 over-same : (a l : List ℕ) → over (mark_if (λ k. false)) a l ≡ a
-unfolding over
 over-same a [] = refl
 over-same a (k ∷ l) = over-same a l
 
@@ -43,8 +42,9 @@ unfolding flagged_by
 flagged-is rule minimum l k = refl
 
 -- a line with no members marks none
-pub no-members : (step : List ℕ → ℕ → List ℕ) (a l : List ℕ) → length l ≡ 0 → a ≡ over step a l
-no-members step a l h = sym (over_none step a l) ∙ ap (over step a) (take_all 0 l (omega arith))
+pub no-members : (rule : LineRule) (minimum : ℕ) (a l : List ℕ) → length l ≡ 0 → a ≡ over (mark_if (flagged_by rule minimum l)) a l
+no-members rule minimum a [] h = refl
+no-members rule minimum a (k ∷ l) h = absurd (omega arith)
 
 -- nor does one with too few
 pub short-line : (rule : LineRule) (minimum : ℕ) (a l : List ℕ) → length l < minimum → a ≡ over (mark_if (flagged_by rule minimum l)) a l

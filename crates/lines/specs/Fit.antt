@@ -1,29 +1,25 @@
 -- The line fitted to some points by total least squares, and the distance of a point from it: the formulas of `flag_line` in lines.rs,
 -- with its operations in its order. The points are given by their ranks; x and y are functions of rank. Assumes nothing.
-use Rattle.std.specs.Prelude.{cond, List, ℕ, pos, length, get_or, Float}
-use Rattle.std.specs.Float.{nan, binary32}
+use Rattle.std.specs.List.{fold}
+use Rattle.std.specs.Prelude.{cond, List, ℕ, pos, length, Float}
+use Rattle.std.specs.Float.{binary32}
 use Rattle.std.specs.Float.Ieee.{of_bits, of_int, add, sub, mul, div, neg, lt, le}
 use Rattle.float.specs.Constants.{zero, quarter, half, one, epsilon}
 use Rattle.float.specs.Root.{root_of}
 use Rattle.float.specs.Scalar.{abs_of, max_of, norm_of}
 use Rattle.folds.specs.Arith.{◌⊕◌, ◌⊖◌, ◌⊗◌, ◌⊘◌}
-use Rattle.folds.specs.Lists.{over}
 use Rattle.lines.specs.declared.Line.{Line}
 use Rattle.lines.specs.declared.Vector.{Vector}
 
--- what an array holds at each rank
-abbrev pub value_at : List Float → ℕ → Float
-value_at l k = get_or l k nan
-
 -- the sum of f j over the ranks j of l, in their order, divided by how many they are
 unfoldable pub mean_over : (ℕ → Float) → List ℕ → Float
-unfolding over add div of_int of_bits
-mean_over f l = over (λ (s : Float) (j : ℕ). s ⊕ f j) zero l ⊘ of_int binary32 (pos (length l))
+unfolding add div of_int of_bits
+mean_over f l = fold (λ (s : Float) (j : ℕ). s ⊕ f j) zero l ⊘ of_int binary32 (pos (length l))
 
 -- the sum of (f j - a) * (g j - b) over the ranks j of l, in their order
 unfoldable pub moment_of : (ℕ → Float) → Float → (ℕ → Float) → Float → List ℕ → Float
-unfolding over add sub mul of_bits
-moment_of f a g b l = over (λ (s : Float) (j : ℕ). s ⊕ (f j ⊖ a) ⊗ (g j ⊖ b)) zero l
+unfolding add sub mul of_bits
+moment_of f a g b l = fold (λ (s : Float) (j : ℕ). s ⊕ (f j ⊖ a) ⊗ (g j ⊖ b)) zero l
 
 -- the larger eigenvalue of the matrix of the moments
 unfoldable pub larger_eigenvalue : Float → Float → Float → Float

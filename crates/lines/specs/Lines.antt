@@ -1,9 +1,8 @@
 -- What the functions ask for and keep on the way. Assumes nothing.
 use Rattle.std.specs.Prelude.{◌≡◌, Bool, cond, List, ℕ, ◌+◌, ◌≤◌, ◌<◌, Option, None, length, get_or, set}
 use Rattle.folds.specs.Below.{first}
-use Rattle.view.specs.View.{max_points}
+use Rattle.view.specs.View.{max_points, value_at}
 use Rattle.view.specs.Seen.{below}
-use Rattle.lines.specs.Fit.{value_at}
 use Rattle.lines.specs.Flags.{LineRule, is_on}
 use Rattle.lines.specs.declared.Rule.{Rule}
 

@@ -1,15 +1,16 @@
 // Rows and columns of points: the line fitted to each, and the points that lie off it.
 #![tactic(auto)]
 
+ghost use Rattle.std.specs.List.{fold};
 ghost use Rattle.std.specs.Prelude.{◌≡◌, ℕ, ◌≤◌, ◌<◌, length, get_or};
-ghost use Rattle.folds.specs.Lists.{gather, over};
+ghost use Rattle.folds.specs.Lists.{gather};
 ghost use Rattle.folds.specs.Marked.{bit};
 ghost use Rattle.folds.specs.Column.{column as column_of};
 ghost use Rattle.folds.specs.Scattered.{Scattered, one_more};
-ghost use Rattle.view.specs.View.{max_points};
+ghost use Rattle.view.specs.View.{max_points, value_at};
 ghost use Rattle.view.specs.Seen.{view_in};
 ghost use Rattle.marks.specs.Marks.{is_set};
-ghost use Rattle.lines.specs.Fit.{value_at, larger_eigenvalue, direction_of, line_through, centre_of, line_around, fit_of, distance_of};
+ghost use Rattle.lines.specs.Fit.{larger_eigenvalue, direction_of, line_through, centre_of, line_around, fit_of, distance_of};
 ghost use Rattle.lines.specs.Flags.{is_far, flagged_by, is_on, is_flagged, flags_at};
 ghost use Rattle.lines.specs.Lines.{rule_in, Members, Numbered, Chained, mark_if};
 
@@ -46,6 +47,7 @@ struct Chain {
     nexts: [Option<u16>; MAX_POINTS],
 }
 
+#[tactic(auto, unfolding(crate::specs::Fit::larger_eigenvalue))]
 fn larger_eigenvalue(sxx: f32, sxy: f32, syy: f32) -> f32
     ensures { result ≡ larger_eigenvalue sxx sxy syy }
 {
@@ -56,10 +58,11 @@ fn larger_eigenvalue(sxx: f32, sxy: f32, syy: f32) -> f32
 }
 
 // The direction of the largest spread.
+#[tactic(auto, unfolding(crate::specs::Fit::direction_of))]
 fn direction(sxx: f32, sxy: f32, syy: f32) -> Vector
     ensures { result ≡ direction_of sxx sxy syy }
 {
-    if float::abs(sxy) > float::constants::EPSILON {
+    if float::abs(sxy) > f32::EPSILON {
         let y = larger_eigenvalue(sxx, sxy, syy) - sxx;
         return Vector { x: sxy, y: y };
     }
@@ -70,10 +73,11 @@ fn direction(sxx: f32, sxy: f32, syy: f32) -> Vector
 }
 
 // The line through c in the direction of v.
+#[tactic(auto, unfolding(crate::specs::Fit::line_through))]
 fn line_through(c: Vector, v: Vector) -> Line
     ensures { result ≡ line_through c v }
 {
-    let length = float::max(float::norm(v.x, v.y).value, float::constants::EPSILON);
+    let length = float::max(float::norm(v.x, v.y).value, f32::EPSILON);
     Line {
         cx: c.x,
         cy: c.y,
@@ -83,6 +87,7 @@ fn line_through(c: Vector, v: Vector) -> Line
 }
 
 // The distance of (x, y) from a line takes no root, so that it has no remainder.
+#[tactic(auto, unfolding(crate::specs::Fit::distance_of))]
 fn distance(line: Line, x: f32, y: f32) -> f32
     ensures { result ≡ distance_of line x y }
 {
@@ -93,6 +98,7 @@ fn distance(line: Line, x: f32, y: f32) -> f32
 
 impl Rule<'_> {
     // The centre of the points with these ranks.
+    #[tactic(auto, using(crate::proofs::Sums::sums), unfolding(crate::specs::Fit::mean_over))]
     fn centre(&self, members: &[u16]) -> Vector
         requires { Members members.now }
         ensures { result ≡ centre_of (value_at self.now.seen.x.now) (value_at self.now.seen.y.now) members.now }
@@ -112,6 +118,7 @@ impl Rule<'_> {
     }
 
     // The line through v fitted to the points with these ranks.
+    #[tactic(auto, using(crate::proofs::Sums::sums), unfolding(crate::specs::Fit::line_around, crate::specs::Fit::moment_of))]
     fn line_around(&self, v: Vector, members: &[u16]) -> Line
         requires { Members members.now }
         ensures { result ≡ line_around (value_at self.now.seen.x.now) (value_at self.now.seen.y.now) v members.now }
@@ -131,6 +138,7 @@ impl Rule<'_> {
     }
 
     // The line fitted to the points with these ranks.
+    #[tactic(auto, unfolding(crate::specs::Fit::fit_of))]
     fn fit(&self, members: &[u16]) -> Line
         requires { Members members.now }
         ensures { result ≡ fit_of (value_at self.now.seen.x.now) (value_at self.now.seen.y.now) members.now }
@@ -139,6 +147,7 @@ impl Rule<'_> {
     }
 
     // Whether rank j is too far from a line.
+    #[tactic(auto, unfolding(crate::specs::Flags::is_far))]
     fn is_far(&self, line: Line, j: usize) -> bool
         requires { j < max_points }
         ensures { result ≡ is_far (rule_in self.now) line j }
@@ -149,7 +158,7 @@ impl Rule<'_> {
     // Sets the marks of those members of a line that it flags.
     fn mark_flagged(&self, members: &[u16], out: &mut Marks)
         requires { Members members.now }
-        ensures { out.new ≡ over (mark_if (flagged_by (rule_in self.now) self.now.minimum members.now)) out.old members.now }
+        ensures { out.new ≡ fold (mark_if (flagged_by (rule_in self.now) self.now.minimum members.now)) out.old members.now }
     {
         if members.is_empty() || members.len() < usize::from(self.minimum) {
             return;

@@ -43,10 +43,6 @@ nothing : {A : Type 0} (b : Bool) (x : A) → None ≡ cond b (Some x) None → 
 nothing true x e = absurd (none-some x e)
 nothing false x e = refl
 
--- the place that was asked about
-pub asked : (w : View) (k p : ℕ) {f : Place} → Some f ≡ other_at w k p → p ≡ f.place
-asked w k p {f} e = ap (λ (f : Place). f.place) (cond_some (is_other w k p) (place_at w k p) f (sym e)).1
-
 module _ (w : View) (k : ℕ) (serves : Offset → Bool) where
   abbrev q : ℕ → Bool
   q p = serves (offset_at p) && is_other w k p
@@ -176,9 +172,10 @@ module _ (w : View) (k : ℕ) {l : List (Option Place)} (e : l ≡ found_base w 
   abbrev p : FourPlaces
   p = places_of w k
 
-  read : (get_or l 0 None ≡ found_at w k p.a) × (get_or l 1 None ≡ found_at w k p.b) × (get_or l 2 None ≡ found_at w k p.c) × (get_or l 3 None ≡ found_at w k p.d)
+  -- whatever would be read past the last
+  read : (x : Option Place) → (get_or l 0 x ≡ found_at w k p.a) × (get_or l 1 x ≡ found_at w k p.b) × (get_or l 2 x ≡ found_at w k p.c) × (get_or l 3 x ≡ found_at w k p.d)
   unfolding found_base
-  read = (rw e, rw e, rw e, rw e)
+  read x = (rw e, rw e, rw e, rw e)
 
   there : (i : ℕ) {r : Option Place} {f : Place} → r ≡ found_at w k i → r ≡ Some f → (i < 24) × (f.rank ≡ member_at w k i)
   there i {r} {f} h t =
@@ -188,30 +185,30 @@ module _ (w : View) (k : ℕ) {l : List (Option Place)} (e : l ≡ found_base w 
   absent : (i : ℕ) {r : Option Place} → r ≡ found_at w k i → r ≡ None → 24 ≤ i
   absent i h t = ltb-false i 24 (nothing (ltb i 24) _ (sym t ∙ h))
 
-  pub four-found : {a b c d : Place} → get_or l 0 None ≡ Some a → get_or l 1 None ≡ Some b → get_or l 2 None ≡ Some c → get_or l 3 None ≡ Some d → FourFound w k a b c d
-  four-found ta tb tc td =
-      record { has = (there p.d read.3 td).0; one = (there p.a read.0 ta).1; two = (there p.b read.1 tb).1; three = (there p.c read.2 tc).1; four = (there p.d read.3 td).1 }
+  pub four-found : (x y z u : Option Place) {a b c d : Place} → get_or l 0 x ≡ Some a → get_or l 1 y ≡ Some b → get_or l 2 z ≡ Some c → get_or l 3 u ≡ Some d → FourFound w k a b c d
+  four-found x y z u ta tb tc td =
+      record { has = (there p.d (read u).3 td).0; one = (there p.a (read x).0 ta).1; two = (there p.b (read y).1 tb).1; three = (there p.c (read z).2 tc).1; four = (there p.d (read u).3 td).1 }
 
   -- where one is missing, so is the fourth
   rising : (p.a < p.b) × (p.b < p.c) × (p.c < p.d)
   unfolding places_of
   rising = (omega (arith, first-from (is_other w k) (p.a + 1) 24), omega (arith, first-from (is_other w k) (p.b + 1) 24), omega (arith, first-from (is_fourth w k p.a p.b p.c) (p.c + 1) 24))
 
-  pub no-first : get_or l 0 None ≡ None → 24 ≤ p.d
-  no-first t = omega (arith, absent p.a read.0 t, rising)
+  pub no-first : (x : Option Place) → get_or l 0 x ≡ None → 24 ≤ p.d
+  no-first x t = omega (arith, absent p.a (read x).0 t, rising)
 
-  pub no-second : get_or l 1 None ≡ None → 24 ≤ p.d
-  no-second t = omega (arith, absent p.b read.1 t, rising)
+  pub no-second : (x : Option Place) → get_or l 1 x ≡ None → 24 ≤ p.d
+  no-second x t = omega (arith, absent p.b (read x).1 t, rising)
 
-  pub no-third : get_or l 2 None ≡ None → 24 ≤ p.d
-  no-third t = omega (arith, absent p.c read.2 t, rising)
+  pub no-third : (x : Option Place) → get_or l 2 x ≡ None → 24 ≤ p.d
+  no-third x t = omega (arith, absent p.c (read x).2 t, rising)
 
-  pub no-fourth : get_or l 3 None ≡ None → 24 ≤ p.d
-  no-fourth t = absent p.d read.3 t
+  pub no-fourth : (x : Option Place) → get_or l 3 x ≡ None → 24 ≤ p.d
+  no-fourth x t = absent p.d (read x).3 t
 
   -- the places of the members
-  pub places-in : place_in (get_or l 0 None) ∷ place_in (get_or l 1 None) ∷ place_in (get_or l 2 None) ∷ place_in (get_or l 3 None) ∷ [] ≡ base_of w k
-  places-in = rw (read.0, read.1, read.2, read.3, own p.a, own p.b, own p.c, own p.d)
+  pub places-in : (x y z u : Option Place) → place_in (get_or l 0 x) ∷ place_in (get_or l 1 y) ∷ place_in (get_or l 2 z) ∷ place_in (get_or l 3 u) ∷ [] ≡ base_of w k
+  places-in x y z u = rw ((read x).0, (read y).1, (read z).2, (read u).3, own p.a, own p.b, own p.c, own p.d)
     where
       own : (i : ℕ) → place_in (found_at w k i) ≡ below 24 i
       own i = elim (ltb i 24) as (λ b. place_in (cond b (Some (place_at w k i)) None) ≡ cond b (Some i) None) [ true ↦ refl | false ↦ refl ]
@@ -232,11 +229,11 @@ members-ranked w k {a} {b} {c} {d} f few i h = go i h
     go (suc (suc (suc zero))) h = omega (arith, f.four, other-rank w k (places_of w k).d o.four)
     go (suc (suc (suc (suc i)))) h = absurd (omega arith)
 
-module _ (n : ℕ) (ranks : List ℕ) (xs ys : List Float) (cell : ℕ → Cell) (k : ℕ) where
-  pub fitted : {a b c d : Place} → FourFound (view_at n ranks xs ys) k a b c d → residual_from (view_at 0 [] xs ys) cell k a.rank b.rank c.rank d.rank ≡ residual_at (view_at n ranks xs ys) cell k
+module _ (w : View) (cell : ℕ → Cell) (k : ℕ) where
+  pub fitted : {a b c d : Place} → FourFound w k a b c d → residual_from w cell k a.rank b.rank c.rank d.rank ≡ residual_at w cell k
   unfolding residual_at residual_from
   fitted f = rw (lt-ltb _ 24 f.has, ← f.one, ← f.two, ← f.three, ← f.four)
 
-  pub unfitted : 24 ≤ (places_of (view_at n ranks xs ys) k).d → None ≡ residual_at (view_at n ranks xs ys) cell k
+  pub unfitted : 24 ≤ (places_of w k).d → None ≡ residual_at w cell k
   unfolding residual_at
   unfitted h = rw (le-ltb _ 24 h)

@@ -1,6 +1,5 @@
 pub mod Ordered
 pub mod Steps
-pub mod Coordinate
 pub mod Bases
 pub mod Fewer
 pub mod NoFit

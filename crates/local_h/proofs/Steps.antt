@@ -1,7 +1,7 @@
 -- Steps between offsets within 2, as numbers of 8 bits. Assumes nothing.
 use mathlib.Core.Path.{◌≡◌, sym, ap, ◌∙◌}
 use mathlib.Core.Bool.{true}
-use Prim.Native.Nat.{ℕ, zero, suc, ◌*◌, ◌≤◌}
+use Prim.Native.Nat.{ℕ, zero, suc, ◌*◌, ◌≤◌, ◌<◌}
 use native.Mathlib.Nat.{mul-le-mul}
 use native.Mathlib.Omega.{arith}
 use lib.Dec.{eqb}
@@ -12,12 +12,10 @@ use mir.Val.{to_z, of_z, SFits}
 use mir.ValLaws.{to_z-of_z}
 use borrow.Author.Rules.{sfits_of}
 use borrow.Author.Tests.{eqb-true, eq-eqb}
-use Rattle.offsets.specs.declared.Offset.{Offset}
-use Rattle.offsets.specs.Offsets.{−2, −1, ±0, +1, +2, is_within2, is_near}
-use Rattle.offsets.proofs.Places.{each-within-2, within-u, within-v}
+use Rattle.offsets.specs.Offsets.{−2, −1, ±0, +1, +2, is_within2}
+use Rattle.offsets.proofs.Places.{each-within-2}
 use Rattle.cells.specs.Cell.{agree}
 use Rattle.cells.proofs.Edges.{agree_same, agree-true}
-use Rattle.local_h.specs.Base.{step_product}
 use Rattle.std.specs.Cmp.{both_ways}
 
 -- a difference is at most 4
@@ -56,13 +54,9 @@ product_small (negsuc m) (negsuc n) h l = mul-le-mul {n₂ = 4} {m₂ = 4} h l
 pub product-fits : (x y : ℤ) → nat_abs x ≤ 4 → nat_abs y ≤ 4 → SFits w8 (x *ℤ y)
 product-fits x y h l = sfits_of (omega (arith, product_small x y h l))
 
-pub step_fits : (a b c : Offset) → is_near a ≡ true → is_near b ≡ true → is_near c ≡ true → SFits w8 (step_product a b c)
-step_fits a b c ha hb hc =
-    product-fits (b.du -ℤ a.du) (c.dv -ℤ a.dv) (difference-small b.du a.du (within-u b hb) (within-u a ha)) (difference-small c.dv a.dv (within-v c hc) (within-v a ha))
-
--- numbers that fit agree just where their bits do
-pub agree-bits : (x y : ℤ) → SFits w8 x → SFits w8 y → eqb (of_z w8 x) (of_z w8 y) ≡ agree x y
-agree-bits x y f g =
+-- numbers of 8 bits agree just where their bits do
+pub agree_bits : (x y : ℤ) → mag x < 128 → mag y < 128 → eqb (of_z w8 x) (of_z w8 y) ≡ agree x y
+agree_bits x y f g =
     both_ways (eqb (of_z w8 x) (of_z w8 y)) (agree x y)
-    (λ e. agree_same x y (sym (to_z-of_z w8 x f) ∙ ap (to_z w8) (eqb-true (of_z w8 x) (of_z w8 y) e) ∙ to_z-of_z w8 y g))
+    (λ e. agree_same x y (sym (to_z-of_z w8 x (sfits_of f)) ∙ ap (to_z w8) (eqb-true (of_z w8 x) (of_z w8 y) e) ∙ to_z-of_z w8 y (sfits_of g)))
     (λ e. eq-eqb (of_z w8 x) (of_z w8 y) (ap (of_z w8) (agree-true x y e)))

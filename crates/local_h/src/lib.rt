@@ -1,11 +1,11 @@
 // The residual of each corner: how far the map fitted to its nearest neighbours takes its cell from where it is seen.
 #![tactic(auto)]
 
-ghost use Rattle.std.specs.Prelude.{◌≡◌, Bool, true, List, ℕ, [], ◌+◌, ◌*◌, ◌≤◌, ◌<◌, get_or, Float, pos, nat_abs, ◌-ℤ◌, IfSome};
+ghost use Rattle.std.specs.Prelude.{◌≡◌, Bool, true, ℕ, [], ◌+◌, ◌*◌, ◌≤◌, ◌<◌, get_or, pos, nat_abs, ◌-ℤ◌, IfSome};
 ghost use Rattle.offsets.specs.declared.Offset.{Offset};
-ghost use Rattle.offsets.specs.Offsets.{is_within2, is_near, place_of};
-ghost use Rattle.view.specs.View.{max_points, view_at};
-ghost use Rattle.view.specs.Seen.{lattice_in, seen_in, below};
+ghost use Rattle.offsets.specs.Offsets.{is_within2, place_of};
+ghost use Rattle.view.specs.View.{max_points};
+ghost use Rattle.view.specs.Seen.{lattice_in, seen_in, below, WhereverSeen};
 ghost use Rattle.cells.specs.Points.{bias};
 ghost use Rattle.cells.specs.Cell.{cell_of_key, cells_at};
 ghost use Rattle.local_h.specs.Order.{offset_at};
@@ -16,7 +16,7 @@ ghost use Rattle.local_h.specs.Residual.{coordinate, cell_point, seen_at, residu
 use float::Distance;
 use homography::{Homography, PlanePoint};
 use offsets::Offset;
-use view::{Lattice, MAX_POINTS, Positions, Ranks, Words};
+use view::{Lattice, MAX_POINTS, Ranks, SeenLattice, Words};
 
 // The base of a corner: its members' places in the order of the 24 cells round it. Where one is missing, so are those after it.
 pub type Base = [Option<usize>; 4];
@@ -35,11 +35,11 @@ pub type Residual = Option<Distance>;
 // An entry for each point.
 pub type ResidualColumn = [Residual; MAX_POINTS];
 
-// The keys of the cells, and where the points are seen.
+// The keys of the cells, and the points that are seen there.
 #[derive(Clone, Copy)]
 pub struct Seen<'a> {
     pub keys: &'a Words,
-    pub positions: Positions<'a>,
+    pub points: SeenLattice<'a>,
 }
 
 // The 24 offsets within 2, nearest first, then by smaller dv, then by smaller du.
@@ -73,7 +73,7 @@ const NEAREST_FIRST: [Offset; 24] = [
 // The offset at place p of the order.
 fn offset_at(p: usize) -> Offset
     requires { p < 24 }
-    ensures { (result ≡ offset_at p) × (is_near result ≡ true) }
+    ensures { result ≡ offset_at p }
 {
     NEAREST_FIRST[p]
 }
@@ -83,7 +83,7 @@ pub fn member(ranks: &Ranks, k: usize, p: usize) -> usize
     requires { (k < max_points) × (p < 24) }
     ensures { result ≡ get_or ranks.now (25 * k + place_of (offset_at p)) 0 }
 {
-    usize::from(ranks[25 * k + offsets::place(offset_at(p))])
+    view::rank_at(ranks, k, offset_at(p))
 }
 
 // The rank at place p of the order round rank k, if there is a point.
@@ -99,8 +99,7 @@ pub fn present_member(lattice: &Lattice, k: usize, p: usize) -> Option<usize>
 #[inline(always)]
 fn other(lattice: &Lattice, k: usize, p: usize) -> Option<Found>
     requires { (k < lattice.now.count) × (p < 24) }
-    ensures value { result ≡ other_at (lattice_in lattice.now) k p }
-    ensures within { IfSome result (λ f. is_near f.offset ≡ true) }
+    ensures { result ≡ other_at (lattice_in lattice.now) k p }
 {
     let offset = offset_at(p);
     let rank = lattice.neighbour(k, offset)?;
@@ -124,15 +123,14 @@ fn difference(x: i8, y: i8) -> i8
 
 // The step from a to b along u times that from a to c along v.
 fn product(a: Offset, b: Offset, c: Offset) -> i8
-    requires { (is_near a ≡ true) × (is_near b ≡ true) × (is_near c ≡ true) }
     ensures { result ≡ step_product a b c }
 {
     difference(b.du, a.du) * difference(c.dv, a.dv)
 }
 
 // Whether three offsets are on one lattice line.
+#[tactic(auto, using(crate::proofs::Steps::agree_bits), unfolding(crate::specs::Base::on_line))]
 fn on_line(a: Offset, b: Offset, c: Offset) -> bool
-    requires { (is_near a ≡ true) × (is_near b ≡ true) × (is_near c ≡ true) }
     ensures { result ≡ on_line a b c }
 {
     product(a, b, c) == product(a, c, b)
@@ -146,9 +144,9 @@ fn next_place<F: Fn(Offset) -> bool>(
     serves: F,
 ) -> Option<Found>
     requires inside { k < lattice.now.count }
-    requires callable { (o : Offset) → is_near o ≡ true → F.pre serves o }
-    ensures value { (g : Offset → Bool) → ((o : Offset) (r : Bool) → is_near o ≡ true → F.post serves o r → r ≡ g o) → result ≡ found_from (lattice_in lattice.now) k g start }
-    ensures within { IfSome result (λ f. (f.place < 24) × (is_near f.offset ≡ true)) }
+    requires callable { (o : Offset) → F.pre serves o }
+    ensures value { (g : Offset → Bool) → ((o : Offset) (r : Bool) → F.post serves o r → r ≡ g o) → result ≡ found_from (lattice_in lattice.now) k g start }
+    ensures within { IfSome result (λ f. f.place < 24) }
 {
     for p in start..24 {
         if let Some(f) = other(lattice, k, p) {
@@ -164,7 +162,7 @@ fn next_place<F: Fn(Offset) -> bool>(
 // line."
 fn search_base(lattice: &Lattice, k: usize) -> [Option<Found>; 4]
     requires { k < lattice.now.count }
-    ensures { (xs ys : List Float) → result ≡ found_base (view_at lattice.now.count lattice.now.ranks.now xs ys) k }
+    ensures { WhereverSeen lattice.now (λ w. result ≡ found_base w k) }
 {
     let Some(a) = next_place(lattice, k, 0, |_| true) else {
         return [None; 4];
@@ -186,7 +184,7 @@ fn search_base(lattice: &Lattice, k: usize) -> [Option<Found>; 4]
 #[inline(always)]
 fn find_base(lattice: &Lattice, k: usize) -> [Option<Found>; 4]
     requires { k < lattice.now.count }
-    ensures { (xs ys : List Float) → result ≡ found_base (view_at lattice.now.count lattice.now.ranks.now xs ys) k }
+    ensures { WhereverSeen lattice.now (λ w. result ≡ found_base w k) }
 {
     let a = other(lattice, k, 0);
     let b = other(lattice, k, 1);
@@ -207,7 +205,7 @@ fn place(f: Option<Found>) -> Option<usize>
 // The base of rank k.
 pub fn pick_local_h_base(lattice: &Lattice, k: usize) -> Base
     requires { k < lattice.now.count }
-    ensures { (xs ys : List Float) → result ≡ base_of (view_at lattice.now.count lattice.now.ranks.now xs ys) k }
+    ensures { WhereverSeen lattice.now (λ w. result ≡ base_of w k) }
 {
     let [a, b, c, d] = find_base(lattice, k);
     [place(a), place(b), place(c), place(d)]
@@ -218,10 +216,7 @@ fn coordinate_of(b: u32) -> f32
     requires { b < 262144 }
     ensures { result ≡ coordinate (pos b -ℤ pos bias) }
 {
-    if b < cells::BIAS {
-        return -((cells::BIAS - b) as f32);
-    }
-    (b - cells::BIAS) as f32
+    (b as i32 - cells::BIAS as i32) as f32
 }
 
 // The cell with this key as a point.
@@ -246,11 +241,11 @@ impl Seen<'_> {
     // Where rank k is seen.
     fn point(&self, k: usize) -> PlanePoint
         requires { k < max_points }
-        ensures { result ≡ seen_at (view_at 0 [] self.now.positions.x.now self.now.positions.y.now) k }
+        ensures { result ≡ seen_at (seen_in self.now.points) k }
     {
         PlanePoint {
-            x: self.positions.x[k],
-            y: self.positions.y[k],
+            x: self.points.seen.x[k],
+            y: self.points.seen.y[k],
         }
     }
 }
@@ -269,7 +264,7 @@ fn residual_by(fit: Option<Homography>, p: PlanePoint, q: PlanePoint) -> Residua
 // The residual of rank k by the ranks of its base.
 fn residual_from(seen: &Seen, k: usize, base: [usize; 4]) -> Residual
     requires { (k < max_points) × ((i : ℕ) → i < 4 → get_or base i 0 < max_points) }
-    ensures { result ≡ residual_from (view_at 0 [] seen.now.positions.x.now seen.now.positions.y.now) (cells_at seen.now.keys.now) k (get_or base 0 0) (get_or base 1 0) (get_or base 2 0) (get_or base 3 0) }
+    ensures { result ≡ residual_from (seen_in seen.now.points) (cells_at seen.now.keys.now) k (get_or base 0 0) (get_or base 1 0) (get_or base 2 0) (get_or base 3 0) }
 {
     let [i, j, l, m] = base;
     let cells = [seen.cell(i), seen.cell(j), seen.cell(l), seen.cell(m)];
@@ -279,11 +274,11 @@ fn residual_from(seen: &Seen, k: usize, base: [usize; 4]) -> Residual
 }
 
 // The residual of rank k.
-pub fn local_h_residual(lattice: &Lattice, seen: &Seen, k: usize) -> Residual
-    requires { k < lattice.now.count }
-    ensures { result ≡ residual_at (seen_in lattice.now seen.now.positions) (cells_at seen.now.keys.now) k }
+pub fn local_h_residual(seen: &Seen, k: usize) -> Residual
+    requires { k < seen.now.points.lattice.count }
+    ensures { result ≡ residual_at (seen_in seen.now.points) (cells_at seen.now.keys.now) k }
 {
-    let [a, b, c, d] = find_base(lattice, k);
+    let [a, b, c, d] = find_base(&seen.points.lattice, k);
     let (Some(a), Some(b), Some(c), Some(d)) = (a, b, c, d) else {
         return None;
     };

@@ -1,11 +1,8 @@
 -- The map of the first keys of an array is that of as many points with the array's cells. Assumes nothing.
-use Rattle.std.proofs.Common.{◌≡◌, sym, ap, ◌∙◌, Bool, ◌||◌, List, ℕ, ◌≤◌, ◌<◌, ltb, length, take}
+use Rattle.std.proofs.Common.{◌≡◌, ap, ◌∙◌, List, ℕ, ◌≤◌, ◌<◌, length, take}
 use Rattle.std.proofs.lemmas.List.{get_or-take, length-take-le}
 use Rattle.cells.specs.Cell.{cell_of_key, cells_at}
-use Rattle.offsets.specs.declared.axis.Axis.TheVariants.{AlongU, AlongV}
-use Rattle.map_lines.specs.Map.{columns, most_lines, too_wide, map_of}
-use Rattle.map_lines.specs.Page.{Spans}
-use Rattle.map_lines.specs.declared.spans.Span.{Span}
+use Rattle.map_lines.specs.Map.{too_wide, map_of}
 use Rattle.map_lines.proofs.Moved.{wide-same, cells-same}
 
 module _ (n : ℕ) (keys : List ℕ) (inside : n ≤ length keys) where
@@ -17,11 +14,6 @@ module _ (n : ℕ) (keys : List ℕ) (inside : n ≤ length keys) where
 
   pub wide-kept : too_wide (length (take n keys)) (cells_at (take n keys)) ≡ too_wide n (cells_at keys)
   wide-kept = ap (λ (m : ℕ). too_wide m (cells_at (take n keys))) size ∙ wide-same n (cells_at keys) (cells_at (take n keys)) same
-
-  -- whether they are too wide for a page shows by what they span
-  pub wide-first : {u v : Span} → Spans AlongU (take n keys) (length (take n keys)) u → Spans AlongV (take n keys) (length (take n keys)) v
-      → too_wide n (cells_at keys) ≡ ltb columns u.count || ltb most_lines v.count
-  wide-first a b = sym wide-kept ∙ rw (a.count-is, b.count-is)
 
   pub map-first : (marks : List ℕ) → map_of (length (take n keys)) (cells_at (take n keys)) marks ≡ map_of n (cells_at keys) marks
   map-first marks = ap (λ (m : ℕ). map_of m (cells_at (take n keys)) marks) size ∙ cells-same n (cells_at keys) (cells_at (take n keys)) same marks

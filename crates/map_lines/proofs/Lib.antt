@@ -4,7 +4,6 @@ pub mod Drawing
 pub mod Extremes
 pub mod Characters
 pub mod Size
-pub mod Slices
 pub mod Moved
 pub mod First
 pub mod Places

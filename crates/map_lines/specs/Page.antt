@@ -1,8 +1,7 @@
--- For the code: what the keys of n cells span, and the page, columns times most_lines characters, line by line. Assumes nothing.
-use Rattle.std.specs.Prelude.{◌≡◌, List, [], ◌∷◌, ℕ, ◌+◌, ◌*◌, ◌/◌, ◌%◌, ◌^◌, ◌≤◌, ◌<◌, ℤ, pos, ◌-ℤ◌, length, get_or}
+-- For the code: what the keys of n cells span, and the page, most_lines lines of as many characters as there are columns. Assumes nothing.
+use Rattle.std.specs.Prelude.{◌≡◌, List, [], ◌∷◌, ℕ, ◌+◌, ◌/◌, ◌%◌, ◌^◌, ◌≤◌, ◌<◌, ℤ, pos, ◌-ℤ◌, length, get_or}
 use Rattle.cells.specs.Points.{bias, stride}
 use Rattle.cells.specs.Cell.{Cell, cells_at}
-use Rattle.text.specs.Text.{each}
 use Rattle.map_lines.specs.Map.{columns, most_lines, smallest, span, cell_from, cell_character}
 use Rattle.offsets.specs.declared.axis.Axis.{Axis}
 use Rattle.offsets.specs.declared.axis.Axis.TheVariants.{AlongU, AlongV}
@@ -29,12 +28,8 @@ pub record OnPage (keys : List ℕ) (n u v : ℕ) : Type 0 where
   pub in-columns : (k : ℕ) → k < n → (u ≤ get_or keys k 0 / stride) × (get_or keys k 0 / stride < u + columns)
   pub in_lines : (k : ℕ) → k < n → (v ≤ get_or keys k 0 % stride) × (get_or keys k 0 % stride < v + most_lines)
 
--- the characters of line i of a page
-unfoldable pub page_line : List ℕ → ℕ → List ℕ
-unfolding each
-page_line page i = each (λ j. get_or page (columns * i + j) 0 ∷ []) columns
-
 -- the page whose first cell is (u, v) shows n points
-pub record Drawn (n : ℕ) (cell : ℕ → Cell) (marks : List ℕ) (u v : ℤ) (page : List ℕ) : Type 0 where
-  pub long : length page ≡ columns * most_lines
-  pub shows : (i j : ℕ) → i < most_lines → j < columns → (get_or page (columns * i + j) 0 ∷ []) ≡ cell_character n cell marks (cell_from u v i j)
+pub record Drawn (n : ℕ) (cell : ℕ → Cell) (marks : List ℕ) (u v : ℤ) (page : List (List ℕ)) : Type 0 where
+  pub long : length page ≡ most_lines
+  pub wide : (i : ℕ) → i < most_lines → length (get_or page i []) ≡ columns
+  pub shows : (i j : ℕ) → i < most_lines → j < columns → (get_or (get_or page i []) j 0 ∷ []) ≡ cell_character n cell marks (cell_from u v i j)

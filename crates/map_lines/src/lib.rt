@@ -3,7 +3,7 @@
 
 pub mod spans;
 
-ghost use Rattle.std.specs.Prelude.{◌≡◌, false, ◌||◌, [], ◌∷◌, ℕ, ◌+◌, ◌^◌, ◌≤◌, ◌<◌, ltb, length, pos, ◌-ℤ◌};
+ghost use Rattle.std.specs.Prelude.{◌≡◌, false, [], ◌∷◌, ℕ, ◌+◌, ◌^◌, ◌≤◌, ◌<◌, length, get_or, pos, ◌-ℤ◌, ◌||◌, ltb};
 ghost use Rattle.view.specs.View.{max_points};
 ghost use Rattle.cells.specs.Points.{bias};
 ghost use Rattle.cells.specs.Cell.{cells_at};
@@ -11,11 +11,10 @@ ghost use Rattle.text.specs.Answer.{Shows};
 ghost use Rattle.text.specs.Stored.{Stored};
 ghost use Rattle.text.specs.Text.{each};
 ghost use Rattle.map_lines.specs.Map.{columns, most_lines, too_wide, point_character, line_text, map_of, map_size};
-ghost use Rattle.offsets.specs.declared.axis.Axis.TheVariants.{AlongU, AlongV};
-ghost use Rattle.map_lines.specs.Page.{Spans, OnPage, Drawn, page_line};
+ghost use Rattle.map_lines.specs.Page.{OnPage, Drawn};
 
 use marks::filters;
-use spans::Span;
+pub use spans::{Span, SpannedKeys};
 use text::{NoRoom, Writer};
 use view::Marks;
 
@@ -29,10 +28,10 @@ const LINE_LENGTH: usize = LABEL_WIDTH + 1 + COLUMNS + 1;
 
 const MOST_LINES: usize = 60;
 
-const PAGE_SIZE: usize = COLUMNS * MOST_LINES;
+type Line = [u8; COLUMNS];
 
 // The cells of the map, line by line.
-type Page = [u8; PAGE_SIZE];
+type Page = [Line; MOST_LINES];
 
 // A buffer of this size has room for every map, with a newline after each line.
 pub const MAP_SIZE: usize = (LINE_LENGTH + 1) * MOST_LINES;
@@ -42,13 +41,6 @@ pub fn map_size() -> usize
     ensures { result ≡ map_size }
 {
     MAP_SIZE
-}
-
-// Whether what is spanned is too wide for a page.
-pub fn too_wide(u: Span, v: Span) -> bool
-    ensures { result ≡ ltb columns u.count || ltb most_lines v.count }
-{
-    COLUMNS < u.count || MOST_LINES < v.count
 }
 
 fn character(marks: u8) -> u8
@@ -65,31 +57,22 @@ fn draw(keys: &[u32], marks: &Marks, u: usize, v: usize) -> Page
     requires { (length keys.now ≤ max_points) × OnPage keys.now (length keys.now) u v }
     ensures { Drawn (length keys.now) (cells_at keys.now) marks.now (pos u -ℤ pos bias) (pos v -ℤ pos bias) result }
 {
-    let mut page = [b'.'; PAGE_SIZE];
+    let mut page = [[b'.'; COLUMNS]; MOST_LINES];
     for (k, key) in keys.iter().enumerate() {
         let column = cells::u_part(*key) as usize - u;
         let line = cells::v_part(*key) as usize - v;
-        page[COLUMNS * line + column] = character(marks[k]);
+        page[line][column] = character(marks[k]);
     }
     page
 }
 
-// The characters of line i.
-fn put_characters(w: &mut Writer, page: &Page, i: usize)
-    requires { i < most_lines }
-    ensures { Stored w.old (page_line page.now i) w.new }
-{
-    w.text(&page[COLUMNS * i..COLUMNS * (i + 1)]);
-}
-
-// Line i, which is that of v, plus BIAS.
-fn put_line(w: &mut Writer, page: &Page, i: usize, v: usize)
-    requires { i < most_lines }
-    ensures { Stored w.old (line_text (pos v -ℤ pos bias) (page_line page.now i)) w.new }
+// A line, which is that of v, plus BIAS.
+fn put_line(w: &mut Writer, line: &Line, v: usize)
+    ensures { Stored w.old (line_text (pos v -ℤ pos bias) line.now) w.new }
 {
     w.right(LABEL_WIDTH, v, cells::BIAS as usize);
     w.byte(b' ');
-    put_characters(w, page, i);
+    w.text(line);
     w.byte(b' ');
     w.byte(b'\n');
 }
@@ -97,26 +80,36 @@ fn put_line(w: &mut Writer, page: &Page, i: usize, v: usize)
 // So many lines, the first of them that of v, plus BIAS.
 fn put_lines(w: &mut Writer, page: &Page, count: usize, v: usize)
     requires { (count ≤ most_lines) × (v < 2 ^ 32) }
-    ensures { Stored w.old (each (λ (i : ℕ). line_text (pos (v + i) -ℤ pos bias) (page_line page.now i)) count) w.new }
+    ensures { Stored w.old (each (λ (i : ℕ). line_text (pos (v + i) -ℤ pos bias) (get_or page.now i [])) count) w.new }
 {
     for i in 0..count {
-        put_line(w, page, i, v + i);
+        put_line(w, &page[i], v + i);
     }
 }
 
-// The map of points in cell order: the keys of their cells, their marks, and what they span.
-pub fn write_map(
-    keys: &[u32],
-    marks: &Marks,
-    u: Span,
-    v: Span,
-    out: &mut [u8],
-) -> Result<usize, NoRoom>
-    requires { (length keys.now ≤ max_points) × Spans AlongU keys.now (length keys.now) u × Spans AlongV keys.now (length keys.now) v × (too_wide (length keys.now) (cells_at keys.now) ≡ false) }
-    ensures { Shows (map_of (length keys.now) (cells_at keys.now) marks.now) out.old out.new result }
+// Whether what is spanned is too wide for a page.
+pub fn too_wide(u: Span, v: Span) -> bool
+    ensures { result ≡ ltb columns u.count || ltb most_lines v.count }
 {
-    let page = draw(keys, marks, u.least, v.least);
-    let mut w = Writer::new(out);
-    put_lines(&mut w, &page, v.count, v.least);
-    w.answer()
+    COLUMNS < u.count || MOST_LINES < v.count
+}
+
+impl SpannedKeys<'_> {
+    // Whether the cells span too much for a page.
+    pub fn too_wide(&self) -> bool
+        ensures { result ≡ too_wide (length self.now.keys.now) (cells_at self.now.keys.now) }
+    {
+        too_wide(self.u, self.v)
+    }
+
+    // The map of points in cell order, whose cells have these keys, and of their marks.
+    pub fn write_map(&self, marks: &Marks, out: &mut [u8]) -> Result<usize, NoRoom>
+        requires { (length self.now.keys.now ≤ max_points) × (too_wide (length self.now.keys.now) (cells_at self.now.keys.now) ≡ false) }
+        ensures { Shows (map_of (length self.now.keys.now) (cells_at self.now.keys.now) marks.now) out.old out.new result }
+    {
+        let page = draw(self.keys, marks, self.u.least, self.v.least);
+        let mut w = Writer::new(out);
+        put_lines(&mut w, &page, self.v.count, self.v.least);
+        w.answer()
+    }
 }

@@ -1,6 +1,7 @@
 // What the cells of a sheet span in u and in v.
 ghost use Rattle.std.specs.Prelude.{◌≡◌, ◌^◌, ◌<◌, length};
 ghost use Rattle.map_lines.specs.Page.{part, Spans};
+ghost use Rattle.offsets.specs.declared.axis.Axis.TheVariants.{AlongU, AlongV};
 
 use offsets::Axis;
 
@@ -9,6 +10,16 @@ use offsets::Axis;
 pub struct Span {
     pub least: usize,
     pub count: usize,
+}
+
+// The keys of cells, and what the cells span in u and in v.
+#[derive(Clone, Copy)]
+pub struct SpannedKeys<'a> {
+    pub keys: &'a [u32],
+    pub u: Span,
+    pub v: Span,
+    ghost along_u: { Spans AlongU keys.now (length keys.now) u },
+    ghost along_v: { Spans AlongV keys.now (length keys.now) v },
 }
 
 // u or v of the cell with this key, plus BIAS.
@@ -37,4 +48,16 @@ pub fn span_along(keys: &[u32], axis: Axis) -> Span
     }
     let count = most - least + 1;
     Span { least, count }
+}
+
+impl<'a> SpannedKeys<'a> {
+    pub fn of(keys: &'a [u32]) -> SpannedKeys<'a>
+        ensures { result.keys.now ≡ keys.now }
+    {
+        SpannedKeys {
+            keys,
+            u: span_along(keys, Axis::AlongU),
+            v: span_along(keys, Axis::AlongV),
+        }
+    }
 }

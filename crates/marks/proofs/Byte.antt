@@ -1,5 +1,6 @@
 -- The laws of the byte of marks: each bit is its filter's mark, there is no other, and the byte is 0 where no filter marks. One test over all
 -- bytes and filters says what setting a bit does. Assumes nothing.
+use Rattle.std.specs.List.{list_any}
 use mathlib.Core.Path.{◌≡◌, refl, sym, ap, ◌∙◌}
 use mathlib.Core.Bool.{Bool, true, false, cond, not, ◌&&◌, ◌||◌, true≢false}
 use mathlib.Core.List.{List, [], ◌∷◌, ◌++◌}
@@ -8,7 +9,6 @@ use native.Mathlib.Omega.{arith}
 use lib.Dec.{eqb, ltb}
 use lib.ListN.{get_or, replicate}
 use borrow.Author.Tests.{eqb-true, eq-eqb, ltb-true}
-use Rattle.folds.specs.Among.{any_in}
 use Rattle.folds.specs.Below.{some, every}
 use Rattle.folds.proofs.Below.{some-yes, some-ext, every-at}
 use Rattle.folds.proofs.Column.{column-at, column-ext, replicate-at}
@@ -120,11 +120,11 @@ module _ (m f : ℕ) (small : m < 256) (listed : f < filter_count) where
 
 -- each filter of the list stands in the table
 abbrev pub Listed : List Marking → Type 0
-Listed l = any_in (λ (g : Marking). not (ltb g.filter filter_count)) l ≡ false
+Listed l = list_any (λ (g : Marking). not (ltb g.filter filter_count)) l ≡ false
 
 -- filter f is not in the list
 abbrev pub Absent : ℕ → List Marking → Type 0
-Absent f l = any_in (λ (g : Marking). eqb g.filter f) l ≡ false
+Absent f l = list_any (λ (g : Marking). eqb g.filter f) l ≡ false
 
 -- some filter of the list marks rank k
 abbrev pub some_marks : ℕ → List Marking → List ℕ → ℕ → Bool
@@ -147,7 +147,7 @@ module _ (n k : ℕ) (inside : k < n) where
 
   head : (g : Marking) (l : List Marking) → Listed (g ∷ l) → (g.filter < filter_count) × Listed l
   head g l e =
-      let w = or_parts (not (ltb g.filter filter_count)) (any_in (λ (g : Marking). not (ltb g.filter filter_count)) l) e in
+      let w = or_parts (not (ltb g.filter filter_count)) (list_any (λ (g : Marking). not (ltb g.filter filter_count)) l) e in
       (ltb-true g.filter filter_count (not-false (ltb g.filter filter_count) w.0), w.1)
 
   module _ (g : Marking) (marks : List ℕ) (small : get_or marks k 0 < 256) (listed : g.filter < filter_count) where
@@ -178,7 +178,7 @@ module _ (n k : ℕ) (inside : k < n) where
   not-marked [] marks f i e a h = refl
   not-marked (g ∷ l) marks f i e a h =
       let w = head g l e in
-      let v = or_parts (eqb g.filter f) (any_in (λ (g : Marking). eqb g.filter f) l) a in
+      let v = or_parts (eqb g.filter f) (list_any (λ (g : Marking). eqb g.filter f) l) a in
       not-marked l (next g marks h w.0) f i w.1 v.1 (next_small g marks h w.0) ∙ next-other g marks h w.0 f i v.0
 
   -- the mark of a filter that is in it once, given the bytes before it

@@ -3,11 +3,11 @@
 
 pub mod filters;
 
-ghost use Rattle.std.specs.Prelude.{◌≡◌, cond, List, ℕ, ◌≤◌, ◌<◌, eqb, Float, IfSome};
+ghost use Rattle.std.specs.Prelude.{◌≡◌, cond, ℕ, ◌≤◌, ◌<◌, eqb, IfSome};
 ghost use Rattle.folds.specs.Column.{column};
 ghost use Rattle.folds.specs.Marked.{bit, Marked};
-ghost use Rattle.view.specs.View.{max_points, view_at};
-ghost use Rattle.view.specs.Seen.{lattice_in};
+ghost use Rattle.view.specs.View.{max_points};
+ghost use Rattle.view.specs.Seen.{lattice_in, WhereverSeen};
 ghost use Rattle.marks.specs.Marks.{is_set, is_at, place_has, index_marks};
 ghost use Rattle.marks.specs.Filters.{filter_count};
 ghost use Rattle.marks.specs.Places.{place};
@@ -42,12 +42,9 @@ fn at_index(sheet: &SheetLattice, mark: &Marks) -> Marks
 
 // At each rank the mark of its index: whether some point with that index is marked.
 pub fn by_index(sheet: &SheetLattice, mark: &Marks) -> Marks
-    ensures { (xs ys : List Float) → result ≡ index_marks (view_at sheet.now.lattice.count sheet.now.lattice.ranks.now xs ys) mark.now }
+    ensures { WhereverSeen sheet.now.lattice (λ w. result ≡ index_marks w mark.now) }
 {
-    let held = at_index(sheet, mark);
-    let mut out = [0u8; MAX_POINTS];
-    sheet.spread(&held, &mut out);
-    out
+    sheet.by_index(&at_index(sheet, mark), 0)
 }
 
 fn marked_byte(marks: u8, mark: u8, f: Filter) -> u8
@@ -84,7 +81,7 @@ fn counted_at(marks: u8) -> usize
 
 // How many indices each filter is the first to mark, and how many are kept. An index is counted at its place, the last of its ranks.
 pub fn tally(lattice: &Lattice, marks: &Marks) -> Tally
-    ensures { (xs ys : List Float) → result ≡ counts_of (view_at lattice.now.count lattice.now.ranks.now xs ys) marks.now }
+    ensures { WhereverSeen lattice.now (λ w. result ≡ counts_of w marks.now) }
 {
     let mut counts = [0usize; COUNTS];
     for k in 0..lattice.count {

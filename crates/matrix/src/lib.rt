@@ -25,6 +25,7 @@ fn product_entry(a: [[f32; 3]; 3], b: [[f32; 3]; 3], i: usize, j: usize) -> f32
     inner_sum(a[i][0], a[i][1], a[i][2], b[0][j], b[1][j], b[2][j])
 }
 
+#[tactic(auto, unfolding(crate::specs::Matrix::product_of))]
 pub fn product(a: [[f32; 3]; 3], b: [[f32; 3]; 3]) -> [[f32; 3]; 3]
     ensures { result ≡ product_of a b }
 {
@@ -53,6 +54,7 @@ fn minor_of(a: f32, b: f32, c: f32, d: f32) -> f32
     a * b - c * d
 }
 
+#[tactic(auto, unfolding(crate::specs::Matrix::determinant_of))]
 pub fn determinant(m: [[f32; 3]; 3]) -> f32
     ensures { result ≡ determinant_of m }
 {
@@ -61,25 +63,26 @@ pub fn determinant(m: [[f32; 3]; 3]) -> f32
 }
 
 // The inverse of m, whose determinant is d.
+#[tactic(auto, unfolding(crate::specs::Matrix::inverse_of))]
 pub fn inverse(m: [[f32; 3]; 3], d: f32) -> [[f32; 3]; 3]
     ensures { result ≡ inverse_of m d }
 {
     let [[a, b, c], [e, f, g], [h, i, j]] = m;
     [
         [
-            (f * j - i * g) / d,
-            (c * i - j * b) / d,
-            (b * g - f * c) / d,
+            minor_of(f, j, i, g) / d,
+            minor_of(c, i, j, b) / d,
+            minor_of(b, g, f, c) / d,
         ],
         [
-            (-(e * j - h * g)) / d,
-            (a * j - h * c) / d,
-            (c * e - g * a) / d,
+            (-minor_of(e, j, h, g)) / d,
+            minor_of(a, j, h, c) / d,
+            minor_of(c, e, g, a) / d,
         ],
         [
-            (e * i - h * f) / d,
-            (b * h - i * a) / d,
-            (a * f - e * b) / d,
+            minor_of(e, i, h, f) / d,
+            minor_of(b, h, i, a) / d,
+            minor_of(a, f, e, b) / d,
         ],
     ]
 }

@@ -2,7 +2,7 @@
 -- sorted keys. Assumes nothing.
 use mathlib.Core.Path.{◌≡◌, refl, sym, ap, subst, ◌∙◌}
 use mathlib.Core.Bool.{Bool, true, false, cond}
-use mathlib.Core.List.{List, [], ◌∷◌, map}
+use mathlib.Core.List.{List, [], ◌∷◌}
 use Prim.Native.Nat.{ℕ, ◌+◌, ◌/◌, ◌%◌, ◌≤◌, ◌<◌}
 use Prim.{yes, no}
 use native.Mathlib.Decide.{ℕ_discrete}
@@ -14,6 +14,7 @@ use lib.Ieee.{Float, nan, binary32, lt, fits}
 use lib.Ieee.Scale.{finite}
 use Rattle.folds.specs.Lists.{All, list_of}
 use Rattle.folds.proofs.Lists.{length-list, list_at}
+use Rattle.std.proofs.lemmas.List.{get_or_default, map-id}
 use Rattle.folds.proofs.Column.{column-at}
 use Rattle.view.specs.View.{max_points}
 use Rattle.sort.specs.Sorted.{sort}
@@ -35,14 +36,10 @@ module _ {A B : Type 0} (h : A → B) (first : A → A → Bool) (second : B →
       each [] q = tt
       each (b ∷ m) q = (same b a q.0 p.0, each m q.1)
 
-itself : {A : Type 0} (l : List A) → map (λ (a : A). a) l ≡ l
-itself [] = refl
-itself (a ∷ l) = ap (◌∷◌ a) (itself l)
-
 -- two tests that agree sort a list alike
 sort-same : {A : Type 0} (first second : A → A → Bool) (P : A → Type 0) → ((a b : A) → P a → P b → first a b ≡ second a b) → (l : List A) → All P l → sort first l ≡ sort second l
 sort-same first second P same l p =
-    sym (itself (sort first l)) ∙ sym (sort-map (λ a. a) first second l (agree-all (λ a. a) first second P same l p)) ∙ ap (sort second) (itself l)
+    sym (map-id (sort first l)) ∙ sym (sort-map (λ a. a) first second l (agree-all (λ a. a) first second P same l p)) ∙ ap (sort second) (map-id l)
 
 -- ---- the sorted keys
 
@@ -83,8 +80,9 @@ keyed-in-order {v} {n} few all found = record {
   };
 }
 
-pub key-in-order : {v : List Float} {n : ℕ} {r : List ℕ} → KeyedInOrder v n r → (i : ℕ) → i < n → get_or r i 0 ≡ get_or (in_order_of (key_at v) n) i 0
-key-in-order {v} {n} k i h = rw k.is (column-at max_points 0 n (λ (i : ℕ). get_or (in_order_of (key_at v) n) i 0) i h)
+-- the entry at place i, read with any default
+pub key-in-order : {v : List Float} {n : ℕ} {r : List ℕ} → KeyedInOrder v n r → (d i : ℕ) → i < n → i < length r → get_or r i d ≡ get_or (in_order_of (key_at v) n) i 0
+key-in-order {v} {n} {r} k d i h l = get_or_default r i d 0 l ∙ rw k.is (column-at max_points 0 n (λ (i : ℕ). get_or (in_order_of (key_at v) n) i 0) i h)
 
 -- ---- the median
 

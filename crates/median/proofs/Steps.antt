@@ -2,7 +2,7 @@
 use mathlib.Core.Path.{◌≡◌, refl, sym, ap, ◌∙◌}
 use mathlib.Core.Bool.{Bool, true, false, cond}
 use mathlib.Core.List.{List, [], ◌∷◌, ◌++◌}
-use Prim.Native.Nat.{ℕ, zero, suc, ◌+◌, ◌/◌, ◌<◌}
+use Prim.Native.Nat.{ℕ, ◌+◌, ◌/◌, ◌<◌}
 use native.Mathlib.Nat.{eq-or-lt_of_le}
 use mathlib.Core.Logic.{⊎_elim}
 use native.Mathlib.Omega.{arith}
@@ -10,13 +10,14 @@ use lib.Dec.{T, ltb}
 use lib.ListN.{length, get_or, length-map}
 use lib.Ieee.{Float, nan, binary32, lt, fits, to_bits}
 use lib.Ieee.Positive.{above}
+use Rattle.std.proofs.lemmas.List.{map-append, get_or-map}
 use Rattle.folds.specs.Below.{tally}
 use Rattle.folds.proofs.Below.{tally-turn}
 use Rattle.folds.specs.Lists.{All, listed}
 use Rattle.folds.proofs.Lists.{all_listed, listed_more}
 use Rattle.sort.specs.Sorted.{sort}
 use Rattle.view.specs.View.{max_points}
-use Rattle.sort.proofs.Sorted.{sort-length, sort-all, sort-map}
+use Rattle.sort.proofs.Sorted.{all-at, sort-length, sort-all, sort-map}
 use Rattle.float.proofs.Order.{above_zero}
 use Rattle.float.proofs.Bits.{bits-order}
 use Rattle.median.specs.Median.{median_of}
@@ -26,10 +27,6 @@ use Rattle.median.proofs.Sorting.{agree-all}
 -- an f32 above zero
 abbrev pub AboveZero : Float → Type 0
 AboveZero a = T (above a) × T (fits binary32 a)
-
-map_snoc : (l : List Float) (x : Float) → patterns (l ++ (x ∷ [])) ≡ patterns l ++ (to_bits binary32 x ∷ [])
-map_snoc [] x = refl
-map_snoc (a ∷ l) x = ap (◌∷◌ (to_bits binary32 a)) (map_snoc l x)
 
 pub packed_none : (v : List Float) (b : List ℕ) → length b ≡ max_points → Packed v 0 0 b
 unfolding tally positives
@@ -48,18 +45,8 @@ packed_more v k {c} {r} {a} {b} q p = record {
     before = listed (positive_at v) (λ (j : ℕ). get_or v j nan) k
 
     go : (t : Bool) → cond t (patterns before ++ (to_bits binary32 (get_or v k nan) ∷ [])) (patterns before) ≡ patterns (cond t (before ++ (get_or v k nan ∷ [])) before)
-    go true = sym (map_snoc before (get_or v k nan))
+    go true = sym (map-append (to_bits binary32) before (get_or v k nan ∷ []))
     go false = refl
-
-at_map : (l : List Float) (i : ℕ) → i < length l → get_or (patterns l) i 0 ≡ to_bits binary32 (get_or l i nan)
-at_map [] i h = absurd (omega arith)
-at_map (a ∷ l) zero h = refl
-at_map (a ∷ l) (suc i) h = at_map l i (omega arith)
-
-at_all : (l : List Float) → All AboveZero l → (i : ℕ) → i < length l → AboveZero (get_or l i nan)
-at_all [] al i h = absurd (omega arith)
-at_all (a ∷ l) al zero h = al.0
-at_all (a ∷ l) al (suc i) h = at_all l al.1 i (omega arith)
 
 pub patterns-length : (l : List Float) {b : List ℕ} → b ≡ patterns l → length l ≡ length b
 patterns-length l e = sym (ap length e ∙ length-map l (to_bits binary32))
@@ -79,7 +66,7 @@ module _ (v : List Float) (n : ℕ) (a b : List ℕ) (p : a ≡ patterns (positi
   sorted-at : (i : ℕ) → i < length (sort lt (positives v n)) → get_or b i 0 ≡ to_bits binary32 (get_or (sort lt (positives v n)) i nan)
   sorted-at i h =
       rw (s, p, sort-map (to_bits binary32) lt ltb (positives v n) (agree-all (to_bits binary32) lt ltb AboveZero (λ a b p q. bits-order a b p.0 q.0 p.1 q.1) (positives v n) all-ok))
-      (at_map (sort lt (positives v n)) i h)
+      (get_or-map (to_bits binary32) (sort lt (positives v n)) i nan 0 h)
 
   pub middle-is : get_or b (length b / 2) 0 ≡ to_bits binary32 (median_of (positives v n))
   unfolding median_of
@@ -87,4 +74,4 @@ module _ (v : List Float) (n : ℕ) (a b : List ℕ) (p : a ≡ patterns (positi
 
   pub middle-fits : AboveZero (median_of (positives v n))
   unfolding median_of
-  middle-fits = rw long (at_all (sort lt (positives v n)) (sort-all lt AboveZero (positives v n) all-ok) (length b / 2) inside)
+  middle-fits = rw long (all-at AboveZero nan (sort lt (positives v n)) (sort-all lt AboveZero (positives v n) all-ok) (length b / 2) inside)

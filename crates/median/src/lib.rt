@@ -10,6 +10,7 @@ ghost use Rattle.median.specs.Median.{median_of, first_of};
 ghost use Rattle.median.specs.Packed.{positives, patterns, Put};
 ghost use Rattle.median.specs.Keys.{RisingKey, KeyedInOrder};
 
+use sort::Entry;
 use view::{Floats, MAX_POINTS, Words};
 
 // One number of each of so many points.
@@ -37,9 +38,10 @@ fn pack<'a>(v: &Numbers, a: &'a mut Words) -> &'a mut [u32]
     ensures packed { result.now ≡ patterns (positives v.now.values.now v.now.count) }
     ensures floats { (j : ℕ) → j < v.now.count → T (fits binary32 (get_or v.now.values.now j nan)) }
 {
+    let values = v.values;
     let mut c = 0;
-    for k in 0..v.count {
-        c = put(v.values[k], c, a);
+    for x in &values[..v.count] {
+        c = put(*x, c, a);
     }
     &mut a[..c]
 }
@@ -69,9 +71,8 @@ fn rising(x: f32) -> u64
     0x1_0000_0000 - b
 }
 
-// The key of each number, packed with its place, in rising order: entry i, taken modulo `sort::PACKED_PLACES`, is the place of the number that
-// is i-th in the order of numbers.
-pub fn keys_in_order(v: &Numbers) -> [u64; MAX_POINTS]
+// The key of each number with its place, in rising order: entry i has the place of the number that is i-th in the order of numbers.
+pub fn keys_in_order(v: &Numbers) -> [Entry; MAX_POINTS]
     requires { Finite v.now.count v.now.values.now }
     ensures { KeyedInOrder v.now.values.now v.now.count result }
 {
@@ -87,5 +88,5 @@ pub fn middle_of_all(v: &Numbers) -> f32
         return f32::NAN;
     }
     let a = keys_in_order(v);
-    v.values[(a[v.count / 2] % sort::PACKED_PLACES) as usize]
+    v.values[a[v.count / 2].place()]
 }

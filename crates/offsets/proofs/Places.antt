@@ -10,7 +10,7 @@ use lib.ListN.{length, get_or}
 use mir.Syntax.{w8}
 use mir.Val.{to_z, of_z}
 use borrow.Author.Tests.{leb-true}
-use Rattle.offsets.specs.declared.Offset.{Offset}
+use Rattle.offsets.specs.Pair.{Offset}
 use Rattle.offsets.specs.Offsets.{−2, −1, ±0, +1, +2, offset, own, prev_uv, square_sides, is_within2, is_near, up_by2, place_of, offset_of, places}
 use Rattle.std.proofs.lemmas.Bool.{and_from, and_parts}
 

@@ -1,5 +1,5 @@
 -- The two ways along the lattice, and the offsets that lead on and back along each. Assumes nothing.
-use Rattle.offsets.specs.declared.Offset.{Offset}
+use Rattle.offsets.specs.Pair.{Offset}
 use Rattle.offsets.specs.declared.axis.Axis.{Axis}
 use Rattle.offsets.specs.declared.axis.Axis.TheVariants.{AlongU, AlongV}
 use Rattle.offsets.specs.Offsets.{next_u, prev_u, next_v, prev_v}

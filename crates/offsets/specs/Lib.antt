@@ -1,2 +1,3 @@
 pub mod Axes
 pub mod Offsets
+pub mod Pair

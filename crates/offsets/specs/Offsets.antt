@@ -2,7 +2,7 @@
 -- that each offset within 2 has among the 25 of a corner. Assumes nothing.
 use Rattle.std.specs.Prelude.{Bool, ◌&&◌, List, [], ◌∷◌, ℕ, ◌+◌, ◌*◌, ◌/◌, ◌%◌, ℤ, pos, negsuc, nat_abs, ◌+ℤ◌, ◌-ℤ◌}
 use Rattle.std.specs.Int.Signed.{le_z}
-use Rattle.offsets.specs.declared.Offset.{Offset}
+use Rattle.offsets.specs.Pair.{Offset}
 
 -- the whole numbers from −2 to 2 (negsuc n is −(n + 1))
 abbrev pub −2 : ℤ

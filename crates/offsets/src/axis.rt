@@ -1,6 +1,5 @@
 // The two ways along the lattice: rows lie along u, columns along v.
-ghost use Rattle.std.specs.Prelude.{◌≡◌, true};
-ghost use Rattle.offsets.specs.Offsets.{is_near};
+ghost use Rattle.std.specs.Prelude.{◌≡◌};
 ghost use Rattle.offsets.specs.Axes.{forward, back};
 
 use crate::{NEXT_U, NEXT_V, Offset, PREV_U, PREV_V};
@@ -14,7 +13,7 @@ pub enum Axis {
 impl Axis {
     // The offset that leads on along it.
     pub fn forward(self) -> Offset
-        ensures { (result ≡ forward self) × (is_near result ≡ true) }
+        ensures { result ≡ forward self }
     {
         match self {
             Axis::AlongU => NEXT_U,
@@ -24,7 +23,7 @@ impl Axis {
 
     // The offset that leads back along it.
     pub fn back(self) -> Offset
-        ensures { (result ≡ back self) × (is_near result ≡ true) }
+        ensures { result ≡ back self }
     {
         match self {
             Axis::AlongU => PREV_U,

@@ -3,17 +3,32 @@
 #![tactic(auto)]
 
 ghost use Rattle.std.specs.Prelude.{◌≡◌, true, ◌≤◌, ◌<◌};
-ghost use Rattle.offsets.specs.Offsets.{is_within2, up_by2, is_near, place_of};
+ghost use Rattle.offsets.specs.Offsets.{is_within2, up_by2, place_of};
 
 mod axis;
 
 pub use axis::Axis;
+use std::marker::Model;
 
-// A pair (du, dv).
+// A pair (du, dv), each from -2 to 2.
 #[derive(Clone, Copy)]
 pub struct Offset {
     pub du: i8,
     pub dv: i8,
+}
+
+impl Model for Offset {
+    ghost use Rattle.std.specs.Prelude.{◌≡◌, true};
+    ghost use Rattle.offsets.specs.Pair.{Offset};
+    ghost use Rattle.offsets.specs.Offsets.{is_near};
+
+    ghost Value = { Offset };
+
+    ghost view = { λ o. record { du = o.du; dv = o.dv } };
+
+    ghost invariant = { λ o. is_near (record { du = o.du; dv = o.dv }) ≡ true };
+
+    ghost inverse = { λ o. record { du = o.du; dv = o.dv } };
 }
 
 // To the cell itself, and to those that share an edge with it.
@@ -40,7 +55,6 @@ fn up_by_2(z: i8) -> usize
 
 // The place of an offset among the 25.
 pub fn place(o: Offset) -> usize
-    requires { is_near o ≡ true }
     ensures { (result ≡ place_of o) × (result < 25) }
 {
     5 * up_by_2(o.du) + up_by_2(o.dv)

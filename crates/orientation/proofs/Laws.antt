@@ -15,8 +15,8 @@ use Rattle.marks.specs.Marks.{is_set, index_marks}
 use Rattle.marks.proofs.Guards.{guard, past, each-as-column, set_is, index-marks}
 use Rattle.orientation.specs.declared.Side.{Side}
 use Rattle.orientation.specs.declared.Side.TheVariants.{Positive, Negative}
-use Rattle.orientation.specs.Orientation.{vote_at, of_vote, votes_for, side_member, turned, orientation_mark, orientation_of}
-use Rattle.orientation.specs.Voters.{vote_of, side_number, is_for, votes_of, voters, voters_at}
+use Rattle.orientation.specs.Orientation.{vote_at, of_vote, votes_for, side_member, orientation_mark, orientation_of}
+use Rattle.orientation.specs.Voters.{vote_of, side_number, is_for, votes_of, voters, voters_at, party_of, turned_at}
 use Rattle.std.proofs.Math.Bool.{and-false, and_comm}
 
 -- a vote is for the side whose number it is
@@ -64,20 +64,21 @@ module _ (w : View) (vote : List (Option Side)) (e : vote ≡ votes_of w) where
       some-ext (λ (k : ℕ). voters_at w vote s k m) (λ (k : ℕ). of_vote w k m && eqb (vote_at w k) (side_number s)) w.count
       (λ k h. rw (for-at s k h) (and_comm (eqb (vote_at w k) (side_number s)) ((eqb k m || eqb (rank_at w k next_u) m) || eqb (rank_at w k next_v) m)))
 
-  -- the marks of the indices that have a member of the side
-  abbrev Members : Side → List ℕ → List ℕ → Type 0
-  Members s part index = (part ≡ column max_points 0 w.count (λ (m : ℕ). bit (voters_of w vote s m))) × (index ≡ index_marks w part)
+  pub party-is : (s : Side) {n : ℕ} {part index : List ℕ} → n ≡ tally (λ (k : ℕ). is_for s (get_or vote k None)) w.count
+      → part ≡ column max_points 0 w.count (λ (m : ℕ). bit (voters_of w vote s m)) → index ≡ index_marks w part → record { votes = n; members = index } ≡ party_of w s
+  unfolding party_of
+  party-is s {n} {part} {index} a f h =
+      rw (
+        a ∙ votes-are s,
+        h ∙ index-marks w (side_member w (side_number s)) part
+            (f ∙ column-ext max_points 0 w.count (λ (m : ℕ). bit (voters_of w vote s m)) (λ (m : ℕ). bit (side_member w (side_number s) m)) (λ m l. ap bit (members-are s m))),
+      ) refl
 
-  side-is : (s : Side) (part index : List ℕ) → Members s part index → (k : ℕ) → k < w.count → is_set index k ≡ index_has w (side_member w (side_number s)) k
-  side-is s part index f k h =
-      set_is max_points w.count (index_has w (side_member w (side_number s))) index
-      (f.1 ∙ index-marks w (side_member w (side_number s)) part
-      (f.0 ∙ column-ext max_points 0 w.count (λ (m : ℕ). bit (voters_of w vote s m)) (λ (m : ℕ). bit (side_member w (side_number s) m)) (λ m l. ap bit (members-are s m)))) k h
-
-  pub marks-are : (p q pi qi r : List ℕ) (np nn : ℕ) → np ≡ tally (λ (k : ℕ). is_for Positive (get_or vote k None)) w.count
-      → nn ≡ tally (λ (k : ℕ). is_for Negative (get_or vote k None)) w.count → Members Positive p pi → Members Negative q qi
-      → r ≡ column max_points 0 w.count (λ (k : ℕ). bit (turned np nn (is_set pi k) (is_set qi k))) → r ≡ orientation_of w
-  unfolding orientation_of orientation_mark
-  marks-are p q pi qi r np nn a b f g h =
-      h ∙ column-ext max_points 0 w.count (λ (k : ℕ). bit (turned np nn (is_set pi k) (is_set qi k))) (λ (k : ℕ). bit (orientation_mark w k))
-      (λ k l. rw (a ∙ votes-are Positive, b ∙ votes-are Negative, side-is Positive p pi f k l, side-is Negative q qi g k l))
+-- the marks, from what the sides have
+pub marks-are : (w : View) {r : List ℕ} → r ≡ column max_points 0 w.count (λ (k : ℕ). bit (turned_at (party_of w Positive) (party_of w Negative) k)) → r ≡ orientation_of w
+unfolding orientation_of orientation_mark party_of
+marks-are w h =
+    h ∙ column-ext _ _ _ _ (λ (k : ℕ). bit (orientation_mark w k)) (λ k l. rw (has Positive k l, has Negative k l))
+  where
+    has : (s : Side) (k : ℕ) → k < w.count → is_set (party_of w s).members k ≡ index_has w (side_member w (side_number s)) k
+    has s k l = set_is max_points w.count (index_has w (side_member w (side_number s))) _ refl k l

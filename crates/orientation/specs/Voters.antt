@@ -1,11 +1,14 @@
 -- Votes as the code holds them, and the points of a vote, from an array of the votes. Assumes nothing.
 use Rattle.std.specs.Prelude.{Bool, true, false, cond, ◌&&◌, ◌||◌, List, ℕ, eqb, ltb, get_or, Option, None, Some}
 use Rattle.folds.specs.Column.{column}
+use Rattle.folds.specs.Marked.{bit}
 use Rattle.offsets.specs.Offsets.{next_u, next_v}
-use Rattle.view.specs.View.{max_points, View, rank_at, present}
+use Rattle.marks.specs.Marks.{is_set}
+use Rattle.view.specs.View.{max_points, View, rank_at, present, index_has}
+use Rattle.orientation.specs.declared.Party.{Party}
 use Rattle.orientation.specs.declared.Side.{Side}
 use Rattle.orientation.specs.declared.Side.TheVariants.{Positive, Negative}
-use Rattle.orientation.specs.Orientation.{vote_at}
+use Rattle.orientation.specs.Orientation.{vote_at, votes_for, side_member, turned}
 
 -- "votes by the sign of its cross product; zero casts no vote": the vote that has this number in Orientation
 abbrev pub vote_of : ℕ → Option Side
@@ -38,3 +41,16 @@ unfoldable pub voters : View → List (Option Side) → Side → ℕ → ℕ →
 voters w vote side k m =
     is_for side (get_or vote k None)
     && (((ltb k w.count && eqb k m) || (present w k next_u && eqb (rank_at w k next_u) m)) || (present w k next_v && eqb (rank_at w k next_v) m))
+
+-- how many votes a side has, and the marks of the indices that have a member of it
+unfoldable pub party_of : View → Side → Party
+unfolding column votes_for side_member
+party_of w side =
+    record {
+      votes = votes_for w (side_number side);
+      members = column max_points 0 w.count (λ k. bit (index_has w (side_member w (side_number side)) k));
+    }
+
+-- the mark of rank k's index, from what the sides have
+abbrev pub turned_at : Party → Party → ℕ → Bool
+turned_at p q k = turned p.votes q.votes (is_set p.members k) (is_set q.members k)

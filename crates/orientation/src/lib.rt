@@ -7,11 +7,11 @@ ghost use Rattle.folds.specs.Column.{column};
 ghost use Rattle.folds.specs.Marked.{bit, Marked};
 ghost use Rattle.view.specs.View.{max_points};
 ghost use Rattle.view.specs.Seen.{view_in};
-ghost use Rattle.orientation.specs.Orientation.{vote_by, cross, vote_at, turned, orientation_of};
-ghost use Rattle.orientation.specs.Voters.{vote_of, is_for, votes_of, voters, voters_at};
-ghost use Rattle.marks.specs.Marks.{is_set};
+ghost use Rattle.orientation.specs.Orientation.{vote_by, cross, vote_at, orientation_of};
+ghost use Rattle.orientation.specs.Voters.{vote_of, is_for, votes_of, voters, voters_at, party_of, turned_at};
 
 use offsets::{NEXT_U, NEXT_V};
+use std::cmp::Ordering;
 use view::{Lattice, MAX_POINTS, Marks, View};
 
 // The two sides of the votes: that of positive cross products and that of negative ones.
@@ -102,33 +102,52 @@ fn side_members(view: &View, vote: &Votes, side: Side) -> Marks
     out
 }
 
-// Whether an index is marked, of np positive and nn negative votes, that has a member of the one side or not, and of the other.
-#[tactic(auto, unfolding(crate::specs::Orientation::turned))]
-fn turned_by(np: usize, nn: usize, p: bool, q: bool) -> bool
-    ensures { result ≡ turned np nn p q }
-{
-    if np == 0 {
-        return false;
-    }
-    if nn == 0 {
-        return false;
-    }
-    if nn < np {
-        return q && !p;
-    }
-    if np < nn {
-        return p && !q;
-    }
-    if p { !q } else { q }
+// What a side has: how many votes, and which indices have a member of it.
+#[derive(Drop)]
+struct Party {
+    votes: usize,
+    members: Marks,
 }
 
-// The marks of the indices, from their memberships.
-fn combined(lattice: &Lattice, np: usize, nn: usize, p: &Marks, q: &Marks) -> Marks
-    ensures { result ≡ column max_points 0 lattice.now.count (λ (k : ℕ). bit (turned np nn (is_set p.now k) (is_set q.now k))) }
+// What the side has of these votes.
+fn party_for(view: &View, vote: &Votes, side: Side) -> Party
+    requires { vote.now ≡ votes_of (view_in view.now) }
+    ensures { result ≡ party_of (view_in view.now) side }
 {
-    view::filled(0, lattice.count, |k| {
-        u8::from(turned_by(np, nn, p[k] == 1, q[k] == 1))
-    })
+    let members = side_members(view, vote, side);
+    Party {
+        votes: votes_for(&view.sheet.lattice, vote, side),
+        members: marks::by_index(&view.sheet, &members),
+    }
+}
+
+// Whether rank k's index is marked, from what the sides have.
+#[tactic(auto, unfolding(crate::specs::Orientation::turned))]
+fn turned_at(positive: &Party, negative: &Party, k: usize) -> bool
+    requires { k < max_points }
+    ensures { result ≡ turned_at positive.now negative.now k }
+{
+    if positive.votes == 0 || negative.votes == 0 {
+        return false;
+    }
+    let p = positive.members[k] == 1;
+    let q = negative.members[k] == 1;
+    match positive.votes.cmp(&negative.votes) {
+        Ordering::Greater => q && !p,
+        Ordering::Less => p && !q,
+        Ordering::Equal => p != q,
+    }
+}
+
+// The marks of the indices.
+fn combined(lattice: &Lattice, positive: &Party, negative: &Party) -> Marks
+    ensures { result ≡ column max_points 0 lattice.now.count (λ (k : ℕ). bit (turned_at positive.now negative.now k)) }
+{
+    view::filled(
+        0,
+        lattice.count,
+        |k| u8::from(turned_at(positive, negative, k)),
+    )
 }
 
 // The orientation mark of each rank's index.
@@ -136,12 +155,8 @@ fn combined(lattice: &Lattice, np: usize, nn: usize, p: &Marks, q: &Marks) -> Ma
 pub fn lattice_orientation_drops(view: &View) -> Marks
     ensures { result ≡ orientation_of (view_in view.now) }
 {
-    let sheet = &view.sheet;
-    let lattice = &sheet.lattice;
     let vote = votes(view);
-    let np = votes_for(lattice, &vote, Side::Positive);
-    let nn = votes_for(lattice, &vote, Side::Negative);
-    let positive = marks::by_index(sheet, &side_members(view, &vote, Side::Positive));
-    let negative = marks::by_index(sheet, &side_members(view, &vote, Side::Negative));
-    combined(lattice, np, nn, &positive, &negative)
+    let positive = party_for(view, &vote, Side::Positive);
+    let negative = party_for(view, &vote, Side::Negative);
+    combined(&view.sheet.lattice, &positive, &negative)
 }

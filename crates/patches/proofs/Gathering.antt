@@ -1,4 +1,4 @@
--- Numbers kept at labels: what a loop over the ranks leaves at each label. Assumes nothing.
+-- What is kept at labels: what a loop over the ranks leaves at each label. Assumes nothing.
 use mathlib.Core.Path.{◌≡◌, sym, ap, ◌∙◌}
 use mathlib.Core.Bool.{Bool, true, false, cond}
 use mathlib.Core.List.{List}
@@ -19,29 +19,29 @@ use Rattle.view.specs.View.{max_points}
 use Rattle.std.proofs.Math.Bool.{and-true}
 use Rattle.std.proofs.lemmas.Bool.{and_parts, false_from_ne_true}
 
-module _ (labels : List ℕ) where
+module _ {A : Type 0} (d : A) (labels : List ℕ) where
   abbrev label : ℕ → ℕ
   label k = get_or labels k 0
 
-  -- an array of zeros in which each rank below i, if its label is below n, has changed the number at its label
-  abbrev pub AtLabels : ℕ → (ℕ → ℕ → ℕ) → ℕ → List ℕ → Type 0
-  AtLabels n g i a = Scattered 0 (λ (k : ℕ). label k) (λ (k : ℕ). ltb (label k) n) g (replicate max_points 0) i a
+  -- an array of d in which each rank below i, if its label is below n, has changed what stands at its label
+  abbrev pub AtLabels : ℕ → (ℕ → A → A) → ℕ → List A → Type 0
+  AtLabels n g i a = Scattered d (λ (k : ℕ). label k) (λ (k : ℕ). ltb (label k) n) g (replicate max_points d) i a
 
-  module _ (n : ℕ) (g : ℕ → ℕ → ℕ) where
-    pub labels-none : AtLabels n g 0 (replicate max_points 0)
-    labels-none = scattered-none 0 _ _ g _
+  module _ (n : ℕ) (g : ℕ → A → A) where
+    pub labels-none : AtLabels n g 0 (replicate max_points d)
+    labels-none = scattered-none d _ _ g _
 
-    pub labels-put : (i v : ℕ) {a : List ℕ} → n ≤ max_points → v ≡ label i → v < n → AtLabels n g i a → AtLabels n g (i + 1) (set a v (g i (get_or a v 0)))
-    labels-put i v {a} few e h t = scattered-put 0 _ _ g _ i v a (omega (arith, length-replicate {A = ℕ} max_points 0)) e (lt-ltb (label i) n (omega (arith, e))) t
+    pub labels-put : (i v : ℕ) {a : List A} → n ≤ max_points → v ≡ label i → v < n → AtLabels n g i a → AtLabels n g (i + 1) (set a v (g i (get_or a v d)))
+    labels-put i v {a} few e h t = scattered-put d _ _ g _ i v a (omega (arith, length-replicate {A = A} max_points d)) e (lt-ltb (label i) n (omega (arith, e))) t
 
-    pub labels-skip : (i v : ℕ) {a : List ℕ} → v ≡ label i → n ≤ v → AtLabels n g i a → AtLabels n g (i + 1) a
-    labels-skip i v {a} e h t = scattered-skip 0 _ _ g _ i a (le-ltb (label i) n (omega (arith, e))) t
+    pub labels-skip : (i v : ℕ) {a : List A} → v ≡ label i → n ≤ v → AtLabels n g i a → AtLabels n g (i + 1) a
+    labels-skip i v {a} e h t = scattered-skip d _ _ g _ i a (le-ltb (label i) n (omega (arith, e))) t
 
-    -- after the last rank: at each label below n what the ranks with that label made of 0
-    pub labels-column : (a : List ℕ) → n ≤ max_points → AtLabels n g n a → a ≡ column max_points 0 n (λ (s : ℕ). fold (turn (λ (k : ℕ). eqb (get_or labels k 0) s) g) 0 n)
+    -- after the last rank: at each label below n what the ranks with that label made of d
+    pub labels-column : (a : List A) → n ≤ max_points → AtLabels n g n a → a ≡ column max_points d n (λ (s : ℕ). fold (turn (λ (k : ℕ). eqb (get_or labels k 0) s) g) d n)
     labels-column a few t = filled n few (record {
       long = t.size;
-      done = λ s h. at_place s (omega arith) ∙ fold-ext (turn (has s) g) (turn (λ (k : ℕ). eqb (label k) s) g) 0 n (λ k l b. ap (λ (c : Bool). cond c (g k b) b) (all s h k));
+      done = λ s h. at_place s (omega arith) ∙ fold-ext (turn (has s) g) (turn (λ (k : ℕ). eqb (label k) s) g) d n (λ k l b. ap (λ (c : Bool). cond c (g k b) b) (all s h k));
       left = λ s h. rest s h (dec_lt s max_points);
     })
       where
@@ -49,8 +49,8 @@ module _ (labels : List ℕ) where
         has : ℕ → ℕ → Bool
         has = counts (λ (k : ℕ). label k) (λ (k : ℕ). ltb (label k) n)
 
-        at_place : (s : ℕ) → s < max_points → get_or a s 0 ≡ fold (turn (has s) g) 0 n
-        at_place s h = rw (replicate-at {A = ℕ} max_points 0 s) at (t.at s (omega (arith, length-replicate {A = ℕ} max_points 0)))
+        at_place : (s : ℕ) → s < max_points → get_or a s d ≡ fold (turn (has s) g) d n
+        at_place s h = rw (replicate-at {A = A} max_points d s) at (t.at s (omega (arith, length-replicate {A = A} max_points d)))
 
         all : (s : ℕ) → s < n → (k : ℕ) → has s k ≡ eqb (label k) s
         all s h k = and-under (eqb (label k) s) {y = true} (λ e. lt-ltb (label k) n (omega (arith, eqb-true (label k) s e))) ∙ and-true (eqb (label k) s)
@@ -61,7 +61,7 @@ module _ (labels : List ℕ) where
             let low = ltb-true (label k) n (and_parts (eqb (label k) s) (ltb (label k) n) e).1 in
             omega arith)
 
-        rest : (s : ℕ) → n ≤ s → Dec (s < max_points) → get_or a s 0 ≡ get_or (replicate max_points 0) s 0
-        rest s h (yes l) = at_place s l ∙ fold-kept (has s) g 0 n (none s h) ∙ sym (replicate-at {A = ℕ} max_points 0 s)
+        rest : (s : ℕ) → n ≤ s → Dec (s < max_points) → get_or a s d ≡ get_or (replicate max_points d) s d
+        rest s h (yes l) = at_place s l ∙ fold-kept (has s) g d n (none s h) ∙ sym (replicate-at {A = A} max_points d s)
         rest s h (no f) =
-            get_or-eq_default a 0 (omega (arith, f, t.size, length-replicate {A = ℕ} max_points 0)) ∙ sym (replicate-at {A = ℕ} max_points 0 s)
+            get_or-eq_default a d (omega (arith, f, t.size, length-replicate {A = A} max_points d)) ∙ sym (replicate-at {A = A} max_points d s)

@@ -1,14 +1,15 @@
 -- The lists of offsets that are in use, or will be: each offset is within 2, and with each stands its opposite. Assumes nothing.
-use mathlib.Core.Path.{◌≡◌, refl}
+use mathlib.Core.Path.{◌≡◌, refl, sym, ap, ◌∙◌}
 use mathlib.Core.Bool.{Bool, true}
 use mathlib.Core.List.{List, [], ◌∷◌}
 use Prim.Native.Nat.{ℕ, ◌<◌}
 use lib.ListN.{length, get_or}
 use native.Mathlib.Omega.{arith}
+use Rattle.std.proofs.lemmas.List.{get_or_default}
 use Rattle.folds.specs.Below.{some, every}
 use Rattle.folds.proofs.Below.{every-at}
 use Rattle.offsets.specs.declared.Offset.{Offset}
-use Rattle.offsets.specs.Offsets.{−1, +1, offset, own, next_u, prev_u, next_v, prev_v, square_sides, is_near, places}
+use Rattle.offsets.specs.Offsets.{−1, +1, offset, own, next_u, prev_u, next_v, prev_v, square_sides, is_near, place_of, places}
 use Rattle.offsets.proofs.Places.{place-below, places-long, places-at}
 use Rattle.patches.specs.Reach.{paired}
 use Rattle.patches.specs.Search.{AreNear, NearPlaces}
@@ -25,6 +26,14 @@ pub near-places : (sides : List Offset) → AreNear sides → NearPlaces (places
 near-places sides near i h =
     let l : i < length sides = omega (arith, places-long sides) in
     rw (places-at sides i l) (place-below (get_or sides i own) (near i l))
+
+-- the offset that a loop over a list is at, and its place
+module _ (sides : List Offset) (i : ℕ) (o : Offset) (h : i < length sides) (e : o ≡ get_or sides i o) where
+  pub item-is : o ≡ get_or sides i own
+  item-is = e ∙ get_or_default sides i o own h
+
+  pub item-place : get_or (places sides) i 0 ≡ place_of o
+  item-place = places-at sides i h ∙ ap place_of (sym item-is)
 
 -- ---- the square lattice
 

@@ -13,12 +13,12 @@ use borrow.Author.Count.{below_more}
 use lib.ListN.{length, get_or, set, length-set}
 use lib.Seq.{get_or-set_same, get_or-set_other}
 use Rattle.offsets.specs.declared.Offset.{Offset}
-use Rattle.offsets.specs.Offsets.{own, places}
-use Rattle.offsets.proofs.Places.{places-at}
+use Rattle.offsets.specs.Offsets.{places}
 use Rattle.view.specs.View.{View, max_points, rank_at}
 use Rattle.patches.specs.Patches.{survives, linked}
 use Rattle.patches.specs.Reach.{Reach, here, step}
 use Rattle.patches.specs.Search.{Visited, marks_set, Worklist, Visit, stays, pushed, Met, start_marks, unlabelled, Searching, SearchingIn, Advanced}
+use Rattle.patches.proofs.Lattices.{item-place}
 use Rattle.patches.proofs.Surviving.{survives-lt, start-open, start-alive, link-from, link-to, link-side, link-by}
 
 -- ---- the arrays
@@ -189,9 +189,9 @@ module _ {w : View} {sides : List ℕ} {s head : ℕ} {m l q : List ℕ} {t : �
 abbrev side : View → List ℕ → ℕ → ℕ → ℕ
 side w sides x i = w.near (25 * x + get_or sides i 0)
 
--- by the offset itself
-pub side-is : (w : View) (sides : List Offset) (x i : ℕ) → i < length sides → side w (places sides) x i ≡ rank_at w x (get_or sides i own)
-side-is w sides x i h = ap (λ d. w.near (25 * x + d)) (places-at sides i h)
+-- by the offset that a loop over the list is at
+pub side-is : (w : View) (sides : List Offset) (x i : ℕ) (o : Offset) → i < length sides → o ≡ get_or sides i o → side w (places sides) x i ≡ rank_at w x o
+side-is w sides x i o h e = ap (λ d. w.near (25 * x + d)) (item-place sides i o h e)
 
 -- while the entry x at head is expanded: its neighbours at the first d offsets are visited
 pub record Expanding (w : View) (sides : List ℕ) (s head x : ℕ) (m₀ l₀ q₀ : List ℕ) (t₀ : ℕ) (m l q : List ℕ) (t d : ℕ) : Type 0 where

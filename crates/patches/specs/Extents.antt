@@ -1,41 +1,41 @@
 -- How far cells and patches reach each way: one number that is greatest at an end of the box. These are the contracts of the inner functions
 -- of the boxes. Assumes nothing.
-use Rattle.std.specs.Prelude.{◌≡◌, Bool, not, ◌||◌, List, ℕ, ◌-◌, ◌/◌, ◌%◌, eqb, ltb, get_or}
+use Rattle.std.specs.Prelude.{Bool, not, ◌||◌, List, ℕ, ◌-◌, ◌/◌, ◌%◌, eqb, ltb, get_or}
 use Rattle.folds.specs.Below.{fold, turn}
 use Rattle.folds.specs.Column.{column}
 use Rattle.folds.specs.Scattered.{larger}
 use Rattle.view.specs.View.{max_points}
 use Rattle.cells.specs.Points.{stride}
-use Rattle.patches.specs.declared.boxes.Way.{Way}
-use Rattle.patches.specs.declared.boxes.Way.TheVariants.{MoreU, LessU, MoreV, LessV}
-use Rattle.patches.specs.declared.boxes.Extents.{Extents}
+use Rattle.patches.specs.declared.boxes.Extent.{Extent}
 
 -- the greatest that a part of a cell's key can be
 abbrev pub far_end : ℕ
 far_end = stride - 1
 
--- to greater u, to smaller u, to greater v, to smaller v
-abbrev pub extent : Way → ℕ → ℕ
-extent MoreU key = key / stride
-extent LessU key = far_end - key / stride
-extent MoreV key = key % stride
-extent LessV key = far_end - key % stride
+-- no cell
+abbrev pub nowhere : Extent
+nowhere = record { more_u = 0; less_u = 0; more_v = 0; less_v = 0 }
 
--- how far the patch of each label reaches one way
-abbrev pub farthest_of : ℕ → List ℕ → List ℕ → Way → List ℕ
-farthest_of n labels keys way = column max_points 0 n (λ (s : ℕ). fold (turn (λ (k : ℕ). eqb (get_or labels k 0) s) (larger (λ (k : ℕ). extent way (get_or keys k 0)))) 0 n)
+-- a cell: to greater u, to smaller u, to greater v, to smaller v
+abbrev pub extent : ℕ → Extent
+extent key = record { more_u = key / stride; less_u = far_end - key / stride; more_v = key % stride; less_v = far_end - key % stride }
 
--- the cell lies as far one way as the patch with label s reaches
-abbrev pub at_end : List ℕ → Way → ℕ → ℕ → Bool
-at_end far way s key = not (ltb (extent way key) (get_or far s 0))
+-- with one cell more: the farther each way
+abbrev pub extent_with : Extent → ℕ → Extent
+extent_with e key =
+    record {
+      more_u = larger (λ k. (extent k).more_u) key e.more_u;
+      less_u = larger (λ k. (extent k).less_u) key e.less_u;
+      more_v = larger (λ k. (extent k).more_v) key e.more_v;
+      less_v = larger (λ k. (extent k).less_v) key e.less_v;
+    }
 
--- each way, of the labels of n points
-pub record Reaching (n : ℕ) (labels keys : List ℕ) (far : Extents) : Type 0 where
-  pub more_u : far.more_u ≡ farthest_of n labels keys MoreU
-  pub less_u : far.less_u ≡ farthest_of n labels keys LessU
-  pub more_v : far.more_v ≡ farthest_of n labels keys MoreV
-  pub less_v : far.less_v ≡ farthest_of n labels keys LessV
+-- the patch of each label
+abbrev pub extents_of : ℕ → List ℕ → List ℕ → List Extent
+extents_of n labels keys = column max_points nowhere n (λ (s : ℕ). fold (turn (λ (k : ℕ). eqb (get_or labels k 0) s) (λ k e. extent_with e (get_or keys k 0))) nowhere n)
 
--- the cell lies as far as the patch with label s reaches, one of the ways
-abbrev pub at_some_end : Extents → ℕ → ℕ → Bool
-at_some_end far s key = at_end far.less_u LessU s key || (at_end far.more_u MoreU s key || (at_end far.less_v LessV s key || at_end far.more_v MoreV s key))
+-- the cell lies as far, one of the ways
+abbrev pub at_some_end : Extent → ℕ → Bool
+at_some_end e key =
+    not (ltb (extent key).less_u e.less_u)
+    || (not (ltb (extent key).more_u e.more_u) || (not (ltb (extent key).less_v e.less_v) || not (ltb (extent key).more_v e.more_v)))

@@ -5,11 +5,10 @@ pub mod boxes;
 mod labelled;
 mod search;
 
-ghost use Rattle.std.specs.Prelude.{◌≡◌, List, Float};
+ghost use Rattle.std.specs.Prelude.{◌≡◌};
 ghost use Rattle.offsets.specs.Offsets.{places, square_sides};
-ghost use Rattle.view.specs.View.{view_at};
+ghost use Rattle.view.specs.Seen.{WhereverSeen};
 ghost use Rattle.patches.specs.Patches.{patch_labels};
-ghost use Rattle.patches.specs.Search.{AreNear};
 
 use offsets::Offset;
 use search::Search;
@@ -27,14 +26,21 @@ pub fn square_sides() -> [Offset; 4]
     ]
 }
 
+// The table of ranks of so many points, and the offsets that lead over a shared edge.
+#[derive(Clone, Copy)]
+pub struct LinkedLattice<'a> {
+    pub lattice: Lattice<'a>,
+    pub sides: &'a [Offset],
+}
+
 // The label of each rank: the least rank of its patch; n where it does not survive.
-pub fn labels(lattice: &Lattice, dropped: &Marks, sides: &[Offset]) -> Places
-    requires { AreNear sides.now }
-    ensures { (xs ys : List Float) → result ≡ patch_labels (view_at lattice.now.count lattice.now.ranks.now xs ys) (places sides.now) dropped.now }
+pub fn labels(linked: &LinkedLattice, dropped: &Marks) -> Places
+    ensures { WhereverSeen linked.now.lattice (λ w. result ≡ patch_labels w (places linked.now.sides.now) dropped.now) }
 {
-    let mut search = Search::new(lattice.count, dropped);
-    for s in 0..lattice.count {
-        search.fill(lattice, sides, s);
+    let n = linked.lattice.count;
+    let mut search = Search::new(n, dropped);
+    for s in 0..n {
+        search.fill(linked, s);
     }
     search.label
 }

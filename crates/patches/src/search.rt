@@ -1,8 +1,8 @@
 // The search for patches, one after the other. See specs/Search.antt.
 ghost use Rattle.patches.specs.Search.{Worklist};
 
-use offsets::Offset;
-use view::{Lattice, MAX_POINTS, Marks, Places};
+use crate::LinkedLattice;
+use view::{MAX_POINTS, Marks, Places};
 
 // Which ranks have been put on the worklist, their labels, and the worklist with its length.
 #[derive(Drop)]
@@ -16,9 +16,7 @@ pub struct Search {
 
 impl Search {
     ghost use Rattle.std.specs.Prelude.{◌≡◌, ◌≤◌, ◌<◌, ◌+◌, replicate};
-    ghost use Rattle.offsets.specs.Offsets.{places};
     ghost use Rattle.view.specs.View.{max_points};
-    ghost use Rattle.patches.specs.Search.{AreNear};
     ghost use Rattle.patches.specs.Search.{start_marks, unlabelled};
     ghost use Rattle.patches.specs.Steps.{VisitOf, AdvancedOf};
 
@@ -52,28 +50,28 @@ impl Search {
     }
 
     // Visits each neighbour of the rank at `head` of the worklist.
-    fn expand(&mut self, lattice: &Lattice, sides: &[Offset], s: usize, head: usize)
-        requires { AreNear sides.now × (s < max_points) × (head < self.old.tail) }
-        ensures { AdvancedOf lattice.now (places sides.now) s head self.old s (head + 1) self.new }
+    fn expand(&mut self, linked: &LinkedLattice, s: usize, head: usize)
+        requires { (s < max_points) × (head < self.old.tail) }
+        ensures { AdvancedOf linked.now s head self.old s (head + 1) self.new }
     {
         let x = usize::from(self.queue[head]);
-        for o in sides {
-            if let Some(j) = lattice.neighbour(x, *o) {
+        for o in linked.sides {
+            if let Some(j) = linked.lattice.neighbour(x, *o) {
                 self.visit(s, j);
             }
         }
     }
 
     // Marks and labels the whole patch of rank s, if it has no mark yet.
-    pub fn fill(&mut self, lattice: &Lattice, sides: &[Offset], s: usize)
-        requires { AreNear sides.now × (s < max_points) }
-        ensures { AdvancedOf lattice.now (places sides.now) s self.old.tail self.old (s + 1) self.new.tail self.new }
+    pub fn fill(&mut self, linked: &LinkedLattice, s: usize)
+        requires { (s < max_points) }
+        ensures { AdvancedOf linked.now s self.old.tail self.old (s + 1) self.new.tail self.new }
     {
         let start = self.tail;
         self.visit(s, s);
         let mut head = start;
         while head < self.tail {
-            self.expand(lattice, sides, s, head);
+            self.expand(linked, s, head);
             head += 1;
         }
     }

@@ -1,4 +1,5 @@
 -- The answer is the same in whatever order a round visits its points. Assumes nothing.
+use Rattle.std.specs.List.{list_any, fold}
 use mathlib.Core.Path.{◌≡◌, refl, sym, ap, ◌∙◌, fun_ext}
 use mathlib.Core.Bool.{Bool, true, false, cond, ◌&&◌, ◌||◌, false≢true}
 use mathlib.Core.Logic.{⊎_elim}
@@ -12,9 +13,7 @@ use lib.Dec.{eqb}
 use lib.ListN.{length, get_or, set, replicate, length-set, length-replicate}
 use lib.Seq.{get_or-set_same, get_or-set_other}
 use Rattle.folds.proofs.Below.{some-yes, some_at}
-use Rattle.folds.specs.Lists.{over}
 use Rattle.folds.proofs.Lists.{length-list, list_at, is-list}
-use Rattle.folds.specs.Among.{any_in}
 use Rattle.folds.proofs.Column.{replicate-at}
 use Rattle.folds.specs.Marked.{bit}
 use Rattle.folds.proofs.Marked.{bit_is}
@@ -29,14 +28,14 @@ use Rattle.std.proofs.lemmas.Bool.{and_parts, or_cases}
 use Rattle.std.specs.Cmp.{both_ways}
 
 -- where some element passes, one does
-any-one : (t : ℕ → Bool) (l : List ℕ) → any_in t l ≡ true → (k : ℕ) × (t k ≡ true)
+any-one : (t : ℕ → Bool) (l : List ℕ) → list_any t l ≡ true → (k : ℕ) × (t k ≡ true)
 any-one t [] e = absurd (false≢true e)
-any-one t (a ∷ l) e = ⊎_elim (λ (h : t a ≡ true). (a, h)) (any-one t l) (or_cases (t a) (any_in t l) e)
+any-one t (a ∷ l) e = ⊎_elim (λ (h : t a ≡ true). (a, h)) (any-one t l) (or_cases (t a) (list_any t l) e)
 
 -- an element that passes
-any_of : (t : ℕ → Bool) (k : ℕ) (l : List ℕ) → any_in (eqb k) l ≡ true → t k ≡ true → any_in t l ≡ true
+any_of : (t : ℕ → Bool) (k : ℕ) (l : List ℕ) → list_any (eqb k) l ≡ true → t k ≡ true → list_any t l ≡ true
 any_of t k [] e h = absurd (false≢true e)
-any_of t k (a ∷ l) e h = ⊎_elim (λ (q : eqb k a ≡ true). rw (← eqb-true k a q, h)) (λ (q : any_in (eqb k) l ≡ true). rw (any_of t k l q h) (or-true (t a))) (or_cases (eqb k a) (any_in (eqb k) l) e)
+any_of t k (a ∷ l) e h = ⊎_elim (λ (q : eqb k a ≡ true). rw (← eqb-true k a q, h)) (λ (q : list_any (eqb k) l ≡ true). rw (any_of t k l q h) (or-true (t a))) (or_cases (eqb k a) (list_any (eqb k) l) e)
 
 module _ (n : ℕ) (by_idx : ℕ → ℕ) (ends : (ℕ → Bool) → ℕ → Bool) where
   -- a visited end has the index at place b
@@ -50,15 +49,13 @@ module _ (n : ℕ) (by_idx : ℕ → ℕ) (ends : (ℕ → Bool) → ℕ → Boo
       go true = length-set a (by_idx k) 1
       go false = refl
 
-  over-long : (g a visits : List ℕ) → length (over (visit n by_idx ends g) a visits) ≡ length a
-  unfolding over
+  over-long : (g a visits : List ℕ) → length (fold (visit n by_idx ends g) a visits) ≡ length a
   over-long g a [] = refl
   over-long g a (k ∷ l) = over-long g (visit n by_idx ends g a k) l ∙ visit-long g a k
 
-  over-at : (g a visits : List ℕ) (b : ℕ) → b < length a → get_or (over (visit n by_idx ends g) a visits) b 0 ≡ cond (any_in (hits g b) visits) 1 (get_or a b 0)
-  unfolding over
+  over-at : (g a visits : List ℕ) (b : ℕ) → b < length a → get_or (fold (visit n by_idx ends g) a visits) b 0 ≡ cond (list_any (hits g b) visits) 1 (get_or a b 0)
   over-at g a [] b h = refl
-  over-at g a (k ∷ l) b h = over-at g (visit n by_idx ends g a k) l b (omega (arith, visit-long g a k)) ∙ go (ends (is_set g) k) (any_in (hits g b) l)
+  over-at g a (k ∷ l) b h = over-at g (visit n by_idx ends g a k) l b (omega (arith, visit-long g a k)) ∙ go (ends (is_set g) k) (list_any (hits g b) l)
     where
       set_at : get_or (set a (by_idx k) 1) b 0 ≡ cond (eqb (by_idx k) b) 1 (get_or a b 0)
       set_at = elim (ℕ_discrete (by_idx k) b) [
@@ -88,9 +85,9 @@ module _ (n : ℕ) (by_idx : ℕ → ℕ) (ends : (ℕ → Bool) → ℕ → Boo
       e ∙ sym (ap (λ (m : ℕ). bit (eqb m 1)) e ∙ ap bit (bit_is (is_set (gone_after n by_idx ends r) b || goes n by_idx ends (is_set (gone_after n by_idx ends r)) b)))
 
   module _ (is : Ends n by_idx ends) where
-    any-goes : (g visits : List ℕ) (b : ℕ) → HasEach n visits → any_in (hits g b) visits ≡ goes n by_idx ends (is_set g) b
+    any-goes : (g visits : List ℕ) (b : ℕ) → HasEach n visits → list_any (hits g b) visits ≡ goes n by_idx ends (is_set g) b
     any-goes g visits b each =
-        both_ways (any_in (hits g b) visits) (goes n by_idx ends (is_set g) b)
+        both_ways (list_any (hits g b) visits) (goes n by_idx ends (is_set g) b)
         (λ e. let w = any-one (hits g b) visits e in some-yes (hits g b) n w.0 (is.rank (is_set g) w.0 (and_parts (ends (is_set g) w.0) _ w.1).0) w.1)
         (λ e. let w = some_at (hits g b) n e in any_of (hits g b) w.0 visits (each w.0 w.1) w.2)
 
@@ -99,9 +96,9 @@ module _ (n : ℕ) (by_idx : ℕ → ℕ) (ends : (ℕ → Bool) → ℕ → Boo
     unfolding round_by gone_after
     round_same visits each r =
         let g = gone_after n by_idx ends r in
-        is-list 0 n _ (over (visit n by_idx ends g) g visits) (over-long g g visits ∙ gone_long r) (λ b h.
+        is-list 0 n _ (fold (visit n by_idx ends g) g visits) (over-long g g visits ∙ gone_long r) (λ b h.
         over-at g g visits b (omega (arith, gone_long r))
-        ∙ ap (λ (m : ℕ). cond (any_in (hits g b) visits) 1 m) (gone-bit r b h)
+        ∙ ap (λ (m : ℕ). cond (list_any (hits g b) visits) 1 m) (gone-bit r b h)
         ∙ ap (λ (t : Bool). cond t 1 (bit (is_set g b))) (any-goes g visits b each)
         ∙ marked (is_set g b) (goes n by_idx ends (is_set g) b))
       where

@@ -1,13 +1,14 @@
 -- Small sheets by computation, and for each condition of a theorem the smallest case that fails without it. Assumes nothing.
+use Rattle.std.specs.List.{fold}
 use mathlib.Core.Path.{◌≡◌, refl}
-use mathlib.Core.Bool.{cond, ◌&&◌}
+use mathlib.Core.Bool.{cond}
 use mathlib.Core.List.{List, [], ◌∷◌}
-use Prim.Native.Nat.{ℕ, ◌+◌, ◌/◌, ◌%◌}
+use Prim.Native.Nat.{ℕ}
 use lib.Dec.{eqb}
 use lib.Ieee.{nan}
 use lib.ListN.{take}
 use Rattle.folds.specs.Below.{some, tally, first, first_in}
-use Rattle.folds.specs.Lists.{up_from, list_of, over}
+use Rattle.folds.specs.Lists.{up_from, list_of}
 use Rattle.folds.specs.Column.{column}
 use Rattle.offsets.specs.Offsets.{square_sides, places}
 use Rattle.view.specs.View.{View}
@@ -77,7 +78,7 @@ crossed = refl
 -- two cells side by side: each round visits the second, the first, and the second again; each round visits the first alone
 visited : (shown 2 (peeled_by (λ r. 1 ∷ 0 ∷ 1 ∷ []) (sheet (2 ∷ 3 ∷ []) (2 ∷ 2 ∷ []) (0 ∷ 1 ∷ [])) (places square_sides) [] (1 ∷ 1 ∷ [])) ≡ 1 ∷ 1 ∷ 1 ∷ [])
     × (shown 2 (peeled_by (λ r. 0 ∷ []) (sheet (2 ∷ 3 ∷ []) (2 ∷ 2 ∷ []) (0 ∷ 1 ∷ [])) (places square_sides) [] (1 ∷ 1 ∷ [])) ≡ 2 ∷ 1 ∷ 0 ∷ [])
-unfolding sheet first first_in list_of up_from some tally column live_sides leaf over round_by gone_by rounds_in peeled_in peeled_by
+unfolding sheet first first_in list_of up_from some tally column live_sides leaf round_by gone_by rounds_in peeled_in peeled_by
 visited = (refl, refl)
 
 -- a side that is none of the 25 places: two tables that differ after 25 entries alone

@@ -1,10 +1,9 @@
 -- What the theorems on weak ends say. Assumes nothing.
+use Rattle.std.specs.List.{list_any, fold}
 use Rattle.std.specs.Prelude.{◌≡◌, Bool, true, cond, not, ◌&&◌, List, eqb, length, get_or, set}
 use Prim.Native.Nat.{ℕ, zero, suc, ◌+◌, ◌*◌, ◌<◌}
 use Rattle.std.proofs.Math.ListN.{replicate}
 use Rattle.folds.specs.Below.{tally}
-use Rattle.folds.specs.Lists.{over}
-use Rattle.folds.specs.Among.{any_in}
 use Rattle.view.specs.View.{View}
 use Rattle.marks.specs.Marks.{is_set}
 use Rattle.patches.specs.Patches.{survives}
@@ -40,8 +39,7 @@ module _ (n : ℕ) (by_idx : ℕ → ℕ) (ends : (ℕ → Bool) → ℕ → Boo
 
   -- a round that visits ranks one after the other, each in the state at the round's start
   unfoldable pub round_by : List ℕ → List ℕ → List ℕ
-  unfolding over
-  round_by visits g = over (visit g) g visits
+  round_by visits g = fold (visit g) g visits
 
   -- after r rounds, where each visits ranks in an order of its own
   unfoldable pub gone_by : (ℕ → List ℕ) → ℕ → List ℕ
@@ -55,4 +53,4 @@ peeled_by orders w sides dropped weak = peeled_in w.count w.by_idx (leaf_of w si
 
 -- the list has each rank below n, in any order, and may have some more than once
 abbrev pub HasEach : ℕ → List ℕ → Type 0
-HasEach n visits = (k : ℕ) → k < n → any_in (eqb k) visits ≡ true
+HasEach n visits = (k : ℕ) → k < n → list_any (eqb k) visits ≡ true

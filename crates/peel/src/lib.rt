@@ -3,12 +3,12 @@
 
 mod links;
 mod removals;
+mod round;
 mod state;
 
-ghost use Rattle.std.specs.Prelude.{◌≡◌, true, List, Float};
+ghost use Rattle.std.specs.Prelude.{◌≡◌, true};
 ghost use Rattle.offsets.specs.Offsets.{places};
-ghost use Rattle.view.specs.View.{view_at};
-ghost use Rattle.view.specs.Seen.{lattice_in};
+ghost use Rattle.view.specs.Seen.{lattice_in, WhereverSeen};
 ghost use Rattle.patches.specs.Reach.{Mirrored, paired};
 ghost use Rattle.patches.specs.Search.{AreNear};
 ghost use Rattle.peel.specs.Peel.{peeled_of};
@@ -16,6 +16,7 @@ ghost use Rattle.peel.specs.Peel.{peeled_of};
 use links::Links;
 use offsets::Offset;
 use removals::Removals;
+use round::Round;
 use state::states;
 use view::{Marks, SheetLattice};
 
@@ -35,19 +36,26 @@ pub fn weak_leaf_peel(
     sides: &[Offset],
 ) -> Peeled
     requires { AreNear sides.now × (paired (places sides.now) ≡ true) × Mirrored sheet.now.lattice.count (lattice_in sheet.now.lattice).near }
-    ensures { (xs ys : List Float) → result ≡ peeled_of (view_at sheet.now.lattice.count sheet.now.lattice.ranks.now xs ys) (places sides.now) dropped.now weak.now }
+    ensures { WhereverSeen sheet.now.lattice (λ w. result ≡ peeled_of w (places sides.now) dropped.now weak.now) }
 {
     let links = Links::new(sheet, sides);
     let mut state = states(dropped, weak, sheet.lattice.count);
     let mut gone = Removals::new();
-    gone.scan(&links, &state);
+    gone.scan(&Round {
+        links: &links,
+        state: &state,
+    });
     let mut from = 0;
     let mut rounds = 0;
     while from < gone.tail {
         let end = gone.tail;
         rounds += 1;
         gone.remove(from, &mut state);
-        gone.look(&links, &state, from);
+        let round = Round {
+            links: &links,
+            state: &state,
+        };
+        gone.look(&round, from);
         from = end;
     }
     Peeled {

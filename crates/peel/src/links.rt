@@ -1,8 +1,6 @@
 // The links of points: over shared edges, and to the points with the same index.
-ghost use Rattle.patches.specs.Search.{AreNear};
 ghost use Rattle.peel.specs.Work.{Chained};
 
-use crate::state::States;
 use offsets::Offset;
 use view::{MAX_POINTS, SheetLattice};
 
@@ -14,18 +12,14 @@ pub struct Links<'a> {
     pub sides: &'a [Offset],
     last: [Option<u16>; MAX_POINTS],
     before: [Option<u16>; MAX_POINTS],
-    ghost near: { AreNear sides.now },
     ghost chained: { Chained sheet.lattice.ranks.now sheet.lattice.count last before },
 }
 
 impl<'a> Links<'a> {
     ghost use Rattle.std.specs.Prelude.{◌≡◌, ◌<◌};
-    ghost use Rattle.patches.specs.Search.{AreNear};
     ghost use Rattle.peel.specs.Work.{with_index, last_below, index_at};
-    ghost use Rattle.peel.specs.Steps.{leaf_in};
 
     pub fn new(sheet: &SheetLattice<'a>, sides: &'a [Offset]) -> Links<'a>
-        requires { AreNear sides.now }
         ensures sheet { result.sheet ≡ sheet.now }
         ensures sides { result.sides.now ≡ sides.now }
     {
@@ -58,22 +52,5 @@ impl<'a> Links<'a> {
         ensures { result ≡ last_below (with_index self.now.sheet.lattice.ranks.now (index_at self.now.sheet.lattice.ranks.now k)) k }
     {
         self.before[k].map(usize::from)
-    }
-
-    // Rank k is live and weak, and has at most one live neighbour.
-    pub fn is_leaf(&self, state: &States, k: usize) -> bool
-        requires { k < self.now.sheet.lattice.count }
-        ensures { result ≡ leaf_in self.now state.now k }
-    {
-        if !state[k].is_weak() {
-            return false;
-        }
-        let mut count = 0;
-        for o in self.sides {
-            if let Some(j) = self.sheet.lattice.neighbour(k, *o) {
-                count += usize::from(state[j].is_live());
-            }
-        }
-        count < 2
     }
 }

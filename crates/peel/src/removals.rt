@@ -1,7 +1,7 @@
 // The search of each round for what goes in it. See specs/Work.antt.
 ghost use Rattle.peel.specs.Work.{Queued};
 
-use crate::links::Links;
+use crate::round::Round;
 use crate::state::{State, States};
 use view::{MAX_POINTS, Marks, Places};
 
@@ -46,49 +46,49 @@ impl Removals {
     }
 
     // If rank k is an end and has no mark, each rank of its index goes.
-    fn consider(&mut self, links: &Links, state: &States, k: usize)
-        requires { (k < links.now.sheet.lattice.count) × whole_in links.now self.old }
-        ensures { SearchedBy links.now state.now (λ (j : ℕ). j ≡ k) self.old self.new }
+    fn consider(&mut self, round: &Round, k: usize)
+        requires { (k < round.now.links.now.sheet.lattice.count) × whole_in round.now self.old }
+        ensures { SearchedBy round.now (λ (j : ℕ). j ≡ k) self.old self.new }
     {
-        if self.marks[k] == 1 || !links.is_leaf(state, k) {
+        if self.marks[k] == 1 || !round.is_leaf(k) {
             return;
         }
-        let mut next = links.last(k);
+        let mut next = round.links.last(k);
         while let Some(x) = next {
             self.put(x);
-            next = links.before(x);
+            next = round.links.before(x);
         }
     }
 
     // Considers each rank at a side of rank x. These are the ranks that have x at a side of theirs.
-    fn around(&mut self, links: &Links, state: &States, x: usize)
-        requires { (x < max_points) × whole_in links.now self.old }
-        ensures { SearchedBy links.now state.now (beside_in links.now x) self.old self.new }
+    fn around(&mut self, round: &Round, x: usize)
+        requires { (x < max_points) × whole_in round.now self.old }
+        ensures { SearchedBy round.now (beside_in round.now x) self.old self.new }
     {
-        for o in links.sides {
-            if let Some(k) = links.sheet.lattice.neighbour(x, *o) {
-                self.consider(links, state, k);
+        for o in round.links.sides {
+            if let Some(k) = round.links.sheet.lattice.neighbour(x, *o) {
+                self.consider(round, k);
             }
         }
     }
 
     // Finds the ends of a round: only beside the ranks that went in the round before, which stand on the queue from `from` on, can there be a new one.
-    pub fn look(&mut self, links: &Links, state: &States, from: usize)
-        requires { whole_in links.now self.old }
-        ensures { SearchedBy links.now state.now (beside_queued_in links.now self.old.queue from self.old.tail) self.old self.new }
+    pub fn look(&mut self, round: &Round, from: usize)
+        requires { whole_in round.now self.old }
+        ensures { SearchedBy round.now (beside_queued_in round.now self.old.queue from self.old.tail) self.old self.new }
     {
         for p in from..self.tail {
-            self.around(links, state, usize::from(self.queue[p]));
+            self.around(round, usize::from(self.queue[p]));
         }
     }
 
     // Finds the ends of the first round.
-    pub fn scan(&mut self, links: &Links, state: &States)
-        requires { whole_in links.now self.old }
-        ensures { SearchedBy links.now state.now (λ (k : ℕ). k < links.now.sheet.lattice.count) self.old self.new }
+    pub fn scan(&mut self, round: &Round)
+        requires { whole_in round.now self.old }
+        ensures { SearchedBy round.now (λ (k : ℕ). k < round.now.links.now.sheet.lattice.count) self.old self.new }
     {
-        for k in 0..links.sheet.lattice.count {
-            self.consider(links, state, k);
+        for k in 0..round.links.sheet.lattice.count {
+            self.consider(round, k);
         }
     }
 
@@ -97,8 +97,8 @@ impl Removals {
         requires { from ≤ self.now.tail }
         ensures { Removed self.now.queue from self.now.tail state.old state.new }
     {
-        for p in from..self.tail {
-            state[usize::from(self.queue[p])] = State::Dead;
+        for x in &self.queue[from..self.tail] {
+            state[usize::from(*x)] = State::Dead;
         }
     }
 }

@@ -1,4 +1,5 @@
 -- The conditions of numbers 8, 9 and 14, on neighbours in the order of the cells, and of the indices. Assumes nothing.
+use Rattle.std.specs.List.{list_any}
 use mathlib.Core.Path.{◌≡◌, refl, sym, ◌∙◌}
 use mathlib.Core.Bool.{Bool, true, false, not, ◌&&◌, ◌||◌, true≢false}
 use mathlib.Core.List.{List}
@@ -7,7 +8,7 @@ use native.Mathlib.Omega.{arith}
 use lib.Dec.{eqb}
 use lib.ListN.{get_or}
 use borrow.Author.Tests.{eqb-true, eq-eqb, ne_eqb}
-use Rattle.folds.specs.Among.{any_in, pair_in}
+use Rattle.folds.specs.Among.{pair_in}
 use Rattle.folds.proofs.Among.{any-list, pair-ext}
 use Rattle.folds.specs.Below.{some}
 use Rattle.folds.proofs.Below.{some-ext, some-fails}
@@ -21,7 +22,7 @@ use Rattle.sheet_file.proofs.Words.{le32-small}
 use Rattle.sort.specs.Packed.{entries_of, packed_places, placed}
 use Rattle.points.specs.Records.{ith_point, points_in}
 use Rattle.points.specs.Refusals.{off_range, same_cell, same_position, same_strength}
-use Rattle.points.specs.Entries.{clash, Likeness, never}
+use Rattle.points.specs.Entries.{clash, Likeness}
 use Rattle.sort.proofs.Entries.{entry_at}
 use Rattle.points.proofs.Ordering.{entry_key}
 use Rattle.points.proofs.Neighbours.{eqb_swap, sorted-neighbours}
@@ -39,6 +40,10 @@ same-through p q r a b =
 strength-through : (p q r : Point) → same_strength p q ≡ true → same_strength q r ≡ true → same_strength p r ≡ true
 strength-through p q r a b = eq-eqb p.strength r.strength (eqb-true p.strength q.strength a ∙ eqb-true q.strength r.strength b)
 
+-- no two points of one cell may stand together
+abbrev pub never : Point → Point → Bool
+never p q = false
+
 -- two points of one cell may never stand together; of one index those with one position may, and those with one strength
 pub never_alike : Likeness never
 never_alike = record { through = λ p q r a b. a; back = λ p q. refl }
@@ -51,7 +56,7 @@ strength_alike = record { through = strength-through; back = λ p q. eqb_swap p.
 
 module _ (file : List ℕ) (f : Layout) where
   -- a test of the points, one by one
-  pub any-listed : (t : Point → Bool) → any_in t (points_in file f) ≡ some (λ (i : ℕ). t (ith_point file f i)) f.count
+  pub any-listed : (t : Point → Bool) → list_any t (points_in file f) ≡ some (λ (i : ℕ). t (ith_point file f i)) f.count
   unfolding points_in
   any-listed t = any-list (ith_point file f) f.count t
 
@@ -119,14 +124,14 @@ cells-by-key p q r t = both_ways (same_cell p q) (eqb (key_of p) (key_of q) && t
 
 module _ (file : List ℕ) (f : Layout) where
   -- no point has a fault
-  pub none-off : (t : Point → Bool) → any_in t (points_in file f) ≡ false → (i : ℕ) → i < f.count → t (ith_point file f i) ≡ false
+  pub none-off : (t : Point → Bool) → list_any t (points_in file f) ≡ false → (i : ℕ) → i < f.count → t (ith_point file f i) ≡ false
   unfolding points_in
   none-off t e i h = some-fails (λ (k : ℕ). t (ith_point file f k)) f.count (sym (any-list (ith_point file f) f.count t) ∙ e) i h
 
-  pub all-ranged : Bytes file → any_in off_range (points_in file f) ≡ false → (i : ℕ) → i < f.count → Ranged (ith_point file f i)
+  pub all-ranged : Bytes file → list_any off_range (points_in file f) ≡ false → (i : ℕ) → i < f.count → Ranged (ith_point file f i)
   all-ranged b e i h = ranged (ith_point file f i) (le32-small file b (f.points + 20 * i)) (le32-small file b (f.points + 20 * i + 4)) (none-off off_range e i h)
 
-  pub same-cells : Bytes file → any_in off_range (points_in file f) ≡ false → pair_in same_cell (points_in file f) ≡ pair_in (clash key_of never) (points_in file f)
+  pub same-cells : Bytes file → list_any off_range (points_in file f) ≡ false → pair_in same_cell (points_in file f) ≡ pair_in (clash key_of never) (points_in file f)
   unfolding points_in
   same-cells b e =
       pair-ext (ith_point file f) f.count same_cell (clash key_of never)

@@ -3,4 +3,3 @@ pub mod Ordering
 pub mod Neighbours
 pub mod Clashes
 pub mod Columns
-pub mod Rulings

@@ -1,7 +1,6 @@
 -- How the code goes about it: each point is one number, an entry, of its key and its place in the file; entries are sorted, and pairs are
 -- found among neighbours. Assumes nothing.
-use Rattle.std.specs.Prelude.{◌≡◌, Bool, true, false, not, ◌&&◌, List, ℕ, ◌%◌, ◌<◌, eqb, get_or}
-use Rattle.cells.specs.Points.{Point}
+use Rattle.std.specs.Prelude.{◌≡◌, Bool, true, not, ◌&&◌, List, ℕ, ◌%◌, ◌<◌, eqb, get_or}
 use Rattle.sort.specs.Packed.{packed_places}
 
 -- each entry's place is that of a point
@@ -17,7 +16,3 @@ module _ {A : Type 0} where
   pub record Likeness (same : A → A → Bool) : Type 0 where
     pub through : (p q r : A) → same p q ≡ true → same q r ≡ true → same p r ≡ true
     pub back : (p q : A) → same p q ≡ same q p
-
--- no two points of one cell may stand together
-abbrev pub never : Point → Point → Bool
-never p q = false

@@ -1,6 +1,6 @@
 -- The points that the code's struct holds, and their order. Assumes nothing.
+use Rattle.std.specs.List.{list_any}
 use Rattle.std.specs.Prelude.{◌≡◌, false, List, ℕ, ◌%◌, get_or}
-use Rattle.folds.specs.Among.{any_in}
 use Rattle.cells.specs.Points.{Point, key_of}
 use Rattle.sort.specs.Packed.{packed_places, entries_of}
 use Rattle.sheet_file.specs.Bytes.{Bytes}
@@ -27,7 +27,7 @@ Ordered o key = o.entries ≡ entries_of o.points.layout.count (λ (i : ℕ). ke
 -- it is that of the cells, and the points have no fault of number 6, 7 or 13
 pub record InCellOrder (o : Order) : Type 0 where
   pub bytes : Bytes o.points.file.now
-  pub in-range : any_in off_range (listed o.points) ≡ false
-  pub in-limit : any_in off_limit (listed o.points) ≡ false
-  pub strengths : any_in off_strength (listed o.points) ≡ false
+  pub in-range : list_any off_range (listed o.points) ≡ false
+  pub in-limit : list_any off_limit (listed o.points) ≡ false
+  pub strengths : list_any off_strength (listed o.points) ≡ false
   pub ordered : Ordered o key_of

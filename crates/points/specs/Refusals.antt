@@ -1,7 +1,8 @@
 -- The conditions of the numbers 6, 7, 13, 8, 9 and 14 on the points of a file, in the order in which it lists them, and the points in cell order.
 -- Assumes nothing.
+use Rattle.std.specs.List.{list_any}
 use Rattle.std.specs.Prelude.{Bool, true, false, not, ◌&&◌, ◌||◌, List, [], ◌∷◌, ℕ, eqb, ltb}
-use Rattle.folds.specs.Among.{any_in, pair_in}
+use Rattle.folds.specs.Among.{pair_in}
 use Rattle.folds.specs.Arith.{f32}
 use Rattle.sort.specs.Sorted.{sort}
 use Rattle.refusals.specs.First.{Condition, number_in}
@@ -51,9 +52,9 @@ two_strengths p q = eqb p.index q.index && not (same_strength p q)
 -- the refusals of a list of points with a fraction, in their order
 unfoldable pub point_refusals : Fraction → List Point → List Condition
 point_refusals x ps =
-    (6, any_in off_range ps)
-    ∷ (7, any_in off_limit ps)
-    ∷ (13, off_fraction x || any_in off_strength ps)
+    (6, list_any off_range ps)
+    ∷ (7, list_any off_limit ps)
+    ∷ (13, off_fraction x || list_any off_strength ps)
     ∷ (8, pair_in same_cell ps)
     ∷ (9, pair_in two_positions ps)
     ∷ (14, pair_in two_strengths ps)

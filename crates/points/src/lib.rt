@@ -1,14 +1,16 @@
 // The points of a sheet file: the refusals 6, 7, 13, 8, 9 and 14, and the points in cell order.
 #![tactic(auto)]
 
+ghost use Rattle.std.specs.List.{list_any};
 ghost use Rattle.std.specs.Prelude.{◌≡◌, false, not, ◌||◌, ℕ, Bool, ◌+◌, ◌*◌, ◌/◌, ◌%◌, ◌≤◌, ◌<◌, length, get_or};
-ghost use Rattle.folds.specs.Among.{any_in, pair_in};
+ghost use Rattle.folds.specs.Among.{pair_in};
 ghost use Rattle.folds.specs.Arith.{f32};
 ghost use Rattle.cells.specs.Points.{Point, key_of};
 ghost use Rattle.sort.specs.Packed.{packed_places};
+ghost use Rattle.sheet_file.specs.Bytes.{Bytes};
 ghost use Rattle.points.specs.Records.{points_in, PointsFit};
-ghost use Rattle.points.specs.Refusals.{off_range, off_limit, off_strength, off_fraction, same_position, two_positions, two_strengths, cell_order};
-ghost use Rattle.points.specs.Entries.{Likeness, clash, never};
+ghost use Rattle.points.specs.Refusals.{same_cell, off_range, off_limit, off_strength, off_fraction, same_position, two_positions, two_strengths, cell_order};
+ghost use Rattle.points.specs.Entries.{Likeness, clash};
 ghost use Rattle.points.specs.Held.{nth, listed, at_rank, Ordered};
 ghost use Rattle.points.specs.Table.{Tabled, TableFor};
 
@@ -94,7 +96,7 @@ impl Points<'_> {
     // Whether a point has a fault.
     fn any<F: Fn(usize) -> bool>(&self, fault: F) -> bool
         requires { (i : ℕ) → i < self.now.layout.count → F.pre fault i }
-        ensures { (t : Point → Bool) → ((i : ℕ) (r : Bool) → i < self.now.layout.count → F.post fault i r → r ≡ t (nth self.now i)) → result ≡ any_in t (listed self.now) }
+        ensures { (t : Point → Bool) → ((i : ℕ) (r : Bool) → i < self.now.layout.count → F.post fault i r → r ≡ t (nth self.now i)) → result ≡ list_any t (listed self.now) }
     {
         for i in 0..self.layout.count {
             if fault(i) {
@@ -106,19 +108,19 @@ impl Points<'_> {
 
     // Numbers 6, 7 and 13.
     fn any_off_range(&self) -> bool
-        ensures { result ≡ any_in off_range (listed self.now) }
+        ensures { result ≡ list_any off_range (listed self.now) }
     {
         self.any(|i| self.is_off_range(i))
     }
 
     fn any_off_limit(&self) -> bool
-        ensures { result ≡ any_in off_limit (listed self.now) }
+        ensures { result ≡ list_any off_limit (listed self.now) }
     {
         self.any(|i| self.is_off_limit(i))
     }
 
     fn any_off_strength(&self, fraction: Fraction) -> bool
-        ensures { result ≡ off_fraction fraction || any_in off_strength (listed self.now) }
+        ensures { result ≡ off_fraction fraction || list_any off_strength (listed self.now) }
     {
         matches!(fraction, Fraction::Outside)
             || self.any(|i| sheet_file::is_outside_bits(self.strength(i)))
@@ -152,7 +154,8 @@ impl Order<'_> {
         requires { r < self.now.points.layout.count }
         ensures { result ≡ get_or self.now.entries r 0 / packed_places }
     {
-        self.entries[r] / sort::PACKED_PLACES
+        let entries = &self.entries;
+        entries[r].key()
     }
 
     // Its place in the file.
@@ -160,7 +163,8 @@ impl Order<'_> {
         requires { r < self.now.points.layout.count }
         ensures { (result ≡ get_or self.now.entries r 0 % packed_places) × (result < self.now.points.layout.count) }
     {
-        (self.entries[r] % sort::PACKED_PLACES) as usize
+        let entries = &self.entries;
+        entries[r].place()
     }
 
     // Whether two points with one key are apart.
@@ -179,7 +183,7 @@ impl Order<'_> {
     // Numbers 8, 9 and 14.
     fn any_same_cell(&self) -> bool
         requires { Ordered self.now key_of }
-        ensures { result ≡ pair_in (clash key_of never) (listed self.now.points) }
+        ensures { Bytes self.now.points.file.now → list_any off_range (listed self.now.points) ≡ false → result ≡ pair_in same_cell (listed self.now.points) }
     {
         self.any_apart(|_, _| true)
     }
@@ -272,6 +276,7 @@ pub struct Table {
 }
 
 // The points of a file whose fields stand so, with its fraction; or one of the refusals 6, 7, 13, 8, 9 and 14.
+#[tactic(auto, unfolding(crate::specs::Refusals::number_for, crate::specs::Refusals::point_refusals))]
 pub fn read(file: &[u8], f: Layout, fraction: Fraction) -> Result<Table, Refusal>
     requires { PointsFit file.now f }
     ensures { TableFor fraction (points_in file.now f) result }

@@ -3,6 +3,7 @@ ghost use Rattle.points.specs.Records.{PointsFit};
 ghost use Rattle.points.specs.Entries.{Placed};
 
 use sheet_file::Layout;
+use sort::Entry;
 use view::MAX_POINTS;
 
 // The points of a file whose fields stand so.
@@ -13,10 +14,10 @@ pub struct Points<'a> {
     ghost fit: { PointsFit file.now layout },
 }
 
-// And in the order of a key: the key and the place in the file of each are one number.
+// And in the order of a key: an entry of each, with its place in the file.
 #[derive(Drop)]
 pub struct Order<'a> {
     pub points: Points<'a>,
-    pub entries: [u64; MAX_POINTS],
+    pub entries: [Entry; MAX_POINTS],
     ghost placed: { Placed entries points.layout.count },
 }

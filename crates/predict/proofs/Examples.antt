@@ -1,5 +1,6 @@
 -- The theorems at the square list of offsets and at the honeycomb's, and for each condition the smallest case that fails without it; and the rule
 -- itself with numbers. By computation. Assumes nothing.
+use Rattle.std.specs.List.{list_any}
 use mathlib.Core.Path.{◌≡◌, refl, sym, ap, ◌∙◌}
 use mathlib.Core.Bool.{Bool, true, false, cond, not}
 use mathlib.Core.Logic.{◌⊎◌, inl, inr}
@@ -10,7 +11,6 @@ use lib.IntN.{pos, negsuc}
 use lib.Dec.{eqb}
 use lib.Ieee.{Float, lt, of_bits, of_int, add, mul, div}
 use lib.ListN.{length}
-use Rattle.folds.specs.Among.{any_in}
 use Rattle.folds.specs.Arith.{f32, zero_f, ◌⊕◌, ◌⊗◌, ◌⊘◌}
 use Rattle.folds.specs.Below.{some, every, tally, sum_of}
 use Rattle.folds.proofs.Below.{every-at}
@@ -32,7 +32,7 @@ use Rattle.predict.proofs.Theorems.{square-opposed, half-of-offsets, no-pair-exa
 
 -- the points at these offsets, and those at all offsets but the cell's own
 abbrev kept : List Offset → Offset → Bool
-kept l o = any_in (λ (p : Offset). eqb (place_of p) (place_of o)) l
+kept l o = list_any (λ (p : Offset). eqb (place_of p) (place_of o)) l
 
 abbrev all_round : Offset → Bool
 all_round o = not (eqb (place_of o) (place_of own))

@@ -21,8 +21,8 @@ module _ (w : View) (marks : List ℕ) (k : ℕ) (sides : List Offset) where
   unfolding tally sum_of
   sums_none = refl
 
-  pub sums-more : (i : ℕ) → sums_with w marks k (side_at sides i) (sums_to w marks k sides i) ≡ sums_to w marks k sides (i + 1)
-  sums-more i = go (pair i) refl
+  pub sums-more : (i : ℕ) (o : Offset) → o ≡ side_at sides i → sums_with w marks k o (sums_to w marks k sides i) ≡ sums_to w marks k sides (i + 1)
+  sums-more i o same = rw same (go (pair i) refl)
     where
       go : (b : Bool) → pair i ≡ b → sums_with w marks k (side_at sides i) (sums_to w marks k sides i) ≡ sums_to w marks k sides (i + 1)
       go true e = rw (tally-more, sum_more pair (midpoint sides (value_at w w.x k)) i, sum_more pair (midpoint sides (value_at w w.y k)) i, e)

@@ -1,5 +1,5 @@
 -- The sums over the first offsets of a list: the contracts of the inner functions. Assumes nothing.
-use Rattle.std.specs.Prelude.{Bool, cond, ◌&&◌, List, ℕ, ◌+◌, ◌<◌, None, Some, eqb, pos, Float, length}
+use Rattle.std.specs.Prelude.{Bool, cond, ◌&&◌, List, ℕ, ◌+◌, None, Some, eqb, pos, Float}
 use Rattle.std.specs.Float.{binary32}
 use Rattle.std.specs.Float.Ieee.{of_int}
 use Rattle.folds.specs.Arith.{◌⊕◌, ◌⊗◌, ◌⊘◌}
@@ -7,15 +7,9 @@ use Rattle.folds.specs.Below.{tally, sum_of}
 use Rattle.float.specs.Constants.{half}
 use Rattle.offsets.specs.declared.Offset.{Offset}
 use Rattle.view.specs.View.{View}
-use Rattle.patches.specs.Search.{AreNear}
 use Rattle.predict.specs.Predict.{Prediction, opposite, is_forward, midpoint, is_pair}
 use Rattle.predict.specs.Fills.{kept_at, value_at}
 use Rattle.predict.specs.declared.sums.Sums.{Sums}
-
--- what a caller sees to: each offset is within 2, and there are few enough to count in a byte
-pub record FewSides (sides : List Offset) : Type 0 where
-  pub near : AreNear sides
-  pub few : length sides < 256
 
 module _ (w : View) (marks : List ℕ) (k : ℕ) where
   -- the points at offset o and at its opposite are a pair

@@ -4,15 +4,14 @@
 mod kept;
 mod sums;
 
-ghost use Rattle.std.specs.Prelude.{◌≡◌, ◌<◌};
+ghost use Rattle.std.specs.Prelude.{◌≡◌, ◌<◌, length};
 ghost use Rattle.view.specs.View.{max_points};
 ghost use Rattle.view.specs.Seen.{seen_in};
 ghost use Rattle.predict.specs.Fills.{prediction_at, fills_of};
-ghost use Rattle.predict.specs.Sums.{FewSides};
 
 use kept::Kept;
 use offsets::Offset;
-use view::{Lattice, MAX_POINTS, Marks, Positions};
+use view::{MAX_POINTS, Marks, SeenLattice};
 
 // The average of the midpoints of the opposite pairs, and how many there are.
 #[derive(Clone, Copy)]
@@ -27,33 +26,32 @@ pub type Fills = [Option<PredictedPosition>; MAX_POINTS];
 
 // What is predicted for the cell of rank k from the points without a mark, if there is a pair.
 pub fn predict_grid_position(
-    lattice: &Lattice,
-    seen: &Positions,
+    points: &SeenLattice,
     marks: &Marks,
     sides: &[Offset],
     k: usize,
 ) -> Option<PredictedPosition>
-    requires { (k < max_points) × FewSides sides.now }
-    ensures { result ≡ prediction_at (seen_in lattice.now seen.now) sides.now marks.now k }
+    requires { (k < max_points) × (length sides.now < 256) }
+    ensures { result ≡ prediction_at (seen_in points.now) sides.now marks.now k }
 {
     let kept = Kept {
-        lattice,
-        seen,
+        points: *points,
         marks,
+        sides,
     };
-    kept.prediction(sides, k)
+    kept.prediction(k)
 }
 
 // The fills of all points.
 #[inline(never)]
-pub fn fills(lattice: &Lattice, seen: &Positions, marks: &Marks, sides: &[Offset]) -> Fills
-    requires { FewSides sides.now }
-    ensures { result ≡ fills_of (seen_in lattice.now seen.now) sides.now marks.now }
+pub fn fills(points: &SeenLattice, marks: &Marks, sides: &[Offset]) -> Fills
+    requires { length sides.now < 256 }
+    ensures { result ≡ fills_of (seen_in points.now) sides.now marks.now }
 {
     let kept = Kept {
-        lattice,
-        seen,
+        points: *points,
         marks,
+        sides,
     };
-    view::filled(None, lattice.count, |k| kept.fill(sides, k))
+    view::filled(None, points.lattice.count, |k| kept.fill(k))
 }

@@ -20,7 +20,7 @@ impl Sums {
         if self.pairs == 0 {
             return None;
         }
-        let n = self.pairs as f32;
+        let n = f32::from(self.pairs);
         Some(PredictedPosition {
             x: self.x / n,
             y: self.y / n,

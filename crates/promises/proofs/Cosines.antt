@@ -41,12 +41,9 @@ use Rattle.std.proofs.lemmas.Bool.{or_parts}
 inside : (ps : List Point) → ((k : ℕ) → k < length ps → off_limit (get_or ps k nowhere) ≡ false) → Inside (view_of ps)
 unfolding view_of
 inside ps h = record {
-  x = λ k l. rw (list_at (length ps) (λ (k : ℕ). f32 (get_or ps k nowhere).x) k nan l) (limited k l).0;
-  y = λ k l. rw (list_at (length ps) (λ (k : ℕ). f32 (get_or ps k nowhere).y) k nan l) (limited k l).1;
+  x = λ k l. rw (list_at (length ps) (λ (k : ℕ). f32 (get_or ps k nowhere).x) k nan l) (or_parts _ _ (h k l)).0;
+  y = λ k l. rw (list_at (length ps) (λ (k : ℕ). f32 (get_or ps k nowhere).y) k nan l) (or_parts _ _ (h k l)).1;
 }
-  where
-    limited : (k : ℕ) → k < length ps → (outside (f32 (get_or ps k nowhere).x) ≡ false) × (outside (f32 (get_or ps k nowhere).y) ≡ false)
-    limited k l = or_parts (outside (f32 (get_or ps k nowhere).x)) (outside (f32 (get_or ps k nowhere).y)) (h k l)
 
 count-is : (ps : List Point) → (view_of ps).count ≡ length ps
 unfolding view_of

@@ -24,8 +24,7 @@ use Rattle.sheet_fills.specs.Bytes.{fill_size, fills_bytes, dropped_count}
 use Rattle.sheet_fills.specs.Answer.{as_rows, fill_ruling, fill_answer_by, fills_by, fill_answer_of, fills_after}
 use Rattle.sheet_fills.proofs.Laws.{bytes-long}
 use Rattle.sheet_fills.proofs.Cases.{room-for-fills}
-use Rattle.sheet_fills.proofs.Bounds.{short-exactly}
-use Rattle.refusals.proofs.Number.{err-no-ok}
+use Rattle.sheet_fills.proofs.Bounds.{short-exactly, refused-ruling}
 use Rattle.promises.specs.Fills.{dropped_rank, FilledBy, FillCallPromise}
 
 module _ (file buffer : List ℕ) where
@@ -33,12 +32,8 @@ module _ (file buffer : List ℕ) where
   room = as_rows (length buffer)
 
   nothing_written : (k : ℕ) → fill_answer_of file (length buffer) ≡ Err k → fills_after file buffer ≡ buffer
-  unfolding fill_answer_of fills_after
-  nothing_written k e = go (fill_ruling file (length buffer)) e
-    where
-      go : (r : Ruling) → fill_answer_by r ≡ Err k → fills_by buffer r ≡ buffer
-      go (refused j) e = refl
-      go (accepted s ps) e = absurd (err-no-ok (sym e))
+  unfolding fills_after
+  nothing_written k e = ap (fills_by buffer) (refused-ruling file (length buffer) e)
 
   three-given : (layout_of file).count ≤ max_points → applies file room 3 ≡ ltb (length buffer) (fill_size * (layout_of file).count)
   unfolding applies

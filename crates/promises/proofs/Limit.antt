@@ -5,7 +5,6 @@ use mathlib.Core.List.{List}
 use Prim.Native.Nat.{ℕ}
 use native.Mathlib.Omega.{arith}
 use lib.ListN.{length, get_or}
-use Rattle.refusals.proofs.Number.{err-no-ok}
 use Rattle.cells.specs.Points.{indices_of}
 use Rattle.cells.specs.Cell.{Cell, cells_of}
 use Rattle.sheet_file.specs.Bytes.{Bytes}
@@ -18,6 +17,7 @@ use Rattle.text.specs.Text.{refusal_of}
 use Rattle.listing.specs.Listing.{listing_of}
 use Rattle.map_lines.proofs.Start.{refusal-first}
 use Rattle.kept.specs.Answer.{answer_by, answer_of}
+use Rattle.kept.proofs.Bounds.{refused-ruling}
 use Rattle.sheet_listing.specs.Text.{text_by, text_of}
 use Rattle.sheet_listing.proofs.Laws.{text-is}
 use Rattle.sheet_map.proofs.Laws.{older-first, number-given}
@@ -29,14 +29,6 @@ use Rattle.promises.specs.Limit.{AllRefuse, NoneRefuses, LimitShownPromise}
 number-answered : (file : List ℕ) (room k : ℕ) → ruling_of file room ≡ refused k → answer_of file room ≡ Err k
 unfolding answer_of
 number-answered file room k e = ap answer_by e
-
-answer-read : (file : List ℕ) (room k : ℕ) → answer_of file room ≡ Err k → ruling_of file room ≡ refused k
-unfolding answer_of
-answer-read file room k e = go (ruling_of file room) refl e
-  where
-    go : (x : Ruling) → ruling_of file room ≡ x → answer_by x ≡ Err k → ruling_of file room ≡ refused k
-    go (refused j) q e = let p : j ≡ k = cc e in q ∙ ap refused p
-    go (accepted s ps) q e = absurd (err-no-ok (sym e))
 
 -- ---- the listing
 
@@ -71,7 +63,7 @@ module _ (file : List ℕ) (room k : ℕ) where
 
   none-refuses : Bytes file → (k ≡ 10 → ⊥) → (ruling_of file room ≡ refused k → ⊥) → (ruling_of file rows_size ≡ refused k → ⊥) → NoneRefuses file room k
   none-refuses b n e f = record {
-    answer = λ q. e (answer-read file room k q);
+    answer = λ q. e (refused-ruling file room q);
     listing = λ q. f (listing-read file b k q);
     map = λ q. f (number-given file k (number_read file b k q) n);
   }

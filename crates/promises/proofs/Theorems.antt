@@ -1,4 +1,5 @@
 -- The promises hold. Assumes nothing.
+use Rattle.std.specs.List.{list_any}
 use Rattle.std.specs.Prelude.{Ok}
 use mathlib.Core.Path.{◌≡◌, sym, ap, ◌∙◌}
 use mathlib.Core.Logic.{inl, inr}
@@ -9,7 +10,6 @@ use native.Mathlib.Decide.{ℕ_discrete}
 use lib.Dec.{eqb, ltb}
 use lib.ListN.{length}
 use borrow.Author.Tests.{ltb-true}
-use Rattle.folds.specs.Among.{any_in}
 use Rattle.folds.specs.Below.{tally}
 use Rattle.cells.specs.Points.{Point}
 use Rattle.cells.specs.Cell.{cells_of}
@@ -120,7 +120,7 @@ unfolding applies
 moved-sheet file other a b bf bo o room in-range s ps e =
     let framed = (accepted-file file room s ps e).framed in
     let same : layout_of file ≡ layout_of other = sym (ap layout_in (frame_same file other (layout_of file) framed (record { size = o.size; head = o.head; after = λ k l m. o.after k l }))) in
-    let m = offset file other a b bf bo o (ap (λ (f : Layout). any_in off_range (points_in other f)) same ∙ in-range) room s ps e in
+    let m = offset file other a b bf bo o (ap (λ (f : Layout). list_any off_range (points_in other f)) same ∙ in-range) room s ps e in
     let v = view-moved a b ps m.points m.size m.along in
     let t = strengths-moved a b ps m.points m.size m.along in
     record {

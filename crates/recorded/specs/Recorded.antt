@@ -29,7 +29,7 @@ Leaves calls size room expected r =
 -- the number of a refusal is the recorded one; of an accepted sheet 0 is recorded, and its counts, that of the rounds too
 abbrev pub is_recorded : Answer → RecordedAnswer → Bool
 is_recorded (Err k) r = eqb k r.number
-is_recorded (Ok c) r = eqb r.number 0 && (eqb c.points r.points && (eqb c.components r.components && eqb c.rounds r.rounds))
+is_recorded (Ok c) r = eqb r.number 0 && (eqb c.points r.counts.points && (eqb c.components r.counts.components && eqb c.rounds r.counts.rounds))
 
 -- of the call for the fills: the number of a refusal; of an accepted sheet 0, and how many fills there are
 abbrev pub is_filled : FillAnswer → RecordedFills → Bool

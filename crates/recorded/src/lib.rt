@@ -28,9 +28,7 @@ pub const ROOM: usize = 100000;
 #[derive(Clone, Copy)]
 pub struct RecordedAnswer {
     pub number: usize,
-    pub points: usize,
-    pub components: usize,
-    pub rounds: usize,
+    pub counts: Counts,
 }
 
 // Of the call for the fills: the number of the refusal, or 0, and the count.
@@ -44,7 +42,7 @@ pub struct RecordedFills {
 fn read_word<R: Read>(input: &mut R) -> u32 {
     let mut bytes = [0u8; 4];
     let _ = input.read_exact(&mut bytes);
-    sheet_file::u32_at(&bytes, 0)
+    u32::from_le_bytes(bytes)
 }
 
 fn read_words<R: Read>(input: &mut R, words: &mut [u32]) {
@@ -60,9 +58,11 @@ pub fn read_number<R: Read>(input: &mut R) -> usize {
 pub fn read_answer<R: Read>(input: &mut R) -> RecordedAnswer {
     RecordedAnswer {
         number: read_number(input),
-        points: read_number(input),
-        components: read_number(input),
-        rounds: read_number(input),
+        counts: Counts {
+            points: read_number(input),
+            components: read_number(input),
+            rounds: read_number(input),
+        },
     }
 }
 
@@ -101,19 +101,19 @@ pub fn read_part<R: Read>(input: &mut R, buffer: &mut [u8], size: usize) -> bool
 pub fn fill(buffer: &mut [u8])
     ensures { buffer.new ≡ filler (length buffer.old) }
 {
-    for i in 0..buffer.len() {
-        buffer[i] = (i % 251) as u8;
+    for (i, b) in buffer.iter_mut().enumerate() {
+        *b = (i % 251) as u8;
     }
 }
 
 // What must stand in it after the call: so many rows or fills of `size` bytes each, which are read, and beyond them what stood there; false as
 // above.
-pub fn read_entries<R: Read>(input: &mut R, buffer: &mut [u8], size: u8, count: usize) -> bool {
+pub fn read_entries<R: Read>(input: &mut R, buffer: &mut [u8], size: usize, count: usize) -> bool {
     fill(buffer);
     if MAX_POINTS < count {
         return false;
     }
-    read_part(input, buffer, usize::from(size) * count)
+    read_part(input, buffer, size.saturating_mul(count))
 }
 
 // ---- what came against what is recorded
@@ -123,12 +123,7 @@ pub fn is_recorded(answer: Result<Counts, u8>, recorded: RecordedAnswer) -> bool
 {
     match answer {
         Err(number) => usize::from(number) == recorded.number,
-        Ok(counts) => {
-            recorded.number == 0
-                && counts.points == recorded.points
-                && counts.components == recorded.components
-                && counts.rounds == recorded.rounds
-        }
+        Ok(counts) => recorded.number == 0 && counts == recorded.counts,
     }
 }
 

@@ -10,8 +10,9 @@ ghost use Rattle.cells.specs.Cell.{cells_at};
 ghost use Rattle.local_h.specs.Residual.{residual_at};
 ghost use Rattle.residuals.specs.ByIndex.{exceeds, is_high, residuals_of, rank_flags, index_flags};
 
+use cells::CelledView;
 use local_h::{Residual, ResidualColumn, Seen};
-use view::{Floats, Lattice, MAX_POINTS, Marks, View, Words};
+use view::{Floats, Lattice, MAX_POINTS, Marks};
 
 mod by_index;
 
@@ -35,16 +36,16 @@ fn is_high(limit: f32, r: Residual) -> bool
 }
 
 // The residual of each rank, which takes the place of what stood in the column.
-fn cell_residuals(view: &View, keys: &Words, values: &mut ResidualColumn)
-    ensures { values.new ≡ column max_points None view.now.sheet.lattice.count (residual_at (view_in view.now) (cells_at keys.now)) }
+fn cell_residuals(celled: &CelledView, values: &mut ResidualColumn)
+    ensures { values.new ≡ column max_points None celled.now.view.sheet.lattice.count (residual_at (view_in celled.now.view) (cells_at celled.now.keys.now)) }
 {
     let seen = Seen {
-        keys,
-        positions: view.seen,
+        keys: celled.keys,
+        points: celled.view.points(),
     };
     *values = [None; MAX_POINTS];
-    for k in 0..view.sheet.lattice.count {
-        values[k] = local_h::local_h_residual(&view.sheet.lattice, &seen, k);
+    for k in 0..celled.view.sheet.lattice.count {
+        values[k] = local_h::local_h_residual(&seen, k);
     }
 }
 
@@ -65,16 +66,16 @@ fn flags_of(lattice: &Lattice, values: &ResidualColumn, scale: &Floats, toleranc
 // flags of any of its cells.
 #[inline(never)]
 pub fn index_residuals(
-    view: &View,
-    keys: &Words,
+    celled: &CelledView,
     scale: &Floats,
     tolerance: f32,
     values: &mut ResidualColumn,
 ) -> Flags
-    ensures residuals { values.new ≡ residuals_of (view_in view.now) (cells_at keys.now) }
-    ensures flags { result ≡ index_flags (residual_at (view_in view.now) (cells_at keys.now)) (λ (j : ℕ). get_or scale.now j nan) tolerance (view_in view.now) }
+    ensures residuals { values.new ≡ residuals_of (view_in celled.now.view) (cells_at celled.now.keys.now) }
+    ensures flags { result ≡ index_flags (residual_at (view_in celled.now.view) (cells_at celled.now.keys.now)) (λ (j : ℕ). get_or scale.now j nan) tolerance (view_in celled.now.view) }
 {
-    cell_residuals(view, keys, values);
+    let view = &celled.view;
+    cell_residuals(celled, values);
     let Flags { over, high } = flags_of(&view.sheet.lattice, values, scale, tolerance);
     by_index::gather(view, values);
     Flags {

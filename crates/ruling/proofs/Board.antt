@@ -1,4 +1,5 @@
 -- "2,304 points pass": the sheet of the 48 by 48 target is accepted. Assumes nothing.
+use Rattle.std.specs.List.{list_any}
 use Rattle.std.specs.Prelude.{is_some}
 use mathlib.Core.Path.{◌≡◌, refl, ap, ◌∙◌}
 use mathlib.Core.Bool.{Bool, true, false, cond, ◌&&◌}
@@ -13,7 +14,6 @@ use lib.Ieee.{of_bits}
 use lib.ListN.{length, get_or}
 use borrow.Author.Tests.{lt-ltb, le-ltb, le-leb, ne_eqb}
 use Rattle.folds.specs.Arith.{f32}
-use Rattle.folds.specs.Among.{any_in}
 use Rattle.folds.proofs.Among.{any-list, pair-no}
 use Rattle.folds.proofs.Below.{some-no}
 use Rattle.folds.specs.Lists.{list_of}
@@ -98,7 +98,7 @@ different-cells i j l = go (ℕ_discrete (i / 48) (j / 48))
     go (yes e) = rw (ne_eqb (i % 48) (j % 48) (λ f. omega (arith, e, f))) (and-false (eqb (i / 48) (j / 48)))
     go (no f) = rw (ne_eqb (i / 48) (j / 48) f)
 
-points-pass : any_in holds (point_refusals Missing (list_of board_points board_point)) ≡ false
+points-pass : list_any holds (point_refusals Missing (list_of board_points board_point)) ≡ false
 unfolding point_refusals
 points-pass =
     or_from _ _ (any-list board_point board_points off_range ∙ some-no (λ (i : ℕ). off_range (board_point i)) board_points (λ i h. rw (small-within (i / 48) (omega arith), small-within (i % 48) (omega arith))))
@@ -126,7 +126,7 @@ module _ (p : List ℕ) (f : Layout) (h : PointsAt (short_sheet p) f 7 false fal
   zero-float = rw (h.full_is, h.gated-is, cell-size p, zero-inside)
 
 header-passes : (file : List ℕ) (room : ℕ) (w : WellFramed file) → WeightsFit w → point_count w ≤ max_points → 28 * point_count w ≤ room → bad_flag file (layout_of file) ≡ false → bad_float file (layout_of file) ≡ false
-    → any_in holds (header_refusals file room (framing_of file)) ≡ false
+    → list_any holds (header_refusals file room (framing_of file)) ≡ false
 unfolding header_refusals
 header-passes file room w o few l a b =
     let n = points-counted file w in
@@ -163,7 +163,7 @@ points-are : (f : Layout) → OnBoard f → points_in board48 f ≡ list_of boar
 unfolding points_in
 points-are f o = ap (λ (n : ℕ). list_of n (ith_point board48 f)) o.count-is ∙ list_ext nowhere board_points (ith_point board48 f) board_point (board-point f o)
 
-accepted-for : (s : Settings) (ps : List Point) → s.score_frac ≡ Missing → any_in holds (point_refusals Missing ps) ≡ false → ruling_for s ps ≡ accepted s (cell_order ps)
+accepted-for : (s : Settings) (ps : List Point) → s.score_frac ≡ Missing → list_any holds (point_refusals Missing ps) ≡ false → ruling_for s ps ≡ accepted s (cell_order ps)
 unfolding ruling_for
 accepted-for s ps x e = none_passes refused (accepted s (cell_order ps)) (point_refusals s.score_frac ps) (rw x e)
 

@@ -1,4 +1,5 @@
 -- Which number is given: of a list of points with settings, and of a file and the length of a result buffer. Assumes nothing.
+use Rattle.std.specs.List.{list_any}
 use mathlib.Core.Path.{◌≡◌, refl, sym, ◌∙◌}
 use mathlib.Core.Bool.{Bool, true, false, cond, not, true≢false}
 use mathlib.Core.List.{List}
@@ -6,7 +7,6 @@ use Prim.Native.Nat.{ℕ, ◌≤◌}
 use native.Mathlib.Omega.{arith}
 use lib.Dec.{eqb, leb}
 use borrow.Author.Tests.{leb-true, eq-eqb}
-use Rattle.folds.specs.Among.{any_in}
 use Rattle.refusals.specs.First.{ruled, applies_in}
 use Rattle.refusals.proofs.Laws.{holds, numbers_of, earlier_than, DistinctNumbers, none-applies-in, none-holds, each-listed, first-given, only-first, none_passes, only_none, ruled-in-two}
 use Rattle.cells.specs.Points.{Point}
@@ -17,18 +17,19 @@ use Rattle.sheet_file.specs.declared.Settings.{Settings}
 use Rattle.points.specs.Refusals.{point_refusals, cell_order}
 use Rattle.ruling.specs.Ruling.{Ruling, refused, accepted, ruling_for, points_of, refusals_of, sheet_numbers, ruling_of, applies}
 
-one : (a b : ℕ) → refused a ≡ refused b → a ≡ b
-one a b e = cc
+-- a ruling refuses with one number, and then accepts nothing
+pub one-number : (a b : ℕ) → refused a ≡ refused b → a ≡ b
+one-number a b e = cc
 
-other : {s : Settings} {ps : List Point} (k : ℕ) → refused k ≡ accepted s ps → ⊥
-other k e = let z : ◌≡◌ {A = ℕ} 0 1 = cc in omega arith
+pub not-refused : {s : Settings} {ps : List Point} {k : ℕ} → refused k ≡ accepted s ps → ⊥
+not-refused e = let z : ◌≡◌ {A = ℕ} 0 1 = cc in omega arith
 
 -- ---- of a list of points
 
 -- none holds where they are accepted
-pub for-accepted : (s t : Settings) (ps qs : List Point) → ruling_for s ps ≡ accepted t qs → (any_in holds (point_refusals s.score_frac ps) ≡ false) × (accepted s (cell_order ps) ≡ accepted t qs)
+pub for-accepted : (s t : Settings) (ps qs : List Point) → ruling_for s ps ≡ accepted t qs → (list_any holds (point_refusals s.score_frac ps) ≡ false) × (accepted s (cell_order ps) ≡ accepted t qs)
 unfolding ruling_for
-for-accepted s t ps qs e = only_none refused (accepted s (cell_order ps)) (accepted t qs) other (point_refusals s.score_frac ps) e
+for-accepted s t ps qs e = only_none refused (accepted s (cell_order ps)) (accepted t qs) (λ k e. not-refused e) (point_refusals s.score_frac ps) e
 
 -- settings are handed on, and but for the fraction they matter to no refusal of points
 pub other-settings : (s t : Settings) (ps qs : List Point) → t.score_frac ≡ s.score_frac → ruling_for s ps ≡ accepted s qs → ruling_for t ps ≡ accepted t qs
@@ -65,15 +66,15 @@ module _ (file : List ℕ) (room : ℕ) where
 
   -- an accepted file has no fault in its header, and its points are accepted with its settings
   pub in-file : {s : Settings} {ps : List Point} → ruling_of file room ≡ accepted s ps
-      → (any_in holds (header_refusals file room (framing_of file)) ≡ false) × (ruling_for (settings_of file (layout_of file)) (points_of file) ≡ accepted s ps)
-  in-file {s} {ps} e = only_none refused (ruling_for (settings_of file (layout_of file)) (points_of file)) (accepted s ps) other (header_refusals file room (framing_of file)) (sym by-points ∙ e)
+      → (list_any holds (header_refusals file room (framing_of file)) ≡ false) × (ruling_for (settings_of file (layout_of file)) (points_of file) ≡ accepted s ps)
+  in-file {s} {ps} e = only_none refused (ruling_for (settings_of file (layout_of file)) (points_of file)) (accepted s ps) (λ k e. not-refused e) (header_refusals file room (framing_of file)) (sym by-points ∙ e)
 
   distinct : DistinctNumbers (refusals_of file room)
   unfolding refusals_of
   distinct = refl
 
   -- number k applies, and no earlier one does: it is given
-  pub given : (k : ℕ) → applies file room k ≡ true → any_in holds (earlier_than (refusals_of file room) k) ≡ false → ruling_of file room ≡ refused k
+  pub given : (k : ℕ) → applies file room k ≡ true → list_any holds (earlier_than (refusals_of file room) k) ≡ false → ruling_of file room ≡ refused k
   unfolding applies
   given k e f = in-one-list ∙ first-given refused passed (refusals_of file room) k e f
 
@@ -89,14 +90,14 @@ module _ (file : List ℕ) (room : ℕ) where
 
   -- what a refusal says of the conditions; a number is one of the list
   pub record NumberGiven (k : ℕ) : Type 0 where
-    pub listed : any_in (eqb k) sheet_numbers ≡ true
+    pub listed : list_any (eqb k) sheet_numbers ≡ true
     pub holding : applies file room k ≡ true
     pub earlier : (j : ℕ) → applies_in (earlier_than (refusals_of file room) k) j ≡ false
 
   pub is-given : (k : ℕ) → ruling_of file room ≡ refused k → NumberGiven k
   unfolding applies
   is-given k e =
-      let f = only-first refused passed one other (refusals_of file room) distinct k (sym in-one-list ∙ e) in
+      let f = only-first refused passed one-number (λ k e. not-refused e) (refusals_of file room) distinct k (sym in-one-list ∙ e) in
       record {
         listed = f.listed;
         holding = f.holding;
@@ -105,8 +106,8 @@ module _ (file : List ℕ) (room : ℕ) where
 
   -- what an accepted file says
   pub is-accepted : {s : Settings} {ps : List Point} → ruling_of file room ≡ accepted s ps
-      → (any_in holds (refusals_of file room) ≡ false) × (accepted (settings_of file (layout_of file)) (cell_order (points_of file)) ≡ accepted s ps)
-  is-accepted {s} {ps} e = only_none refused passed (accepted s ps) other (refusals_of file room) (sym in-one-list ∙ e)
+      → (list_any holds (refusals_of file room) ≡ false) × (accepted (settings_of file (layout_of file)) (cell_order (points_of file)) ≡ accepted s ps)
+  is-accepted {s} {ps} e = only_none refused passed (accepted s ps) (λ k e. not-refused e) (refusals_of file room) (sym in-one-list ∙ e)
 
   pub none-applies : {s : Settings} {ps : List Point} → ruling_of file room ≡ accepted s ps → (j : ℕ) → applies file room j ≡ false
   unfolding applies
@@ -115,7 +116,7 @@ module _ (file : List ℕ) (room : ℕ) where
 -- ---- the numbers themselves
 
 -- what each of them is
-pub each_number : (p : ℕ → Bool) (k : ℕ) → any_in (λ (n : ℕ). not (p n)) sheet_numbers ≡ false → any_in (eqb k) sheet_numbers ≡ true → p k ≡ true
+pub each_number : (p : ℕ → Bool) (k : ℕ) → list_any (λ (n : ℕ). not (p n)) sheet_numbers ≡ false → list_any (eqb k) sheet_numbers ≡ true → p k ≡ true
 each_number p k e h = each-listed p sheet_numbers k e h
 
 pub record SheetNumber (k : ℕ) : Type 0 where
@@ -125,7 +126,7 @@ pub record SheetNumber (k : ℕ) : Type 0 where
   pub not-map : k ≡ 10 → ⊥
   pub not-run : k ≡ 11 → ⊥
 
-pub sheet-number : (k : ℕ) → any_in (eqb k) sheet_numbers ≡ true → SheetNumber k
+pub sheet-number : (k : ℕ) → list_any (eqb k) sheet_numbers ≡ true → SheetNumber k
 sheet-number k h = record {
   low = leb-true 1 k (each_number (leb 1) k refl h);
   high = leb-true k 14 (each_number (λ (n : ℕ). leb n 14) k refl h);

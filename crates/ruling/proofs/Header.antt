@@ -1,5 +1,6 @@
 -- What is read of a file but for its points depends on its length, on the bytes before the points and on the first seven of tag 4 alone, and
 -- little of it on the two switches. Assumes nothing.
+use Rattle.std.specs.List.{list_any}
 use Rattle.std.specs.Prelude.{None, Option, Some, is_some}
 use mathlib.Core.Path.{◌≡◌, refl, sym, ap, ◌∙◌}
 use mathlib.Core.Bool.{Bool, true, false, cond, ◌&&◌, ◌||◌, true≢false}
@@ -9,7 +10,6 @@ use Prim.Native.Nat.{ℕ, ◌+◌, ◌*◌, ◌/◌, ◌≤◌, ◌<◌}
 use native.Mathlib.Omega.{arith}
 use lib.Ieee.{Float}
 use lib.ListN.{length, get_or}
-use Rattle.folds.specs.Among.{any_in}
 use Rattle.folds.proofs.Below.{and-under}
 use Rattle.refusals.specs.First.{ruled}
 use Rattle.sheet_file.specs.declared.EdgeShapeParams.{EdgeShapeParams}
@@ -156,9 +156,9 @@ module _ (file other : List ℕ) (f : Layout) (framed : framing_of file ≡ Some
   floats_same : bad_float other f ≡ bad_float file f
   unfolding bad_float
   floats_same =
-      ap (λ (l : List Float). any_in outside l || (f.gated && any_in outside (gate_floats other (gate_start f.full)))) settings-floats
-      ∙ ap (λ (b : Bool). any_in outside (settings_floats file f.full) || b)
-      (and-under f.gated (λ e. ap (any_in outside) (gate-floats (gate_start f.full) (gate-late f.full) ((before-points file f framed).gate e))))
+      ap (λ (l : List Float). list_any outside l || (f.gated && list_any outside (gate_floats other (gate_start f.full)))) settings-floats
+      ∙ ap (λ (b : Bool). list_any outside (settings_floats file f.full) || b)
+      (and-under f.gated (λ e. ap (list_any outside) (gate-floats (gate_start f.full) (gate-late f.full) ((before-points file f framed).gate e))))
 
   fraction-same : fraction_of other f ≡ fraction_of file f
   unfolding fraction_of

@@ -1,9 +1,11 @@
 pub mod Given
+pub mod Answered
 pub mod Bounds
 pub mod Parts
 pub mod Numbered
 pub mod Header
 pub mod Standing
+pub mod Columns
 pub mod Order
 pub mod Offset
 pub mod MovedFile

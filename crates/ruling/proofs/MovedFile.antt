@@ -1,5 +1,6 @@
 -- The moved file consists of bytes; it is the file with a added to every u and b to every v, and no other file is; and its cells are in range,
 -- where the moved cells of the accepted points are. Assumes nothing.
+use Rattle.std.specs.List.{list_any}
 use Rattle.std.specs.Prelude.{Some}
 use mathlib.Core.Path.{◌≡◌, sym, ap, ◌∙◌}
 use mathlib.Core.Bool.{Bool, true, false, cond, not, ◌||◌}
@@ -17,7 +18,6 @@ use mir.Syntax.{w32}
 use mir.Val.{SFits, of_z, to_z}
 use mir.ValLaws.{to_z-of_z, of_z-to_z}
 use borrow.Author.Tests.{lt-ltb, le-ltb, le-leb, lt-leb}
-use Rattle.folds.specs.Among.{any_in}
 use Rattle.folds.proofs.Among.{any-list}
 use Rattle.folds.proofs.Below.{some-no}
 use Rattle.folds.proofs.Lists.{length-list, list_at, list_over}
@@ -211,7 +211,7 @@ module _ (file : List ℕ) (a b : ℤ) where
       six-fails room =
           let off : Cell → Bool = λ c. not (within c.u) || not (within c.v) in
           let same : layout_of other ≡ f = ap layout_in (frame_same file other f framed headed) in
-          ap (λ (g : Layout). any_in off_range (points_in other g)) same
+          ap (λ (g : Layout). list_any off_range (points_in other g)) same
           ∙ any-list (ith_point other f) f.count off_range
           ∙ some-no (λ (i : ℕ). off_range (ith_point other f i)) f.count (λ i h. ap off (cell-moved i h) ∙ rw ((in-range i h).u, (in-range i h).v))
 

@@ -1,11 +1,12 @@
 -- Lists of things by number, as maps of the numbers below n: their tests, and their order by another test on the numbers. Assumes nothing.
+use Rattle.std.specs.List.{list_any}
 use mathlib.Core.Path.{◌≡◌, refl, sym, ap, ◌∙◌}
 use mathlib.Core.Bool.{Bool}
 use mathlib.Core.List.{List, [], ◌∷◌, map}
 use Prim.Native.Nat.{ℕ, ◌<◌}
 use native.Mathlib.Omega.{arith}
 use lib.ListN.{length-map, get_or-map}
-use Rattle.folds.specs.Among.{any_in, pair_in}
+use Rattle.folds.specs.Among.{pair_in}
 use Rattle.folds.proofs.Among.{any-list, pair-ext}
 use Rattle.folds.proofs.Below.{some-ext}
 use Rattle.folds.specs.Lists.{All, list_of}
@@ -14,7 +15,7 @@ use Rattle.sort.specs.Sorted.{sort}
 use Rattle.sort.proofs.Sorted.{at_all, Agree, sort-map}
 
 module _ {A B : Type 0} (g : A → B) where
-  any-map : (t : B → Bool) (l : List A) → any_in t (map g l) ≡ any_in (λ (i : A). t (g i)) l
+  any-map : (t : B → Bool) (l : List A) → list_any t (map g l) ≡ list_any (λ (i : A). t (g i)) l
   any-map t [] = refl
   any-map t (i ∷ l) = rw (any-map t l)
 
@@ -45,7 +46,7 @@ pub numbers-below : (n : ℕ) → All (λ (i : ℕ). i < n) (first_numbers n)
 unfolding first_numbers
 numbers-below n = at_all (λ (i : ℕ). i < n) 0 (list_of n (λ (i : ℕ). i)) (λ k h. let l : k < n = omega (arith, length-list n (λ (i : ℕ). i)) in rw (list_at n (λ (i : ℕ). i) k 0 l) l)
 
-pub any_same : {B : Type 0} (t : B → Bool) (f g : ℕ → B) (n : ℕ) → ((i : ℕ) → i < n → t (f i) ≡ t (g i)) → any_in t (list_of n f) ≡ any_in t (list_of n g)
+pub any_same : {B : Type 0} (t : B → Bool) (f g : ℕ → B) (n : ℕ) → ((i : ℕ) → i < n → t (f i) ≡ t (g i)) → list_any t (list_of n f) ≡ list_any t (list_of n g)
 any_same t f g n h = any-list f n t ∙ some-ext (λ (i : ℕ). t (f i)) (λ (i : ℕ). t (g i)) n h ∙ sym (any-list g n t)
 
 pub pair_same : {B : Type 0} (t : B → B → Bool) (f g : ℕ → B) (n : ℕ) → ((i j : ℕ) → i < n → j < n → t (f i) (f j) ≡ t (g i) (g j)) → pair_in t (list_of n f) ≡ pair_in t (list_of n g)

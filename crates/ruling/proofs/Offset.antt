@@ -1,5 +1,6 @@
 -- Accepted points that are moved, their cells staying in range, are accepted with the same settings, and in cell order they are the old ones
 -- moved: of a list of points, and of a file. Assumes nothing.
+use Rattle.std.specs.List.{list_any}
 use Rattle.std.specs.Prelude.{Some}
 use mathlib.Core.Path.{◌≡◌, refl, sym, ap, ◌∙◌}
 use mathlib.Core.Bool.{Bool, false}
@@ -9,7 +10,7 @@ use native.Mathlib.Omega.{arith}
 use lib.Dec.{ltb}
 use lib.IntN.{ℤ}
 use lib.ListN.{length, get_or, length-map, get_or-map}
-use Rattle.folds.specs.Among.{any_in, pair_in}
+use Rattle.folds.specs.Among.{pair_in}
 use Rattle.folds.specs.Lists.{All, list_of}
 use Rattle.folds.proofs.Lists.{list_at, is-list, get_d_any}
 use Rattle.refusals.specs.First.{ruled}
@@ -44,7 +45,7 @@ use Rattle.folds.proofs.Below.{ltb_as}
 less-moved : (k l m o up down : ℕ) → m + down ≡ k + up → o + down ≡ l + up → ltb k l ≡ ltb m o
 less-moved k l m o up down p q = ltb_as k l m o (λ h. omega arith) (λ h. omega arith)
 
-module _ (a b : ℤ) (ps qs : List Point) (o : AllDisplaced a b ps qs) (wp : All Words ps) (wq : All Words qs) (ok : any_in off_range ps ≡ false) (in-range : any_in off_range qs ≡ false) where
+module _ (a b : ℤ) (ps qs : List Point) (o : AllDisplaced a b ps qs) (wp : All Words ps) (wq : All Words qs) (ok : list_any off_range ps ≡ false) (in-range : list_any off_range qs ≡ false) where
   abbrev n : ℕ
   n = length ps
 
@@ -72,16 +73,16 @@ module _ (a b : ℤ) (ps qs : List Point) (o : AllDisplaced a b ps qs) (wp : All
   key-is-moved : (i : ℕ) → i < n → key_of (new i) + key_down a b ≡ key_of (old i) + key_up a b
   key-is-moved i h = let m = point-moved i h in key-moved a b (old i) (new i) m.old m.new m.cell
 
-  any-stays : (t : Point → Bool) → ((i : ℕ) → i < n → t (new i) ≡ t (old i)) → any_in t qs ≡ any_in t ps
-  any-stays t h = ap (any_in t) own_new ∙ any_same t new old n h ∙ sym (ap (any_in t) own_old)
+  any-stays : (t : Point → Bool) → ((i : ℕ) → i < n → t (new i) ≡ t (old i)) → list_any t qs ≡ list_any t ps
+  any-stays t h = ap (list_any t) own_new ∙ any_same t new old n h ∙ sym (ap (list_any t) own_old)
 
   pair-stays : (t : Point → Point → Bool) → ((i j : ℕ) → i < n → j < n → t (new i) (new j) ≡ t (old i) (old j)) → pair_in t qs ≡ pair_in t ps
   pair-stays t h = ap (pair_in t) own_new ∙ pair_same t new old n h ∙ sym (ap (pair_in t) own_old)
 
-  limit-same : any_in off_limit qs ≡ any_in off_limit ps
+  limit-same : list_any off_limit qs ≡ list_any off_limit ps
   limit-same = any-stays off_limit (λ i h. let m = point-moved i h in rw (m.x, m.y))
 
-  strengths-same : any_in off_strength qs ≡ any_in off_strength ps
+  strengths-same : list_any off_strength qs ≡ list_any off_strength ps
   strengths-same = any-stays off_strength (λ i h. rw (point-moved i h).strength)
 
   cells_same : pair_in same_cell qs ≡ pair_in same_cell ps
@@ -134,7 +135,7 @@ module _ (a b : ℤ) (ps qs : List Point) (o : AllDisplaced a b ps qs) (wp : All
       let l : k < length places = omega (arith, ap length old-order, length-map places old) in
       rw (old-order, new-order, at_place old k l, at_place new k l) (point-moved (get_or places k 0) (all-at (λ (i : ℕ). i < n) 0 places places-below k l))
 
-pub displaced : (a b : ℤ) (s t : Settings) (ps qs rs : List Point) → AllDisplaced a b ps qs → All Words ps → All Words qs → any_in off_range qs ≡ false
+pub displaced : (a b : ℤ) (s t : Settings) (ps qs rs : List Point) → AllDisplaced a b ps qs → All Words ps → All Words qs → list_any off_range qs ≡ false
     → ruling_for s ps ≡ accepted t rs → MovedAlong (ruling_for s qs) a b t rs
 unfolding ruling_for
 displaced a b s t ps qs rs o wp wq in-range e =
@@ -184,7 +185,7 @@ module _ (file other : List ℕ) (f : Layout) (a b : ℤ) (o : FileDisplaced fil
   }
 
 pub offset : (file other : List ℕ) (a b : ℤ) → Bytes file → Bytes other → FileDisplaced file other (layout_of file) a b
-    → any_in off_range (points_in other (layout_of file)) ≡ false
+    → list_any off_range (points_in other (layout_of file)) ≡ false
     → (room : ℕ) (s : Settings) (ps : List Point) → ruling_of file room ≡ accepted s ps → MovedAlong (ruling_of other room) a b s ps
 offset file other a b bf bo o in-range room s ps e =
     let f = layout_of file in

@@ -1,4 +1,5 @@
 -- Another order of the points leaves the ruling the same: of a list of points, and of a file. Assumes nothing.
+use Rattle.std.specs.List.{list_any}
 use Rattle.std.specs.Prelude.{Some, is_some}
 use mathlib.Core.Path.{◌≡◌, refl, sym, ap, ◌∙◌}
 use mathlib.Core.Bool.{Bool, true, false, cond, not, ◌&&◌}
@@ -16,7 +17,6 @@ use Rattle.sheet_file.specs.Frame.{framing_of, weights_of}
 use Rattle.sheet_file.specs.Refusals.{misfit, settings_of, header_refusals}
 use Rattle.refusals.specs.First.{ruled}
 use Rattle.refusals.proofs.Laws.{holds, none-applies-in, ruled-same-end}
-use Rattle.folds.specs.Among.{any_in}
 use Rattle.sheet_file.specs.declared.Fraction.{Fraction}
 use Rattle.sheet_file.proofs.Words.{SameBytes, le32-same}
 use Rattle.sheet_file.proofs.Fields.{framed-held}
@@ -104,7 +104,7 @@ perm-map g (mathlib.Core.List.Permᴰ.swap e f) = mathlib.Core.List.Permᴰ.swap
 perm-map g (mathlib.Core.List.Permᴰ.trans p q) = mathlib.Core.List.Permᴰ.trans (perm-map g p) (perm-map g q)
 
 -- where no number of the header applies, tag 4 fits
-header-fits : (file : List ℕ) (room : ℕ) (f : Layout) → any_in holds (header_refusals file room (Some f)) ≡ false → misfit f ≡ false
+header-fits : (file : List ℕ) (room : ℕ) (f : Layout) → list_any holds (header_refusals file room (Some f)) ≡ false → misfit f ≡ false
 unfolding header_refusals
 header-fits file room f h = none-applies-in (header_refusals file room (Some f)) h 12
 
@@ -114,7 +114,7 @@ same-ruling file other f b e r room =
     ∙ ruled-same-end refused (ruling_for (settings_of file f) (points_in file f)) (ruling_for (settings_of file f) (points_in other f)) (header_refusals file room (Some f)) same_points
     ∙ sym (carried file other f e r.rest room)
   where
-    same_points : any_in holds (header_refusals file room (Some f)) ≡ false → ruling_for (settings_of file f) (points_in file f) ≡ ruling_for (settings_of file f) (points_in other f)
+    same_points : list_any holds (header_refusals file room (Some f)) ≡ false → ruling_for (settings_of file f) (points_in file f) ≡ ruling_for (settings_of file f) (points_in other f)
     same_points h =
         let m = header-fits file room f h in
         let p : Permᴰ (points_in file f) (points_in other f) =

@@ -22,10 +22,9 @@ use Rattle.sheet_file.proofs.Fields.{is_framed, framed-held, fitting-len}
 use Rattle.points.specs.Records.{points_in, PointsFit}
 use Rattle.points.specs.Refusals.{point_refusals, number_for, cell_order}
 use Rattle.points.specs.Table.{TableFor}
-use Rattle.points.specs.declared.Table.{Table}
 use Rattle.ruling.specs.Ruling.{Ruling, refused, accepted, ruling_for, ruling_of}
 use Rattle.ruling.specs.Sheet.{Ruled}
-use Rattle.ruling.specs.declared.Sheet.{Sheet}
+use Rattle.ruling.specs.declared.sheet.Sheet.{Sheet}
 use Rattle.std.specs.Result.{IsErrAnd}
 use Rattle.ruling.proofs.Given.{by-points}
 
@@ -55,8 +54,8 @@ header-refused file room e h = rw (← in_parts file room, ← h) refl
 pub points-refused : (s : Settings) (ps : List Point) (e : Refusal) → TableFor s.score_frac ps (Err e) → Ruled (ruling_for s ps) (Err e)
 points-refused s ps e h = rw (← by-table s ps, ← h, above-zero e) refl
 
-pub points-accepted : (s : Settings) (ps : List Point) {t : Table} {n : ℕ} → TableFor s.score_frac ps (Ok t) → n ≡ length (cell_order ps) → Ruled (ruling_for s ps) (Ok (record { settings = s; count = n; table = t }))
-points-accepted s ps h e = rw (← by-table s ps, h.0) (record { settings-are = refl; count-is = e; table_is = h.1 })
+pub points-accepted : (ps : List Point) (r : Sheet) → TableFor r.settings.score_frac ps (Ok r.table) → r.count ≡ length (cell_order ps) → Ruled (ruling_for r.settings ps) (Ok r)
+points-accepted ps r h e = rw (← by-table r.settings ps, h.0) (record { settings-are = refl; count-is = e; table_is = h.1 })
 
 -- the points of an accepted header are within the file
 pub header-room : (file : List ℕ) (room : ℕ) (h : Header) → Ok h ≡ reading_of file room → PointsFit file h.layout

@@ -1,4 +1,5 @@
 -- Points that are accepted stand in cell order: all in range, no two in one cell; of a list of points, and of a file. Assumes nothing.
+use Rattle.std.specs.List.{list_any}
 use Rattle.std.specs.Prelude.{Some, is_some}
 use mathlib.Core.Path.{◌≡◌, refl, sym, ap, ◌∙◌}
 use mathlib.Core.Bool.{Bool, true, false, cond, true≢false}
@@ -10,7 +11,7 @@ use native.Mathlib.Decide.{dec_lt}
 use native.Mathlib.Omega.{arith}
 use lib.ListN.{length, get_or}
 use borrow.Author.Tests.{eq-eqb, ltb-false}
-use Rattle.folds.specs.Among.{any_in, pair_in}
+use Rattle.folds.specs.Among.{pair_in}
 use Rattle.folds.proofs.Among.{none_in, any_order, pair-order}
 use Rattle.folds.specs.Lists.{All, list_of}
 use Rattle.folds.proofs.Lists.{length-list, list_at, is-list}
@@ -47,8 +48,8 @@ use Rattle.std.proofs.lemmas.Bool.{or_parts}
 pair-none : {A : Type 0} (t : A → A → Bool) (d : A) (l : List A) → pair_in t l ≡ false → (i j : ℕ) → i < j → j < length l → t (get_or l i d) (get_or l j d) ≡ false
 pair-none t d [] e i j ij jn = absurd (omega arith)
 pair-none t d (a ∷ l) e i zero ij jn = absurd (omega arith)
-pair-none t d (a ∷ l) e zero (suc j) ij jn = all-at (λ b. t a b ≡ false) d l (none_in (t a) l (or_parts (any_in (t a) l) (pair_in t l) e).0) j (omega arith)
-pair-none t d (a ∷ l) e (suc i) (suc j) ij jn = pair-none t d l (or_parts (any_in (t a) l) (pair_in t l) e).1 i j (omega arith) (omega arith)
+pair-none t d (a ∷ l) e zero (suc j) ij jn = all-at (λ b. t a b ≡ false) d l (none_in (t a) l (or_parts (list_any (t a) l) (pair_in t l) e).0) j (omega arith)
+pair-none t d (a ∷ l) e (suc i) (suc j) ij jn = pair-none t d l (or_parts (list_any (t a) l) (pair_in t l) e).1 i j (omega arith) (omega arith)
 
 rises-at : {A : Type 0} (before : A → A → Bool) (d : A) (l : List A) → Rises before l → (i j : ℕ) → i < j → j < length l → before (get_or l j d) (get_or l i d) ≡ false
 rises-at before d [] r i j ij jn = absurd (omega arith)
@@ -78,14 +79,14 @@ pub record Words (p : Point) : Type 0 where
   pub y : p.y < 2 ^ 32
   pub strength : p.strength < 2 ^ 32
 
-pub all-in-range : (ps : List Point) → All Words ps → any_in off_range ps ≡ false → All Ranged ps
+pub all-in-range : (ps : List Point) → All Words ps → list_any off_range ps ≡ false → All Ranged ps
 all-in-range [] h e = tt
-all-in-range (p ∷ ps) h e = let w = or_parts (off_range p) (any_in off_range ps) e in (ranged p h.0.u h.0.v w.0, all-in-range ps h.1 w.1)
+all-in-range (p ∷ ps) h e = let w = or_parts (off_range p) (list_any off_range ps) e in (ranged p h.0.u h.0.v w.0, all-in-range ps h.1 w.1)
 
 -- points that are all in range, and no two in one cell
 pub record Apart (ps : List Point) : Type 0 where
   pub words : All Words ps
-  pub in-range : any_in off_range ps ≡ false
+  pub in-range : list_any off_range ps ≡ false
   pub apart : pair_in same_cell ps ≡ false
 
 module _ (ps : List Point) (h : Apart ps) where
@@ -152,13 +153,13 @@ in-cell-order ps h few =
     omega (arith, ltb-false (key_of (get_or (cell_order ps) j nowhere)) (key_of (get_or (cell_order ps) i nowhere)) (rises-at comes_before nowhere (cell_order ps) (sorted_rises ps h) i j ij jn), different (cell_order ps) o i j ij jn))
 
 -- where no number applies, they are so
-pub none_apart : (x : Fraction) (ps : List Point) → All Words ps → any_in holds (point_refusals x ps) ≡ false → Apart ps
+pub none_apart : (x : Fraction) (ps : List Point) → All Words ps → list_any holds (point_refusals x ps) ≡ false → Apart ps
 unfolding point_refusals
 none_apart x ps h e = let no = none-applies-in (point_refusals x ps) e in record { words = h; in-range = no 6; apart = no 8 }
 
-in-limit : (x : Fraction) (ps : List Point) → any_in holds (point_refusals x ps) ≡ false → (any_in off_limit ps ≡ false) × (any_in off_strength ps ≡ false)
+in-limit : (x : Fraction) (ps : List Point) → list_any holds (point_refusals x ps) ≡ false → (list_any off_limit ps ≡ false) × (list_any off_strength ps ≡ false)
 unfolding point_refusals
-in-limit x ps e = let no = none-applies-in (point_refusals x ps) e in (no 7, (or_parts (off_fraction x) (any_in off_strength ps) (no 13)).1)
+in-limit x ps e = let no = none-applies-in (point_refusals x ps) e in (no 7, (or_parts (off_fraction x) (list_any off_strength ps) (no 13)).1)
 
 -- what accepted points are: "in cell order", no position and no strength off the limit
 pub record Sound (ps : List Point) : Type 0 where
@@ -168,7 +169,7 @@ pub record Sound (ps : List Point) : Type 0 where
   pub words : (k : ℕ) → k < length ps → Words (get_or ps k nowhere)
 
 -- a fault that no point has, none has in cell order
-none-sorted : (t : Point → Bool) (ps : List Point) → any_in t ps ≡ false → (k : ℕ) → k < length (cell_order ps) → t (get_or (cell_order ps) k nowhere) ≡ false
+none-sorted : (t : Point → Bool) (ps : List Point) → list_any t ps ≡ false → (k : ℕ) → k < length (cell_order ps) → t (get_or (cell_order ps) k nowhere) ≡ false
 none-sorted t ps e = all-at (λ (p : Point). t p ≡ false) nowhere (cell_order ps) (none_in t (cell_order ps) (sym (any_order t (sort-perm comes_before ps)) ∙ e))
 
 pub sound-for : (s t : Settings) (ps qs : List Point) → All Words ps → length ps ≤ max_points → ruling_for s ps ≡ accepted t qs → Sound qs

@@ -1,5 +1,6 @@
 -- Tag 4 on sheets of no point, one point and two: its numbers 12, 13 and 14 and their places among the others, and another order of points that
 -- takes the strengths along or leaves them behind. Assumes nothing.
+use Rattle.std.specs.List.{list_any}
 use Rattle.std.specs.Prelude.{None, Some}
 use mathlib.Core.Path.{◌≡◌, refl, sym, ap, ◌∙◌}
 use mathlib.Core.Bool.{Bool, true, false}
@@ -12,7 +13,6 @@ use lib.Ieee.{of_bits}
 use lib.ListN.{length, get_or, take, replicate, length-replicate}
 use borrow.Author.Tests.{eqb-true, ltb-false}
 use Rattle.folds.specs.Arith.{f32}
-use Rattle.folds.specs.Among.{any_in}
 use Rattle.folds.specs.Below.{every}
 use Rattle.folds.proofs.Below.{every-at}
 use Rattle.refusals.proofs.Laws.{numbers_of}
@@ -188,11 +188,11 @@ order-shown file room = numbers-are file room
 -- ---- 12 before 2
 
 -- no element is over 255
-pub bytes-by : (file : List ℕ) → any_in (ltb 255) file ≡ false → Bytes file
+pub bytes-by : (file : List ℕ) → list_any (ltb 255) file ≡ false → Bytes file
 bytes-by [] e zero = omega arith
 bytes-by [] e (suc k) = omega arith
-bytes-by (b ∷ file) e zero = omega (arith, ltb-false 255 b (or_parts (ltb 255 b) (any_in (ltb 255) file) e).0)
-bytes-by (b ∷ file) e (suc k) = bytes-by file (or_parts (ltb 255 b) (any_in (ltb 255) file) e).1 k
+bytes-by (b ∷ file) e zero = omega (arith, ltb-false 255 b (or_parts (ltb 255 b) (list_any (ltb 255) file) e).0)
+bytes-by (b ∷ file) e (suc k) = bytes-by file (or_parts (ltb 255 b) (list_any (ltb 255) file) e).1 k
 
 module _ (n : ℕ) (body : List ℕ) where
   abbrev zeros : List ℕ

@@ -1,4 +1,5 @@
 pub mod Ruling
+pub mod Arrays
 pub mod Sheet
 pub mod Header
 pub mod Order

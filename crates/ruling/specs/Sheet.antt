@@ -6,7 +6,7 @@ use Rattle.cells.specs.Points.{Point}
 use Rattle.sheet_file.specs.declared.Settings.{Settings}
 use Rattle.points.specs.Table.{Tabled}
 use Rattle.ruling.specs.Ruling.{Ruling, refused, accepted}
-use Rattle.ruling.specs.declared.Sheet.{Sheet}
+use Rattle.ruling.specs.declared.sheet.Sheet.{Sheet}
 
 -- the sheet has these settings and these points, which are in cell order
 pub record SheetOf (s : Settings) (ps : List Point) (r : Sheet) : Type 0 where

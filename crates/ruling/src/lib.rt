@@ -5,9 +5,10 @@ ghost use Rattle.std.specs.Prelude.{◌≡◌};
 ghost use Rattle.ruling.specs.Ruling.{ruling_of, rows_size};
 ghost use Rattle.ruling.specs.Sheet.{Ruled};
 
-use points::Table;
+mod sheet;
+
 use refusals::Refusal;
-use sheet_file::Settings;
+pub use sheet::Sheet;
 use view::MAX_POINTS;
 
 // A result buffer of this size has room for the rows of every sheet.
@@ -18,14 +19,6 @@ pub fn rows_size() -> usize
     ensures { result ≡ rows_size }
 {
     ROWS_SIZE
-}
-
-// The settings, how many points there are, and the points in cell order.
-#[derive(Drop)]
-pub struct Sheet {
-    pub settings: Settings,
-    pub count: usize,
-    pub table: Table,
 }
 
 // The ruling on any bytes; `room` is the length of the result buffer.

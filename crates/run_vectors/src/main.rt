@@ -4,6 +4,7 @@
 #![tactic(auto)]
 
 use recorded::{LONGEST, ROOM};
+use rows::ROW_SIZE;
 use std::io::Read;
 
 // Reads one case and replays it.
@@ -19,11 +20,13 @@ fn replay<R: Read>(input: &mut R) -> bool {
     }
     let mut rows = [0u8; ROOM];
     let mut expected = [0u8; ROOM];
-    let read = recorded::read_entries(input, &mut expected, 28, answer.points);
+    let read = recorded::read_entries(input, &mut expected, ROW_SIZE, answer.counts.points);
     let kept = recorded::leaves(&mut rows, room, &expected, |rows| {
-        let k = kept_in_run::keep_in_run(&file[..size], rows, before);
-        let came = k.answer.map_err(|refusal| refusal.number());
-        recorded::is_recorded(came, answer) & recorded::same_run(k.run, after)
+        let mut run = before;
+        let came = kept_in_run::keep_in_run(&file[..size], rows, &mut run).map_err(
+            |refusal| refusal.number(),
+        );
+        recorded::is_recorded(came, answer) & recorded::same_run(run, after)
     });
     read & kept
 }

@@ -1,5 +1,6 @@
 -- One sheet more: what it adds to each sum, and that two sheets add the same in either order; one step of each definition over a list of sheets.
 -- Assumes nothing.
+use Rattle.std.specs.List.{list_any}
 use mathlib.Core.Path.{◌≡◌, refl, ap}
 use mathlib.Core.Bool.{false, cond, ◌||◌}
 use mathlib.Core.List.{List, [], ◌∷◌, ◌++◌, Option-to_list}
@@ -11,7 +12,6 @@ use native.Mathlib.Omega.{arith}
 use lib.Dec.{leb, ltb}
 use lib.ListN.{length, get_or}
 use borrow.Author.Tests.{leb-true, ltb-false}
-use Rattle.folds.specs.Among.{any_in}
 use Rattle.folds.specs.Below.{every}
 use Rattle.folds.proofs.Below.{every-at}
 use Rattle.folds.proofs.Lists.{list_at, list_over, list_ext}
@@ -56,7 +56,7 @@ sum-le r tally i s = go (dec_lt i (length summed))
     go (no h) = omega (arith, sum_over r tally i (omega (arith, h)))
 
 -- of a tally that is given, as a test
-pub small_by : (tally : List ℕ) → any_in (ltb max_points) tally ≡ false → Small tally
+pub small_by : (tally : List ℕ) → list_any (ltb max_points) tally ≡ false → Small tally
 small_by tally e f = ltb-false max_points (get_or tally f 0) (none-at (ltb max_points) 0 tally refl e f)
 
 -- ---- two sheets in either order

@@ -1,4 +1,5 @@
 -- A record that is not full has every number below its limit; and whether some element of a list passes, place by place. Assumes nothing.
+use Rattle.std.specs.List.{list_any}
 use mathlib.Core.Path.{◌≡◌, refl}
 use mathlib.Core.Bool.{Bool, false, ◌||◌}
 use mathlib.Core.List.{List, [], ◌∷◌}
@@ -8,7 +9,6 @@ use lib.Dec.{leb}
 use lib.ListN.{length, get_or, drop, drop_of_length-le}
 use lib.Seq.{drop-cons}
 use borrow.Author.Tests.{leb-false, lt-leb}
-use Rattle.folds.specs.Among.{any_in}
 use Rattle.runs.specs.Run.{most_sheets, sum_limit, full}
 use Rattle.runs.specs.declared.Run.{Run}
 use Rattle.std.proofs.Math.Bool.{or-false}
@@ -18,21 +18,21 @@ use Rattle.std.proofs.lemmas.Bool.{or_parts}
 
 module _ {A : Type 0} (t : A → Bool) (l : List A) where
   -- whether some element from place i on passes
-  pub any_next : (i : ℕ) (d : A) → i < length l → any_in t (drop i l) ≡ t (get_or l i d) || any_in t (drop (i + 1) l)
+  pub any_next : (i : ℕ) (d : A) → i < length l → list_any t (drop i l) ≡ t (get_or l i d) || list_any t (drop (i + 1) l)
   any_next i d h = rw (add-one i, drop-cons l i d h)
 
-  pub any-end : (i : ℕ) → length l ≤ i → any_in t (drop i l) ≡ false
+  pub any-end : (i : ℕ) → length l ≤ i → list_any t (drop i l) ≡ false
   any-end i h = rw (drop_of_length-le l h)
 
 module _ {A : Type 0} (t : A → Bool) (d : A) where
   -- none passes just where what is read at any place fails
-  pub none-at : (l : List A) → t d ≡ false → any_in t l ≡ false → (i : ℕ) → t (get_or l i d) ≡ false
+  pub none-at : (l : List A) → t d ≡ false → list_any t l ≡ false → (i : ℕ) → t (get_or l i d) ≡ false
   none-at [] e h zero = e
   none-at [] e h (suc i) = e
-  none-at (a ∷ l) e h zero = (or_parts (t a) (any_in t l) h).0
-  none-at (a ∷ l) e h (suc i) = none-at l e (or_parts (t a) (any_in t l) h).1 i
+  none-at (a ∷ l) e h zero = (or_parts (t a) (list_any t l) h).0
+  none-at (a ∷ l) e h (suc i) = none-at l e (or_parts (t a) (list_any t l) h).1 i
 
-  pub none_of : (l : List A) → ((i : ℕ) → t (get_or l i d) ≡ false) → any_in t l ≡ false
+  pub none_of : (l : List A) → ((i : ℕ) → t (get_or l i d) ≡ false) → list_any t l ≡ false
   none_of [] h = refl
   none_of (a ∷ l) h = rw (h 0) (none_of l (λ i. h (suc i)))
 
@@ -46,7 +46,7 @@ pub record Below (r : Run) : Type 0 where
 pub not_full : (r : Run) → full r ≡ false → Below r
 unfolding full
 not_full r e =
-    let w = or_parts (leb most_sheets r.sheets) (any_in (leb sum_limit) r.new_sums) e in
+    let w = or_parts (leb most_sheets r.sheets) (list_any (leb sum_limit) r.new_sums) e in
     record {
       few = leb-false most_sheets r.sheets w.0;
       low = λ i. leb-false sum_limit (get_or r.new_sums i 0) (none-at (leb sum_limit) 0 r.new_sums refl w.1 i);

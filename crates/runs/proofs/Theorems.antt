@@ -1,4 +1,5 @@
 -- The promises of specs/Promises.antt. Assumes nothing.
+use Rattle.std.specs.List.{fold}
 use mathlib.Core.Path.{◌≡◌, refl, sym, ap, ◌∙◌}
 use mathlib.Core.Bool.{Bool, true, false, cond}
 use mathlib.Core.List.{List, [], ◌∷◌, ◌++◌, Option-to_list, Permᴰ}
@@ -8,7 +9,7 @@ use native.Mathlib.Omega.{arith}
 use lib.Dec.{eqb, leb}
 use lib.ListN.{length, get_or}
 use borrow.Author.Tests.{eqb-true, leb-true, eq-eqb, le-leb, lt-leb}
-use Rattle.folds.specs.Lists.{All, over}
+use Rattle.folds.specs.Lists.{All}
 use Rattle.folds.proofs.Column.{replicate-at}
 use Rattle.runs.specs.Run.{summed, most_sheets, sum_limit, full, with_sheet, Small, Yield, taken, added, run_with, run_over, tallies_in, sum_in, some_full}
 use Rattle.runs.specs.Promises.{SheetPromise, Totals, TotalsPromise, NoneFull, OrderPromise, SmallYield, FitsU32, FitsPromise, Bounded, StartPromise}
@@ -54,16 +55,14 @@ run-totals r (sheet ∷ l) = rw (over-cons r sheet l, tallies-cons r sheet l, wi
 -- ---- another order of the sheets
 
 -- steps that may change places
-over-order : {A B : Type 0} (step : A → B → A) → ((a : A) (x y : B) → step (step a x) y ≡ step (step a y) x) → {l m : List B} → Permᴰ l m → (a : A) → over step a l ≡ over step a m
-unfolding over
+over-order : {A B : Type 0} (step : A → B → A) → ((a : A) (x y : B) → step (step a x) y ≡ step (step a y) x) → {l m : List B} → Permᴰ l m → (a : A) → fold step a l ≡ fold step a m
 over-order step s Permᴰ.nil c = refl
-over-order step s (Permᴰ.cons {a} {b} {l₁} {l₂} e p) c = over-order step s p (step c a) ∙ ap (λ x. over step (step c x) l₂) e
+over-order step s (Permᴰ.cons {a} {b} {l₁} {l₂} e p) c = over-order step s p (step c a) ∙ ap (λ x. fold step (step c x) l₂) e
 over-order step s (Permᴰ.swap {a} {b} {a'} {b'} {l} e f) c = rw (s c a b, e, f)
 over-order step s (Permᴰ.trans p q) c = over-order step s p c ∙ over-order step s q c
 
 -- where the record is never full, each accepted sheet is added
-all-added : (r : Run) (sheets : List Yield) → NoneFull r sheets → run_over r sheets ≡ over added r sheets
-unfolding over
+all-added : (r : Run) (sheets : List Yield) → NoneFull r sheets → run_over r sheets ≡ fold added r sheets
 all-added r [] e = over_none r
 all-added r (sheet ∷ l) e =
     let w = or_parts (full r) (some_full (run_with r sheet) l) (sym (full-cons r sheet l) ∙ e) in

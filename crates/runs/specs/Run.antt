@@ -1,10 +1,10 @@
 -- "The bench also keeps totals of a run, kept and the four filters, in a record that a second form of the call takes and hands back": the
 -- record, when it is full, what it is after one sheet, and after one sheet after the other. Assumes nothing.
+use Rattle.std.specs.List.{list_any, fold}
 use Rattle.std.specs.Prelude.{◌≡◌, Bool, false, ◌||◌, ℕ, ◌+◌, ◌^◌, ◌≤◌, leb, length, get_or, replicate}
 use mathlib.Core.List.{List, [], ◌∷◌, ◌++◌, Option-to_list}
 use Rattle.std.proofs.Math.Option.{Option, none, some}
-use Rattle.folds.specs.Among.{any_in}
-use Rattle.folds.specs.Lists.{list_of, over}
+use Rattle.folds.specs.Lists.{list_of}
 use Rattle.refusals.specs.First.{Condition, ruled}
 use Rattle.view.specs.View.{max_points}
 use Rattle.marks.specs.Filters.{filter_count, validate, orientation, wrong, leaf, component}
@@ -41,7 +41,7 @@ sum_limit = 2 ^ 31
 
 -- "its record counts 65,535 or more accepted ones or has a new sum of 2^31 or more"
 unfoldable pub full : Run → Bool
-full r = leb most_sheets r.sheets || any_in (leb sum_limit) r.new_sums
+full r = leb most_sheets r.sheets || list_any (leb sum_limit) r.new_sums
 
 -- "The run's call alone refuses with 11, before reading the file, any sheet if .."
 unfoldable pub run_refusals : Run → List Condition
@@ -91,8 +91,8 @@ unfolding taken with_sheet
 run_with r sheet = added r (taken r sheet)
 
 unfoldable pub run_over : Run → List Yield → Run
-unfolding over run_with
-run_over r sheets = over run_with r sheets
+unfolding run_with
+run_over r sheets = fold run_with r sheets
 
 -- ---- what the run accepts
 

@@ -44,11 +44,7 @@ impl Run {
     pub fn new() -> Self
         ensures { result ≡ new_run }
     {
-        Self {
-            old_sums: [0u32; OLD_SUMS],
-            sheets: 0,
-            new_sums: [0u32; NEW_SUMS],
-        }
+        Self::from_old_sums([0; OLD_SUMS])
     }
 
     // A run that started under the old count.
@@ -78,22 +74,14 @@ pub fn is_full(run: Run) -> bool
     false
 }
 
-// The place in a tally of the number that sum i adds up.
-fn summed_place(i: usize) -> usize
-    requires { i < length summed }
-    ensures { result ≡ get_or summed i 0 }
-{
-    SUMMED[i]
-}
-
 // The new sums of the record with one sheet more, which has this tally.
 fn sums_with(run: Run, tally: [usize; COUNTS]) -> [u32; NEW_SUMS]
     requires { Takes run tally }
     ensures { result ≡ list_of (length summed) (λ (i : ℕ). get_or run.new_sums i 0 + get_or tally (get_or summed i 0) 0) }
 {
     let mut sums = run.new_sums;
-    for (i, sum) in sums.iter_mut().enumerate() {
-        *sum += tally[summed_place(i)] as u32;
+    for (i, place) in SUMMED.iter().enumerate() {
+        sums[i] += tally[*place] as u32;
     }
     sums
 }

@@ -1,13 +1,13 @@
 -- The settings of a sheet file, the conditions of the numbers 1, 12 and 2 to 5, and what is read of a file and the length of a result buffer.
 -- Assumes nothing.
+use Rattle.std.specs.List.{list_any}
 use Rattle.std.specs.Prelude.{◌≡◌, Bool, true, false, cond, not, ◌&&◌, ◌||◌, List, [], ◌∷◌, ℕ, ◌+◌, ◌*◌, ◌≤◌, eqb, ltb, length, Float, Option, Some, None, is_some, is_none, Result, Ok, Err}
 use Rattle.folds.specs.Arith.{f32}
-use Rattle.folds.specs.Among.{any_in}
 use Rattle.view.specs.View.{max_points}
 use Rattle.refusals.specs.First.{Condition, ruled}
 use Rattle.sheet_file.specs.Bytes.{byte_at, le16, le32}
 use Rattle.sheet_file.specs.Limit.{outside}
-use Rattle.sheet_file.specs.Frame.{framing_of, layout_in, weights_of, gate_start, Held}
+use Rattle.sheet_file.specs.Frame.{framing_of, layout_in, weights_of, gate_start}
 use Rattle.sheet_file.specs.declared.Layout.{Layout}
 use Rattle.sheet_file.specs.declared.EdgeShapeParams.{EdgeShapeParams}
 use Rattle.sheet_file.specs.declared.Fraction.{Fraction}
@@ -114,7 +114,7 @@ gate_floats file at = float_at file (at + 1) ∷ float_at file (at + 5) ∷ floa
 
 -- "5. A float of tag 1 or 2 is not finite or exceeds 16,384 in magnitude."
 unfoldable pub bad_float : List ℕ → Layout → Bool
-bad_float file f = any_in outside (settings_floats file f.full) || (f.gated && any_in outside (gate_floats file (gate_start f.full)))
+bad_float file f = list_any outside (settings_floats file f.full) || (f.gated && list_any outside (gate_floats file (gate_start f.full)))
 
 -- ---- what is asked before a float is read: that it stands in the file, and that the condition of number 5 fails for it
 
@@ -124,11 +124,11 @@ pub record FloatHeld (file : List ℕ) (at : ℕ) : Type 0 where
 
 pub record SettingsHeld (file : List ℕ) : Type 0 where
   pub fits : 24 ≤ length file
-  pub inside : any_in outside (settings_floats file true) ≡ false
+  pub inside : list_any outside (settings_floats file true) ≡ false
 
 pub record GateHeld (file : List ℕ) (at : ℕ) : Type 0 where
   pub fits : at + 17 ≤ length file
-  pub inside : any_in outside (gate_floats file at) ≡ false
+  pub inside : list_any outside (gate_floats file at) ≡ false
 
 -- ---- what is read
 

@@ -1,8 +1,8 @@
 // The sheet file: its fields, the refusals 1, 12 and 2 to 5 and the settings. Any bytes are read.
 #![tactic(auto)]
 
+ghost use Rattle.std.specs.List.{list_any};
 ghost use Rattle.std.specs.Prelude.{◌≡◌, true, false, ◌+◌, ◌*◌, ◌≤◌, ◌<◌, length, IfSome, IsTrue};
-ghost use Rattle.folds.specs.Among.{any_in};
 ghost use Rattle.folds.specs.Arith.{f32};
 ghost use Rattle.refusals.specs.Number.{numbered};
 ghost use Rattle.sheet_file.specs.Bytes.{le16, le32};
@@ -305,7 +305,7 @@ fn is_no_flag(b: u8) -> bool
 // Whether a float of tag 2, whose data begin at `at`, is outside the limit.
 fn gate_outside(file: &[u8], at: usize) -> bool
     requires { at + 17 ≤ length file.now }
-    ensures { result ≡ any_in outside (gate_floats file.now at) }
+    ensures { result ≡ list_any outside (gate_floats file.now at) }
 {
     is_outside(file, at + 1)
         | is_outside(file, at + 5)
@@ -383,7 +383,7 @@ impl Framed<'_> {
 
     // Whether a float of tag 1 is outside the limit.
     fn settings_outside(&self) -> bool
-        ensures { result ≡ any_in outside (settings_floats self.now.file.now self.now.layout.full) }
+        ensures { result ≡ list_any outside (settings_floats self.now.file.now self.now.layout.full) }
     {
         let file = self.file;
         let cell = is_outside(file, 3);
@@ -402,17 +402,13 @@ impl Framed<'_> {
         self.settings_outside() || f.gated && gate_outside(self.file, gate_start(f.full))
     }
 
-    #[tactic(auto, unfolding(crate::specs::Refusals::edge_shape_of))]
+    #[tactic(auto, using(crate::proofs::Floats::gate_held), unfolding(crate::specs::Refusals::edge_shape_of))]
     fn edge_shape(&self) -> Option<EdgeShapeParams>
         requires { bad_float self.now.file.now self.now.layout ≡ false }
         ensures { result ≡ edge_shape_of self.now.file.now self.now.layout }
     {
         let f = self.layout;
-        if f.gated {
-            Some(gate_in(self.file, gate_start(f.full)))
-        } else {
-            None
-        }
+        f.gated.then(|| gate_in(self.file, gate_start(f.full)))
     }
 
     // The fraction in the first four bytes of tag 4's data.
@@ -428,7 +424,7 @@ impl Framed<'_> {
         }
     }
 
-    #[tactic(auto, unfolding(crate::specs::Refusals::settings_of))]
+    #[tactic(auto, using(crate::proofs::Floats::first_held, crate::proofs::Floats::full_held), unfolding(crate::specs::Refusals::settings_of))]
     fn settings(&self) -> Settings
         requires { (bad_float self.now.file.now self.now.layout ≡ false) × (misfit self.now.layout ≡ false) }
         ensures { result ≡ settings_of self.now.file.now self.now.layout }

@@ -3,13 +3,11 @@
 // must write was made by `harness vectors sheet_file`.
 #![tactic(auto)]
 
+use recorded::LONGEST;
 use ruling::Sheet;
 use sheet_file::Fraction;
 use std::io::Read;
 use view::MAX_POINTS;
-
-// The longest file: tag 3 and tag 4 with 65,535 bytes of data each, and all else.
-const LONGEST: usize = 131200;
 
 fn mixed(h: u64, v: u32) -> u64 {
     h.rotate_left(5).wrapping_add(u64::from(v))
@@ -33,8 +31,7 @@ fn digest(sheet: &Sheet) -> u64 {
 // And with the fraction, if there is one.
 fn with_fraction(h: u64, fraction: Fraction) -> u64 {
     match fraction {
-        Fraction::Missing => h,
-        Fraction::Outside => h,
+        Fraction::Missing | Fraction::Outside => h,
         Fraction::Given(x) => mixed(h, float::to_bits(x)),
     }
 }
@@ -55,18 +52,12 @@ fn write_line<R: Print>(rt: &R, file: &[u8], room: usize) {
 
 // Reads one case and writes its line; false where there is none.
 fn replay<R: Read, W: Print>(input: &mut R, rt: &W, file: &mut [u8]) -> bool {
-    if file.len() < 8 {
-        return false;
-    }
-    if input.read_exact(&mut file[..8]).is_err() {
+    if !recorded::read_part(input, file, 8) {
         return false;
     }
     let length = sheet_file::u32_at(file, 0) as usize;
     let room = sheet_file::u32_at(file, 4) as usize;
-    if file.len() < length {
-        return false;
-    }
-    if input.read_exact(&mut file[..length]).is_err() {
+    if !recorded::read_part(input, file, length) {
         return false;
     }
     write_line(rt, &file[..length], room);

@@ -1,12 +1,14 @@
 -- How large the numbers of an answer are, and when 3 is given, for every file and buffer. Assumes nothing.
-use Rattle.std.proofs.Common.{◌≡◌, ℕ, ◌*◌, ◌/◌, ◌<◌, ◌≤◌, Bool, true, false, cond, not, eqb, ltb, List, length, get_or, sym, refl, arith, ltb-false, ltb-true, lt-ltb, Ok, Err}
-use Rattle.refusals.proofs.Number.{err-no-ok}
-use Rattle.folds.specs.Among.{any_in}
+use Rattle.std.specs.List.{list_any}
+use Rattle.std.proofs.Common.{◌≡◌, ℕ, ◌*◌, ◌/◌, ◌<◌, ◌≤◌, Bool, true, false, cond, not, eqb, ltb, List, length, get_or, refl, arith, ltb-false, ltb-true, lt-ltb, Ok, Err}
 use Rattle.folds.proofs.Below.{tally-le}
 use Rattle.view.specs.View.{max_points}
+use Rattle.cells.specs.Points.{Point}
 use Rattle.sheet_file.specs.Bytes.{Bytes}
-use Rattle.ruling.specs.Ruling.{Ruling, refused, accepted, sheet_numbers}
+use Rattle.sheet_file.specs.declared.Settings.{Settings}
+use Rattle.ruling.specs.Ruling.{refused, sheet_numbers}
 use Rattle.ruling.proofs.Given.{is-given}
+use Rattle.ruling.proofs.Answered.{refused-so, accepted-so}
 use Rattle.ruling.proofs.Standing.{accepted-order}
 use Rattle.judging.specs.Judging.{judged_for}
 use Rattle.rows.specs.Rows.{row_size}
@@ -36,24 +38,23 @@ dropped-few : (marks : List ℕ) (n : ℕ) → dropped_count marks n ≤ n
 unfolding dropped_count
 dropped-few marks n = tally-le (λ (k : ℕ). not (eqb (get_or marks k 0) 0)) n
 
+-- how many points there are and how many are dropped
+abbrev fill_counts_for : Settings → List Point → FillCounts
+fill_counts_for s ps = record { points = length ps; fills = dropped_count (judged_for s ps).marks (length ps) }
+
 module _ (file : List ℕ) (room : ℕ) where
+  -- what an answer says of the ruling
+  pub refused-ruling : {k : ℕ} → fill_answer_of file room ≡ Err k → fill_ruling file room ≡ refused k
+  unfolding fill_answer_of
+  refused-ruling {k} e = refused-so fill_answer_by fill_counts_for (λ k. refl) (λ s ps. refl) (fill_ruling file room) k e
+
   pub fills-bounded : Bytes file → {c : FillCounts} → fill_answer_of file room ≡ Ok c → Bounded c
   unfolding fill_answer_of
-  fills-bounded b {c} e = go (fill_ruling file room) refl e
-    where
-      go : (r : Ruling) → fill_ruling file room ≡ r → fill_answer_by r ≡ Ok c → Bounded c
-      go (refused k) q e = absurd (err-no-ok e)
-      go (accepted s ps) q e =
-          let p : ◌≡◌ {A = FillCounts} (record { points = length ps; fills = dropped_count (judged_for s ps).marks (length ps) }) c = cc e in
-          rw (← p) (record { fills = dropped-few (judged_for s ps).marks (length ps); points = (accepted-order file (as_rows room) s ps b q).few })
+  fills-bounded b {c} e =
+      let m = accepted-so fill_answer_by fill_counts_for (λ k. refl) (λ s ps. refl) (fill_ruling file room) c e in
+      rw (← m.is)
+      (record { fills = dropped-few (judged_for m.settings m.points).marks (length m.points); points = (accepted-order file (as_rows room) m.settings m.points b m.ruled).few })
 
   -- the number of a refusal is one of the list
-  pub fills-listed : {k : ℕ} → fill_answer_of file room ≡ Err k → any_in (eqb k) sheet_numbers ≡ true
-  unfolding fill_answer_of
-  fills-listed {k} e = go (fill_ruling file room) refl e
-    where
-      go : (r : Ruling) → fill_ruling file room ≡ r → fill_answer_by r ≡ Err k → any_in (eqb k) sheet_numbers ≡ true
-      go (refused j) q e =
-          let p : j ≡ k = cc e in
-          rw p at (is-given file (as_rows room) j q).listed
-      go (accepted s ps) q e = absurd (err-no-ok (sym e))
+  pub fills-listed : {k : ℕ} → fill_answer_of file room ≡ Err k → list_any (eqb k) sheet_numbers ≡ true
+  fills-listed {k} e = (is-given file (as_rows room) k (refused-ruling e)).listed

@@ -2,22 +2,19 @@
 use Rattle.std.proofs.Common.{◌≡◌, ℕ, ◌*◌, ◌/◌, ◌≤◌, Bool, true, false, cond, ltb, List, ◌++◌, drop, length, refl, sym, ap, ◌∙◌, arith, ltb-false}
 use Rattle.view.specs.View.{max_points, view_at}
 use Rattle.cells.specs.Cell.{Cell, cells_at, cells_of}
-use Rattle.cells.proofs.Keys.{cells_are}
 use Rattle.grid.specs.Tables.{ranks_of}
 use Rattle.sheet_file.specs.Bytes.{Bytes}
 use Rattle.ruling.specs.Sheet.{Ruled}
-use Rattle.ruling.specs.declared.Sheet.{Sheet}
+use Rattle.ruling.specs.declared.sheet.Sheet.{Sheet}
 use Rattle.ruling.proofs.Standing.{accepted-order}
 use Rattle.judged.specs.Judged.{Judged}
 use Rattle.predict.specs.Fills.{fills_of}
 use Rattle.predict.specs.Predict.{Prediction}
 use Rattle.drop_set.specs.Filters.{sides_of}
-use Rattle.judging.specs.Judging.{Arrays, judged_by, judged_for, fills_for}
-use Rattle.judging.proofs.Sheets.{AcceptedSheet, accepted-sheet, refused-sheet, sheet-arrays, sheet-judged, sheet-fills}
+use Rattle.judging.specs.Judging.{judged_by, judged_for, fills_for}
+use Rattle.judging.proofs.Sheets.{AcceptedSheet, accepted-sheet, sheet-cells, sheet-judged, sheet-fills}
 use Rattle.kept.proofs.Cases.{rows_fit}
-use Rattle.std.specs.Prelude.{Result, Ok, Err}
-use Rattle.refusals.specs.Number.{refusal_number}
-use Rattle.refusals.specs.declared.Refusal.{Refusal}
+use Rattle.std.specs.Prelude.{Result, Ok}
 use Rattle.text.specs.Answer.{Shows}
 use Rattle.text.specs.declared.NoRoom.{NoRoom}
 use Rattle.sheet_file.specs.declared.Settings.{Settings}
@@ -43,9 +40,6 @@ module _ (file buffer : List ℕ) (bytes : Bytes file) (r : Sheet) (h : Ruled (f
   abbrev o : AcceptedSheet file room r
   o = accepted-sheet file room r h
 
-  pub arrays : Arrays r.count r.table.keys r.table.x r.table.y r.table.strength
-  arrays = sheet-arrays file room r bytes o
-
   -- with the table of ranks, the judged sheet and its fills
   module _ {ranks : List ℕ} (f : ranks ≡ ranks_of r.count r.table.keys r.table.idx) {j : Judged} {fills : List Prediction}
       (e : j ≡ judged_by r.settings r.count r.table.keys r.table.idx r.table.x r.table.y r.table.strength)
@@ -65,8 +59,7 @@ module _ (file buffer : List ℕ) (bytes : Bytes file) (r : Sheet) (h : Ruled (f
     same =
         let judged : j ≡ judged_for settings points = e ∙ sheet-judged file room r bytes o in
         let filled : fills ≡ fills_for settings points = g ∙ sheet-fills file room r bytes o f (ap (λ (x : Judged). x.marks) judged) in
-        let cells : cells_at r.table.keys ≡ cells_of points = ap cells_at o.sheet.table_is.keys-are ∙ cells_are points (accepted-order file room settings points bytes o.ruled).inside in
-        ap (λ (c : ℕ → Cell). fills_bytes c j.marks fills r.count) cells
+        ap (λ (c : ℕ → Cell). fills_bytes c j.marks fills r.count) (sheet-cells file room r bytes o)
         ∙ ap (λ (x : Judged). fills_bytes (cells_of points) x.marks fills r.count) judged
         ∙ ap (λ (l : List Prediction). fills_bytes (cells_of points) (judged_for settings points).marks l r.count) filled
         ∙ ap (fills_bytes (cells_of points) (judged_for settings points).marks (fills_for settings points)) o.sheet.count-is
@@ -86,8 +79,3 @@ module _ (file buffer : List ℕ) (bytes : Bytes file) (r : Sheet) (h : Ruled (f
         let n : size ≡ length whole = cc u in
         let count : size / fill_size ≡ dropped_count (judged_for settings points).marks (length points) = omega (arith, n, long) in
         rw o.ruled (ap (λ (n : ℕ). Ok (record { points = n; fills = size / fill_size })) o.sheet.count-is ∙ ap (λ (c : ℕ). Ok (record { points = length points; fills = c })) count, fitted.1)
-
--- a refusal
-pub turned : (file buffer : List ℕ) (d : Refusal) → Ruled (fill_ruling file (length buffer)) (Err d) → (Err (refusal_number d) ≡ fill_answer_of file (length buffer)) × (buffer ≡ fills_after file buffer)
-unfolding fill_answer_of fills_after
-turned file buffer d h = rw (refused-sheet file (as_rows (length buffer)) d h) (refl, refl)

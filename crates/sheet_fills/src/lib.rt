@@ -20,9 +20,10 @@ use edge_shape::NO_FIGURES;
 use judging::Columns;
 use predict::{Fills, PredictedPosition};
 use refusals::Refusal;
+use rows::ROW_SIZE;
 use ruling::{ROWS_SIZE, Sheet};
 use text::{NoRoom, Writer};
-use view::{Lattice, MAX_POINTS, Marks, RANKS_SIZE, Ranks};
+use view::{MAX_POINTS, Marks, RANKS_SIZE, Ranks};
 
 // The bytes of a fill.
 pub const FILL_SIZE: usize = 20;
@@ -103,11 +104,7 @@ fn write_fills(
 ) -> Result<usize, NoRoom>
     ensures { Shows (fills_bytes (cells_at columns.now.points.keys.now) marks.now (fills_of (view_at columns.now.points.count ranks.now columns.now.seen.x.now columns.now.seen.y.now) (sides_of columns.now.settings) marks.now) columns.now.points.count) out.old out.new result }
 {
-    let lattice = Lattice {
-        ranks,
-        count: columns.points.count,
-    };
-    let fills = judging::fills(&lattice, &columns.seen, marks);
+    let fills = judging::fills(&columns.with_ranks(ranks), marks);
     put_fills(columns, marks, &fills, out)
 }
 
@@ -119,7 +116,7 @@ fn as_rows(room: usize) -> usize
 {
     let most = room / FILL_SIZE;
     if most < MAX_POINTS {
-        return 28 * most;
+        return ROW_SIZE * most;
     }
     ROWS_SIZE
 }

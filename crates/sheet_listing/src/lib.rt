@@ -8,7 +8,7 @@ use edge_shape::NO_FIGURES;
 use judging::Columns;
 use ruling::ROWS_SIZE;
 use text::NoRoom;
-use view::{Lattice, MAX_POINTS, RANKS_SIZE};
+use view::{MAX_POINTS, RANKS_SIZE};
 
 // Writes the listing of a sheet file, or `refused` and the number.
 pub fn list_sheet(file: &[u8], out: &mut [u8]) -> Result<usize, NoRoom>
@@ -20,11 +20,7 @@ pub fn list_sheet(file: &[u8], out: &mut [u8]) -> Result<usize, NoRoom>
             let mut ranks = [0u16; RANKS_SIZE];
             let columns = Columns::of(sheet);
             let j = judging::judge_sheet(&columns, &mut ranks, &mut figures);
-            let lattice = Lattice {
-                ranks: &ranks,
-                count: columns.points.count,
-            };
-            let fills = judging::fills(&lattice, &columns.seen, &j.marks);
+            let fills = judging::fills(&columns.with_ranks(&ranks), &j.marks);
             listing::write_listing(&columns.points, &j, &fills, |k| figures[k].reason, out)
         }
         Err(refusal) => text::write_refusal(refusal.number(), out),

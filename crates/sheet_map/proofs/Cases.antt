@@ -4,24 +4,20 @@ use mathlib.Core.Bool.{Bool, true, false, cond}
 use mathlib.Core.List.{List}
 use Prim.Native.Nat.{ℕ}
 use lib.ListN.{length}
-use Rattle.std.proofs.Common.{Ok, Err}
-use Rattle.refusals.specs.Number.{refusal_number}
-use Rattle.refusals.specs.declared.Refusal.{Refusal}
+use Rattle.std.proofs.Common.{Ok}
 use Rattle.cells.specs.Points.{Point}
 use Rattle.cells.specs.Cell.{Cell, cells_at, cells_of}
-use Rattle.cells.proofs.Keys.{cells_are}
 use Rattle.sheet_file.specs.Bytes.{Bytes}
 use Rattle.sheet_file.specs.declared.Settings.{Settings}
 use Rattle.ruling.specs.Ruling.{refused, accepted, ruling_of, rows_size}
 use Rattle.ruling.specs.Sheet.{Ruled}
-use Rattle.ruling.specs.declared.Sheet.{Sheet}
-use Rattle.ruling.proofs.Standing.{accepted-order}
-use Rattle.judging.specs.Judging.{Arrays, judged_by, judged_for}
-use Rattle.judging.proofs.Sheets.{AcceptedSheet, accepted-sheet, refused-sheet, sheet-arrays, sheet-judged}
+use Rattle.ruling.specs.declared.sheet.Sheet.{Sheet}
+use Rattle.judging.specs.Judging.{judged_by, judged_for}
+use Rattle.judging.proofs.Sheets.{AcceptedSheet, accepted-sheet, sheet-cells, sheet-judged}
 use Rattle.text.specs.Text.{refusal_of}
 use Rattle.map_lines.specs.Map.{too_wide, map_of}
 use Rattle.sheet_map.specs.Text.{map_by, map_text_of}
-use Rattle.sheet_map.proofs.Laws.{text-is, older-first, drawn-or-ten}
+use Rattle.sheet_map.proofs.Laws.{text-is, drawn-or-ten}
 
 choice : (t : Bool) (k : ℕ) (s : Settings) (ps : List Point) → map_by (cond t (refused k) (accepted s ps)) ≡ cond t (refusal_of k) (map_by (accepted s ps))
 choice true k s ps = refl
@@ -36,19 +32,9 @@ module _ (file : List ℕ) (bytes : Bytes file) (r : Sheet) (h : Ruled (ruling_o
   abbrev o : AcceptedSheet file rows_size r
   o = accepted-sheet file rows_size r h
 
-  pub ready : Arrays r.count r.table.keys r.table.x r.table.y r.table.strength
-  ready = sheet-arrays file rows_size r bytes o
-
-  cells : cells_at r.table.keys ≡ cells_of o.points
-  cells = ap cells_at o.sheet.table_is.keys-are ∙ cells_are o.points (accepted-order file rows_size o.settings o.points bytes o.ruled).inside
-
   pub drawn : shown r.count (cells_at r.table.keys) (judged_by r.settings r.count r.table.keys r.table.idx r.table.x r.table.y r.table.strength).marks ≡ map_text_of file
   drawn =
       ap (λ x. shown r.count (cells_at r.table.keys) x.marks) (sheet-judged file rows_size r bytes o)
       ∙ ap (λ (n : ℕ). shown n (cells_at r.table.keys) (judged_for o.settings o.points).marks) o.sheet.count-is
-      ∙ ap (λ (cell : ℕ → Cell). shown (length o.points) cell (judged_for o.settings o.points).marks) cells
+      ∙ ap (λ (cell : ℕ → Cell). shown (length o.points) cell (judged_for o.settings o.points).marks) (sheet-cells file rows_size r bytes o)
       ∙ sym (text-is file ∙ ap map_by (drawn-or-ten file o.settings o.points o.ruled) ∙ choice (too_wide (length o.points) (cells_of o.points)) 10 o.settings o.points)
-
--- a refusal
-pub turned : (file : List ℕ) (d : Refusal) → Ruled (ruling_of file rows_size) (Err d) → refusal_of (refusal_number d) ≡ map_text_of file
-turned file d h = sym (text-is file ∙ ap map_by (older-first file (refusal_number d) (refused-sheet file rows_size d h)))

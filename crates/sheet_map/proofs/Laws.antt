@@ -13,7 +13,7 @@ use Rattle.sheet_file.specs.Bytes.{Bytes}
 use Rattle.sheet_file.specs.Grammar.{longest}
 use Rattle.sheet_file.specs.declared.Settings.{Settings}
 use Rattle.ruling.specs.Ruling.{Ruling, refused, accepted, ruling_of, rows_size}
-use Rattle.ruling.proofs.Given.{is-given, sheet-number}
+use Rattle.ruling.proofs.Given.{one-number, not-refused, is-given, sheet-number}
 use Rattle.ruling.proofs.Bounds.{cut-ruling, never-three}
 use Rattle.map_lines.specs.Map.{too_wide}
 use Rattle.sheet_map.specs.Text.{map_refusals, map_ruling, map_ruling_of, map_by, map_text_of}
@@ -40,12 +40,6 @@ cut-text file b =
     text-is (take (longest + 1) file) ∙ ap map_by same ∙ sym (text-is file)
 
 -- ---- which number is given
-
-one : (a b : ℕ) → refused a ≡ refused b → a ≡ b
-one a b e = cc
-
-pub not-refused : {s : Settings} {ps : List Point} {k : ℕ} → refused k ≡ accepted s ps → ⊥
-not-refused e = let z : ◌≡◌ {A = ℕ} 0 1 = cc in omega arith
 
 -- "Number 10 is the map's alone": no sheet gives it
 pub never-ten : (file : List ℕ) (room : ℕ) → ruling_of file room ≡ refused 10 → ⊥
@@ -102,7 +96,7 @@ module _ (file : List ℕ) where
       kept t qs false f w q = absurd (not-refused (sym q))
 
       go : (x : Ruling) → ruling_of file rows_size ≡ x → Wide
-      go (refused k) f = absurd (never-ten file rows_size (f ∙ ap refused (one k 10 (sym (older-first k f) ∙ e))))
+      go (refused k) f = absurd (never-ten file rows_size (f ∙ ap refused (one-number k 10 (sym (older-first k f) ∙ e))))
       go (accepted t qs) f = kept t qs (too_wide (length qs) (cells_of qs)) f refl (sym (drawn-or-ten t qs f) ∙ e)
 
   -- the points of an accepted sheet that is refused with 10 span too much
@@ -118,7 +112,7 @@ module _ (file : List ℕ) where
   number-given k e n = go (ruling_of file rows_size) refl
     where
       kept : (t : Settings) (qs : List Point) (b : Bool) → cond b (refused 10) (accepted t qs) ≡ refused k → ⊥
-      kept t qs true q = n (sym (one 10 k q))
+      kept t qs true q = n (sym (one-number 10 k q))
       kept t qs false q = not-refused (sym q)
 
       go : (x : Ruling) → ruling_of file rows_size ≡ x → ruling_of file rows_size ≡ refused k

@@ -7,8 +7,7 @@ ghost use Rattle.sheet_map.specs.Table.{drawn_in};
 
 use edge_shape::NO_FIGURES;
 use judging::Columns;
-use map_lines::spans;
-use offsets::Axis;
+use map_lines::SpannedKeys;
 use refusals::Refusal;
 use ruling::ROWS_SIZE;
 use text::NoRoom;
@@ -20,15 +19,13 @@ fn draw(columns: &Columns, out: &mut [u8]) -> Result<usize, NoRoom>
     ensures { Shows (drawn_in columns.now) out.old out.new result }
 {
     let column = columns.points.keys;
-    let keys = &column[..columns.points.count];
-    let u = spans::span_along(keys, Axis::AlongU);
-    let v = spans::span_along(keys, Axis::AlongV);
-    if map_lines::too_wide(u, v) {
+    let keys = SpannedKeys::of(&column[..columns.points.count]);
+    if keys.too_wide() {
         return text::write_refusal(Refusal::MapTooWide.number(), out);
     }
     let mut figures = [NO_FIGURES; MAX_POINTS];
     let j = judging::judge(columns, &mut figures);
-    map_lines::write_map(keys, &j.marks, u, v, out)
+    keys.write_map(&j.marks, out)
 }
 
 // Writes the map of a sheet file, or `refused` and the number.

@@ -8,6 +8,8 @@ ghost use Rattle.std.specs.Prelude.{◌^◌, ◌<◌};
 use listing::LISTING_SIZE;
 use map_lines::MAP_SIZE;
 use recorded::{LONGEST, ROOM, RecordedAnswer, RecordedFills};
+use rows::ROW_SIZE;
+use sheet_fills::FILL_SIZE;
 use std::io::Read;
 use text::NoRoom;
 
@@ -40,7 +42,7 @@ fn agrees<R: Read>(
 ) -> bool {
     let mut came = [0u8; ROOM];
     let mut expected = [0u8; ROOM];
-    let rows_read = recorded::read_entries(input, &mut expected, 28, answer.points);
+    let rows_read = recorded::read_entries(input, &mut expected, ROW_SIZE, answer.counts.points);
     let kept = recorded::leaves(&mut came, room, &expected, |rows| {
         let came = kept::keep(file, rows).map_err(|refusal| refusal.number());
         recorded::is_recorded(came, answer)
@@ -49,7 +51,7 @@ fn agrees<R: Read>(
     let listed = is_written::<LISTING_SIZE, R, _>(input, file, listing_size, list);
     let draw = sheet_map::draw_sheet;
     let drawn = is_written::<MAP_SIZE, R, _>(input, file, map_size, draw);
-    let fills_read = recorded::read_entries(input, &mut expected, 20, fills.fills);
+    let fills_read = recorded::read_entries(input, &mut expected, FILL_SIZE, fills.fills);
     let filled = recorded::leaves(&mut came, room, &expected, |out| {
         let came = sheet_fills::fill_sheet(file, out).map_err(|refusal| refusal.number());
         recorded::is_filled(came, fills)

@@ -1,5 +1,6 @@
 -- The points of a row lie on their line: whatever the rounding of their x, the fitted line is the x axis, no distance from it is over a
 -- tolerance, and no line flags any of them. Assumes nothing.
+use Rattle.std.specs.List.{fold}
 use mathlib.Core.Path.{◌≡◌, refl, ap, ◌∙◌}
 use mathlib.Core.Bool.{true, false, ◌&&◌}
 use mathlib.Core.List.{List, [], ◌∷◌}
@@ -13,7 +14,7 @@ use lib.Ieee.{Float, binary32, add, sub, mul, neg, lt, is_nan, of_int, of_bits}
 use lib.Ieee.Positive.{positive}
 use Rattle.folds.specs.Arith.{◌⊕◌, ◌⊖◌, ◌⊗◌, zero_f}
 use Rattle.folds.specs.Below.{tally}
-use Rattle.folds.specs.Lists.{All, over, gather}
+use Rattle.folds.specs.Lists.{All, gather}
 use Rattle.folds.proofs.Below.{some-yes, tally-le, tally-some}
 use Rattle.folds.proofs.Lists.{all_listed, listed-length}
 use Rattle.float.specs.Constants.{one, epsilon}
@@ -82,7 +83,7 @@ fit_is : (x y : ℕ → Float) (l : List ℕ) → let cx = mean_over x l in let 
 unfolding fit_of
 fit_is x y l = refl
 
-moment-is : (f : ℕ → Float) (a : Float) (g : ℕ → Float) (b : Float) (l : List ℕ) → moment_of f a g b l ≡ over (λ (s : Float) (j : ℕ). s ⊕ (f j ⊖ a) ⊗ (g j ⊖ b)) zero_f l
+moment-is : (f : ℕ → Float) (a : Float) (g : ℕ → Float) (b : Float) (l : List ℕ) → moment_of f a g b l ≡ fold (λ (s : Float) (j : ℕ). s ⊕ (f j ⊖ a) ⊗ (g j ⊖ b)) zero_f l
 unfolding moment_of
 moment-is f a g b l = refl
 
@@ -97,30 +98,25 @@ module _ (w : View) (r : Row w) where
   abbrev Ranks : List ℕ → Type 0
   Ranks l = All (λ (j : ℕ). j < w.count) l
 
-  sum-y : (l : List ℕ) → Ranks l → over (λ (s : Float) (j : ℕ). s ⊕ w.y j) zero_f l ≡ zero_f
-  unfolding over
+  sum-y : (l : List ℕ) → Ranks l → fold (λ (s : Float) (j : ℕ). s ⊕ w.y j) zero_f l ≡ zero_f
   sum-y [] a = refl
   sum-y (j ∷ l) a = rw (r.y j a.0, zero-sum) (sum-y l a.1)
 
-  sum-x : (l : List ℕ) → Ranks l → (s : Float) → T (plain s) → T (plain (over (λ (s : Float) (j : ℕ). s ⊕ w.x j) s l))
-  unfolding over
+  sum-x : (l : List ℕ) → Ranks l → (s : Float) → T (plain s) → T (plain (fold (λ (s : Float) (j : ℕ). s ⊕ w.x j) s l))
   sum-x [] a s p = p
   sum-x (j ∷ l) a s p = sum-x l a.1 (s ⊕ w.x j) (sum-plain s (w.x j) p (x-plain w r j a.0))
 
-  moment-yy : (l : List ℕ) → Ranks l → over (λ (s : Float) (j : ℕ). s ⊕ (w.y j ⊖ zero_f) ⊗ (w.y j ⊖ zero_f)) zero_f l ≡ zero_f
-  unfolding over
+  moment-yy : (l : List ℕ) → Ranks l → fold (λ (s : Float) (j : ℕ). s ⊕ (w.y j ⊖ zero_f) ⊗ (w.y j ⊖ zero_f)) zero_f l ≡ zero_f
   moment-yy [] a = refl
   moment-yy (j ∷ l) a = rw (r.y j a.0, zero-square) (moment-yy l a.1)
 
-  moment-xy : (c : Float) (l : List ℕ) → Ranks l → (s : Float) → Nil s → Nil (over (λ (s : Float) (j : ℕ). s ⊕ (w.x j ⊖ c) ⊗ (w.y j ⊖ zero_f)) s l)
-  unfolding over
+  moment-xy : (c : Float) (l : List ℕ) → Ranks l → (s : Float) → Nil s → Nil (fold (λ (s : Float) (j : ℕ). s ⊕ (w.x j ⊖ c) ⊗ (w.y j ⊖ zero_f)) s l)
   moment-xy c [] a s p = p
   moment-xy c (j ∷ l) a s p =
       moment-xy c l a.1 (s ⊕ (w.x j ⊖ c) ⊗ (w.y j ⊖ zero_f))
       (add-nil s ((w.x j ⊖ c) ⊗ (w.y j ⊖ zero_f)) p (mul-nil (w.x j ⊖ c) (w.y j ⊖ zero_f) (rw (r.y j a.0) gap-nil)))
 
-  moment-xx : (c : Float) → is_nan c ≡ false → (l : List ℕ) → Ranks l → (s : Float) → T (plain s) → T (plain (over (λ (s : Float) (j : ℕ). s ⊕ (w.x j ⊖ c) ⊗ (w.x j ⊖ c)) s l))
-  unfolding over
+  moment-xx : (c : Float) → is_nan c ≡ false → (l : List ℕ) → Ranks l → (s : Float) → T (plain s) → T (plain (fold (λ (s : Float) (j : ℕ). s ⊕ (w.x j ⊖ c) ⊗ (w.x j ⊖ c)) s l))
   moment-xx c e [] a s p = p
   moment-xx c e (j ∷ l) a s p =
       moment-xx c e l a.1 (s ⊕ (w.x j ⊖ c) ⊗ (w.x j ⊖ c))
@@ -136,7 +132,7 @@ module _ (w : View) (r : Row w) where
 
     mean-x : T (plain (mean_over w.x l))
     unfolding mean_over
-    mean-x = div-plain (over (λ (s : Float) (j : ℕ). s ⊕ w.x j) zero_f l) (of_int binary32 (pos (length l))) (sum-x l ranks zero_f zero-plain) count-positive
+    mean-x = div-plain (fold (λ (s : Float) (j : ℕ). s ⊕ w.x j) zero_f l) (of_int binary32 (pos (length l))) (sum-x l ranks zero_f zero-plain) count-positive
 
     abbrev cx : Float
     cx = mean_over w.x l

@@ -1,4 +1,6 @@
 -- Decimal and hexadecimal texts read back to their numbers; no leading zero; how long they are. Assumes nothing.
+use Rattle.std.proofs.lemmas.List.Sums.{fold_push}
+use Rattle.std.specs.List.{fold}
 use mathlib.Core.Path.{◌≡◌, refl, ap, sym, ◌∙◌}
 use mathlib.Core.Bool.{Bool, true, false, cond}
 use mathlib.Core.List.{List, [], ◌∷◌, ◌++◌}
@@ -11,8 +13,7 @@ use lib.IntN.{pos, ◌-ℤ◌}
 use lib.ListN.{length, get_or, length-append, get_or-append}
 use Rattle.folds.specs.Below.{every}
 use Rattle.folds.proofs.Below.{every-at}
-use Rattle.folds.specs.Lists.{All, over}
-use Rattle.folds.proofs.Lists.{over-snoc}
+use Rattle.folds.specs.Lists.{All}
 use Rattle.text.specs.Text.{bytes, digit, digits, decimal, whole, hex_digit, hex}
 
 -- the two cases of a definition that asks whether n is below m
@@ -61,17 +62,16 @@ module _ (P : ℕ → List ℕ → Type 0) (one : (n : ℕ) → n < 10 → P n (
 
 -- the number that a text of digits spells
 abbrev pub read : ℕ → (ℕ → ℕ) → List ℕ → ℕ
-read base value t = over (λ (a c : ℕ). base * a + value c) 0 t
+read base value t = fold (λ (a c : ℕ). base * a + value c) 0 t
 
 abbrev pub decimal_value : ℕ → ℕ
 decimal_value c = c - 48
 
 -- "in decimal, first digit first": a decimal text reads back to its number
 pub decimal-reads : (n : ℕ) → read 10 decimal_value (decimal n) ≡ n
-unfolding over
 decimal-reads =
     decimal-ind (λ n t. read 10 decimal_value t ≡ n) (λ n h. omega arith)
-    (λ n t h e. over-snoc (λ (a c : ℕ). 10 * a + (c - 48)) 0 t (48 + n % 10) ∙ rw e (omega arith))
+    (λ n t h e. fold_push (λ (a c : ℕ). 10 * a + (c - 48)) 0 t (48 + n % 10) ∙ rw e (omega arith))
 
 all_then : (P : ℕ → Type 0) (s t : List ℕ) → All P s → All P t → All P (s ++ t)
 all_then P [] t h g = g
@@ -100,10 +100,6 @@ decimal-length k n l =
 
 -- ---- hexadecimal
 
-pub hex-digit : (d : ℕ) → d < 16 → hex_digit d ≡ cond (ltb d 10) (48 + d) (55 + d)
-unfolding every
-hex-digit d l = eqb-true (hex_digit d) (cond (ltb d 10) (48 + d) (55 + d)) (every-at (λ (d : ℕ). eqb (hex_digit d) (cond (ltb d 10) (48 + d) (55 + d))) 16 refl d l)
-
 pub hex-none : (k b : ℕ) → k ≡ 0 → hex k b ≡ []
 unfolding hex
 hex-none k b e = rw e
@@ -126,10 +122,10 @@ value-digit d l = eqb-true (hex_value (hex_digit d)) d (every-at (λ (d : ℕ). 
 
 -- k hexadecimal digits read back to a number below 16 ^ k
 pub hex-reads : (k b : ℕ) → b < 16 ^ k → read 16 hex_value (hex k b) ≡ b
-unfolding hex over
+unfolding hex
 hex-reads zero b l = omega arith
 hex-reads (suc k) b l =
-    over-snoc (λ (a c : ℕ). 16 * a + hex_value c) 0 (hex k (b / 16)) (hex_digit (b % 16))
+    fold_push (λ (a c : ℕ). 16 * a + hex_value c) 0 (hex k (b / 16)) (hex_digit (b % 16))
     ∙ rw (hex-reads k (b / 16) (omega (arith, pow-suc 16 k)), value-digit (b % 16) (omega arith)) (omega arith)
 
 -- ---- differences

@@ -110,13 +110,10 @@ impl<'a> Writer<'a> {
 fn decimal_length(n: usize) -> usize
     ensures { result ≡ length (decimal n) }
 {
-    let mut size = 1;
-    let mut rest = n;
-    while 10 <= rest {
-        rest /= 10;
-        size += 1;
+    if n == 0 {
+        return 1;
     }
-    size
+    n.ilog10() as usize + 1
 }
 
 fn difference_length(a: usize, b: usize) -> usize
@@ -132,10 +129,7 @@ fn hex_digit(d: u8) -> u8
     requires { d < 16 }
     ensures { result ≡ hex_digit d }
 {
-    if d < 10 {
-        return 48 + d;
-    }
-    55 + d
+    b"0123456789ABCDEF"[usize::from(d)]
 }
 
 // `refused` and the number.

@@ -17,24 +17,26 @@ ghost use Rattle.validate.specs.Validate.{evidence_of, is_reason, gate_figures, 
 ghost use Rattle.validate.specs.Parts.{Prepared, validated_of};
 
 use blame::Evidence;
+use cells::CelledView;
 use edges::EdgeTable;
 use judged::Measured;
 use judged::figures::FigureColumn;
 use local_h::ResidualColumn;
 use median::Numbers;
 use sheet_file::{EdgeShapeParams, Settings};
-use view::{Lattice, MAX_POINTS, Marks, View, Words};
+use view::{Lattice, MAX_POINTS, Marks};
 
 // Rules 1 to 4: the mark of each rank's index, and its residual, in the place of what stood in the column.
 #[inline(never)]
-fn by_rules(s: Settings, view: &View, keys: &Words, residuals: &mut ResidualColumn) -> Marks
-    ensures marks { result ≡ blame_marks (view_in view.now) (evidence_of s (view_in view.now) (cells_at keys.now)) }
-    ensures residuals { residuals.new ≡ residuals_of (view_in view.now) (cells_at keys.now) }
+fn by_rules(s: Settings, celled: &CelledView, residuals: &mut ResidualColumn) -> Marks
+    ensures marks { result ≡ blame_marks (view_in celled.now.view) (evidence_of s (view_in celled.now.view) (cells_at celled.now.keys.now)) }
+    ensures residuals { residuals.new ≡ residuals_of (view_in celled.now.view) (cells_at celled.now.keys.now) }
 {
-    let steps = step::steps(&view.sheet.lattice, &view.seen, s.use_step_aware);
+    let view = &celled.view;
+    let steps = step::steps(&view.points(), s.use_step_aware);
     let scales = step::scales(&view.sheet, &steps, s.cell_size);
     let flags = lines::line_flags(view, &scales, s.line_tol_rel, s.line_min_members);
-    let r = residuals::index_residuals(view, keys, &scales, s.local_h_tol_rel, residuals);
+    let r = residuals::index_residuals(celled, &scales, s.local_h_tol_rel, residuals);
     let index_steps = Numbers {
         values: &steps,
         count: view.sheet.lattice.count,
@@ -61,13 +63,17 @@ pub fn edge_figures(gate: Option<EdgeShapeParams>, edges: &EdgeTable, figures: &
 }
 
 // 1 where each rank's index lies on the boundary of its patch's box; nowhere without a gate.
-fn boundary_by(gate: Option<EdgeShapeParams>, view: &View, keys: &Words) -> Marks
-    requires { CellKeys view.now.sheet.lattice.count keys.now }
-    ensures { result ≡ gate_boundary gate (view_in view.now) (cells_at keys.now) }
+fn boundary_by(gate: Option<EdgeShapeParams>, celled: &CelledView) -> Marks
+    requires { CellKeys celled.now.view.sheet.lattice.count celled.now.keys.now }
+    ensures { result ≡ gate_boundary gate (view_in celled.now.view) (cells_at celled.now.keys.now) }
 {
     match gate {
         None => [0; MAX_POINTS],
-        Some(_) => patches::boxes::boundary(&view.sheet, keys, &patches::square_sides()),
+        Some(_) => patches::boxes::boundary(
+            &celled.view.sheet,
+            celled.keys,
+            &patches::square_sides(),
+        ),
     }
 }
 
@@ -85,18 +91,17 @@ fn with_reasons(lattice: &Lattice, mark: &Marks, figures: &FigureColumn) -> Mark
 #[inline(never)]
 pub fn validate(
     s: Settings,
-    view: &View,
-    keys: &Words,
+    celled: &CelledView,
     figures: &FigureColumn,
     residuals: &mut ResidualColumn,
 ) -> Measured
-    requires { Prepared s (view_in view.now) keys.now figures.now }
-    ensures measured { result ≡ validated_of s (view_in view.now) (cells_at keys.now) }
-    ensures residuals { residuals.new ≡ residuals_of (view_in view.now) (cells_at keys.now) }
+    requires { Prepared s (view_in celled.now.view) celled.now.keys.now figures.now }
+    ensures measured { result ≡ validated_of s (view_in celled.now.view) (cells_at celled.now.keys.now) }
+    ensures residuals { residuals.new ≡ residuals_of (view_in celled.now.view) (cells_at celled.now.keys.now) }
 {
-    let ruled = by_rules(s, view, keys, residuals);
+    let ruled = by_rules(s, celled, residuals);
     Measured {
-        marks: with_reasons(&view.sheet.lattice, &ruled, figures),
-        boundary: boundary_by(s.edge_shape, view, keys),
+        marks: with_reasons(&celled.view.sheet.lattice, &ruled, figures),
+        boundary: boundary_by(s.edge_shape, celled),
     }
 }

@@ -38,6 +38,10 @@ pub record View : Type 0 where
   pub x : ℕ → Float
   pub y : ℕ → Float
 
+-- what an array of numbers holds at each rank
+abbrev pub value_at : List Float → ℕ → Float
+value_at l k = get_or l k nan
+
 -- the view that a table of ranks and the positions of n points give
 abbrev pub view_at : ℕ → List ℕ → List Float → List Float → View
 view_at n ranks xs ys =
@@ -47,8 +51,8 @@ view_at n ranks xs ys =
       row = λ (k : ℕ). get_or ranks (rows_at + k) 0;
       column = λ (k : ℕ). get_or ranks (columns_at + k) 0;
       by_idx = λ (k : ℕ). get_or ranks (indices_at + k) 0;
-      x = λ (k : ℕ). get_or xs k nan;
-      y = λ (k : ℕ). get_or ys k nan;
+      x = value_at xs;
+      y = value_at ys;
     }
 
 -- ---- what the arrays of an accepted sheet hold

@@ -19,6 +19,13 @@ pub struct Lattice<'a> {
     ghost few: { count ≤ max_points },
 }
 
+// Such a table, and where each point is seen.
+#[derive(Clone, Copy)]
+pub struct SeenLattice<'a> {
+    pub lattice: Lattice<'a>,
+    pub seen: Positions<'a>,
+}
+
 // A table of ranks whose rows, columns and places of indices are ranks.
 #[derive(Clone, Copy)]
 pub struct SheetLattice<'a> {

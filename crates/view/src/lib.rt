@@ -1,17 +1,17 @@
 // What the filters see of a sheet, as arrays: the most points, the table of ranks and what is read of it. See specs/View.antt.
 #![tactic(auto)]
 
-ghost use Rattle.std.specs.Prelude.{◌≡◌, Bool, true, [], ℕ, ◌+◌, ◌*◌, ◌≤◌, ◌<◌, get_or, ltb, IfSome};
+ghost use Rattle.std.specs.Prelude.{◌≡◌, Bool, [], replicate, ℕ, ◌+◌, ◌*◌, ◌≤◌, ◌<◌, get_or, ltb, IfSome};
 ghost use Rattle.folds.specs.Below.{tally};
 ghost use Rattle.folds.specs.Column.{column, overlaid};
 ghost use Rattle.folds.specs.Marked.{bit};
-ghost use Rattle.offsets.specs.Offsets.{is_near, place_of};
+ghost use Rattle.offsets.specs.Offsets.{place_of};
 ghost use Rattle.view.specs.View.{max_points, ranks_size, rows_at, columns_at, indices_at, view_at, rank_at, degree_at};
-ghost use Rattle.view.specs.Seen.{lattice_in, below};
+ghost use Rattle.view.specs.Seen.{lattice_in, seen_in, view_in, below};
 
 mod lattice;
 
-pub use lattice::{Lattice, Positions, SheetLattice, View};
+pub use lattice::{Lattice, Positions, SeenLattice, SheetLattice, View};
 use offsets::Offset;
 
 // Every array with an entry for each point has this length.
@@ -85,39 +85,15 @@ pub fn rank_at_place(ranks: &Ranks, k: usize, d: usize) -> usize
 
 // What it has at offset o from rank k.
 pub fn rank_at(ranks: &Ranks, k: usize, o: Offset) -> usize
-    requires { (k < max_points) × (is_near o ≡ true) }
+    requires { k < max_points }
     ensures { result ≡ get_or ranks.now (25 * k + place_of o) 0 }
 {
     rank_at_place(ranks, k, offsets::place(o))
 }
 
-// The first rank of rank k's row.
-pub fn row_of(ranks: &Ranks, k: usize) -> usize
-    requires { k < max_points }
-    ensures { result ≡ get_or ranks.now (rows_at + k) 0 }
-{
-    usize::from(ranks[ROWS_AT + k])
-}
-
-// The first rank of rank k's column.
-pub fn column_of(ranks: &Ranks, k: usize) -> usize
-    requires { k < max_points }
-    ensures { result ≡ get_or ranks.now (columns_at + k) 0 }
-{
-    usize::from(ranks[COLUMNS_AT + k])
-}
-
-// The last rank with rank k's index, which is the place of the index.
-pub fn index_of(ranks: &Ranks, k: usize) -> usize
-    requires { k < max_points }
-    ensures { result ≡ get_or ranks.now (indices_at + k) 0 }
-{
-    usize::from(ranks[INDICES_AT + k])
-}
-
 // 1 if there is one of n points at offset o from rank k, else 0.
 fn there(ranks: &Ranks, n: usize, k: usize, o: Offset) -> u8
-    requires { (k < max_points) × (is_near o ≡ true) }
+    requires { k < max_points }
     ensures { (result ≡ bit (ltb (get_or ranks.now (25 * k + place_of o) 0) n)) × (result ≤ 1) }
 {
     u8::from(rank_at(ranks, k, o) < n)
@@ -142,12 +118,12 @@ impl Lattice<'_> {
         ensures inside { IfSome result (λ j. j < self.now.count) }
     {
         let j = rank_at_place(self.ranks, k, d);
-        if j < self.count { Some(j) } else { None }
+        (j < self.count).then_some(j)
     }
 
     // The rank at offset o from rank k, if there is a point.
     pub fn neighbour(&self, k: usize, o: Offset) -> Option<usize>
-        requires { (k < max_points) × (is_near o ≡ true) }
+        requires { k < max_points }
         ensures value { result ≡ below self.now.count (rank_at (lattice_in self.now) k o) }
         ensures inside { IfSome result (λ j. j < self.now.count) }
     {
@@ -159,7 +135,7 @@ impl Lattice<'_> {
         requires { k < max_points }
         ensures { result ≡ (lattice_in self.now).row k }
     {
-        row_of(self.ranks, k)
+        usize::from(self.ranks[ROWS_AT + k])
     }
 
     // The first rank of rank k's column.
@@ -167,7 +143,7 @@ impl Lattice<'_> {
         requires { k < max_points }
         ensures { result ≡ (lattice_in self.now).column k }
     {
-        column_of(self.ranks, k)
+        usize::from(self.ranks[COLUMNS_AT + k])
     }
 
     // The last rank with rank k's index, which is the place of the index.
@@ -175,7 +151,7 @@ impl Lattice<'_> {
         requires { k < max_points }
         ensures { result ≡ (lattice_in self.now).by_idx k }
     {
-        index_of(self.ranks, k)
+        usize::from(self.ranks[INDICES_AT + k])
     }
 
     // How many of the four cells that share an edge with rank k's hold a point.
@@ -194,6 +170,27 @@ impl SheetLattice<'_> {
     {
         for k in 0..self.lattice.count {
             out[k] = held[self.lattice.index(k)];
+        }
+    }
+
+    // The same into an array that has `rest` at each entry.
+    pub fn by_index<T: Copy>(&self, held: &[T; MAX_POINTS], rest: T) -> [T; MAX_POINTS]
+        ensures { (d : T) → result ≡ overlaid self.now.lattice.count (λ k. get_or held.now ((lattice_in self.now.lattice).by_idx k) d) (replicate max_points rest) }
+    {
+        let mut out = [rest; MAX_POINTS];
+        self.spread(held, &mut out);
+        out
+    }
+}
+
+impl<'a> View<'a> {
+    // Its points, by themselves.
+    pub fn points(&self) -> SeenLattice<'a>
+        ensures { seen_in result ≡ view_in self.now }
+    {
+        SeenLattice {
+            lattice: self.sheet.lattice,
+            seen: self.seen,
         }
     }
 }

@@ -1,4 +1,5 @@
 -- The sheet that takes longest is accepted, with its points as they stand in the file. Assumes nothing.
+use Rattle.std.specs.List.{list_any}
 use Rattle.std.specs.Prelude.{None}
 use mathlib.Core.Path.{◌≡◌, refl, ◌∙◌}
 use mathlib.Core.Bool.{Bool, true, false, cond}
@@ -11,7 +12,6 @@ use lib.Ieee.{lt, of_bits}
 use lib.ListN.{length, get_or}
 use borrow.Author.Tests.{le-ltb, ne_eqb}
 use Rattle.folds.specs.Arith.{f32}
-use Rattle.folds.specs.Among.{any_in}
 use Rattle.folds.specs.Lists.{All}
 use Rattle.folds.proofs.Among.{any-list, pair-no}
 use Rattle.folds.proofs.Below.{some-no}
@@ -86,7 +86,7 @@ module _ (n : ℕ) (few : n ≤ max_points) where
   words = at_all Words nowhere (worst_points n) (λ k h. let l : k < n = omega (arith, point-count) in rw (point-is k l) (point-words n k (omega arith)))
 
   -- none of 6, 7, 13, 8, 9 and 14 applies
-  points-pass : any_in holds (point_refusals worst_settings.score_frac (worst_points n)) ≡ false
+  points-pass : list_any holds (point_refusals worst_settings.score_frac (worst_points n)) ≡ false
   unfolding point_refusals defaults_for
   points-pass =
       rw (

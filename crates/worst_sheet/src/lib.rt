@@ -1,7 +1,7 @@
 // The sheet of n points that takes longest, as the bytes of its file, into a buffer that the caller lends. What it is stands in specs/Worst.antt.
 #![tactic(auto)]
 
-ghost use Rattle.std.specs.Prelude.{◌≡◌, ℕ, ◌/◌, ◌%◌, ◌<◌, ◌≤◌, [], ◌∷◌, IfSome};
+ghost use Rattle.std.specs.Prelude.{◌≡◌, Some, ℕ, ◌/◌, ◌%◌, ◌<◌, ◌≤◌, [], ◌∷◌, IfSome};
 ghost use Rattle.folds.specs.Same.{same_list};
 ghost use Rattle.view.specs.View.{max_points};
 ghost use Rattle.text.specs.Answer.{Shows};
@@ -11,7 +11,7 @@ ghost use Rattle.sheet_file.specs.Bytes.{little_endian};
 ghost use Rattle.sheet_file.specs.Grammar.{most_data};
 ghost use Rattle.written_file.specs.File.{point_bytes};
 ghost use Rattle.worst_sheet.specs.Worst.{float_bits, strength_at, point_at, worst_file, asked, worst_of, worst_size};
-ghost use Rattle.worst_sheet.specs.Value.{value_of, asked_in};
+ghost use Rattle.worst_sheet.specs.Value.{asked_in};
 
 use little_endian::put_u32;
 use text::{NoRoom, Writer};
@@ -36,15 +36,14 @@ pub fn worst_size() -> usize
 
 // ---- the number that is asked for
 
-// The number that a decimal text spells; of another text some number.
-fn value_of(argument: &[u8]) -> usize
-    ensures { result ≡ value_of argument.now }
+// The number that a decimal text spells, if it is below 65,536.
+fn number_of(argument: &[u8]) -> Option<u16>
+    ensures { (n : ℕ) → n < 65536 → decimal n ≡ argument.now → result ≡ Some n }
 {
-    let mut value = 0;
-    for c in argument {
-        value = (value * 10 + usize::from(*c % 16)) % 65536;
-    }
-    value
+    let Ok(text) = std::str::from_utf8(argument) else {
+        return None;
+    };
+    text.parse::<u16>().ok()
 }
 
 // Whether the argument is n in decimal. No usize has more than 20 digits.
@@ -63,15 +62,11 @@ fn asked_points(argument: &[u8]) -> Option<usize>
     ensures points { asked_in result ≡ asked argument.now }
     ensures few { IfSome result (λ n. n ≤ max_points) }
 {
-    let n = value_of(argument);
+    let n = usize::from(number_of(argument)?);
     if n < 2 || MAX_POINTS < n {
         return None;
     }
-    if is_decimal(n, argument) {
-        Some(n)
-    } else {
-        None
-    }
+    is_decimal(n, argument).then_some(n)
 }
 
 // ---- the bytes of the sheet

@@ -1,4 +1,5 @@
 -- What is read of a written file: the points and the settings that were written, and no refusal of its header. Assumes nothing.
+use Rattle.std.specs.List.{list_any}
 use Rattle.std.specs.Prelude.{None, Some}
 use mathlib.Core.Path.{◌≡◌, refl, sym, ap, ◌∙◌}
 use mathlib.Core.Bool.{false, cond}
@@ -11,7 +12,6 @@ use lib.ListN.{length, get_or, get_or-append}
 use lib.Ieee.{Float}
 use borrow.Author.Tests.{lt-ltb, le-ltb, eq-eqb}
 use Rattle.folds.specs.Arith.{f32}
-use Rattle.folds.specs.Among.{any_in}
 use Rattle.folds.specs.Lists.{All}
 use Rattle.folds.proofs.Lists.{is-list}
 use Rattle.view.specs.View.{max_points}
@@ -141,7 +141,7 @@ module _ (settings : List ℕ) (fraction : ℕ) (ps : List Point) where
   floats-read (inr e) = rw (header-word 3 (omega arith), e)
 
   module _ (room : ℕ) (few : length ps ≤ max_points) (enough : 28 * length ps ≤ room) (size : SettingsSize settings) (flags : bad_flag header f ≡ false) (floats : bad_float header f ≡ false) where
-    header-passes : any_in holds (header_refusals file room (Some f)) ≡ false
+    header-passes : list_any holds (header_refusals file room (Some f)) ≡ false
     unfolding header_refusals
     header-passes =
         rw (

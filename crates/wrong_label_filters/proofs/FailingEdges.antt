@@ -3,7 +3,6 @@ use mathlib.Core.Path.{◌≡◌, refl, sym, ap, ◌∙◌}
 use mathlib.Core.Bool.{Bool, true, false, cond, not, ◌&&◌, ◌||◌, false≢true}
 use mathlib.Core.List.{List}
 use Prim.Native.Nat.{ℕ, ◌+◌, ◌/◌, ◌≤◌, ◌<◌}
-use Rattle.std.specs.Prelude.{Option}
 use Prim.{Dec, yes, no}
 use native.Mathlib.Decide.{dec_lt}
 use native.Mathlib.Omega.{arith}
@@ -34,7 +33,7 @@ use Rattle.edges.specs.declared.StoredEdge.{StoredEdge}
 use Rattle.offsets.specs.declared.axis.Axis.{Axis}
 use Rattle.offsets.specs.Axes.{forward}
 use Rattle.wrong_label_filters.specs.Judged.{positive_edge, in_window, window_lens, sheet_lens, window_x, window_y, overlong, off_axis, fails, end_of_failing, edge_mark}
-use Rattle.wrong_label_filters.specs.Windows.{edge_along, is_under, window_to, with_edge_at, positive_lens, sheet_limit_of, Asked, failing_ends}
+use Rattle.wrong_label_filters.specs.Windows.{edge_along, is_under, window_to, with_edge_at, positive_lens, sheet_limit_of, failing_ends}
 use Rattle.wrong_label_filters.specs.declared.judged_edges.Window.{Window}
 use Rattle.std.proofs.Math.Bool.{and-false}
 use Rattle.std.proofs.lemmas.Bool.{and_parts}
@@ -136,11 +135,11 @@ module _ (w : View) (E : ℕ → StoredEdge) where
         (ap (λ r. leb 8 (tally (positive_edge w E) w.count) && r) (over-is global_overlong_ratio (sheet_lens w E) (E k).len ∙ ap (λ l. lt (global_overlong_ratio ⊗ median_of l) (E k).len) sheet-is))))
 
 -- the verdict on rank k's edge along an axis, which is e, with the window v
-pub verdict-is : (w : View) (axis : Axis) (k : ℕ) {total : ℕ} {limit : Option Float} {e : StoredEdge} {v : Window} → Asked w axis k total limit → e ≡ edge_along w axis k
+pub verdict-is : (w : View) (axis : Axis) (k : ℕ) {total : ℕ} {e : StoredEdge} {v : Window} → total ≡ tally (λ i. lt zero_f (edge_along w axis i).len) w.count → e ≡ edge_along w axis k
     → v ≡ window_to w (edge_along w axis) k e.len 25 → fails w (edge_along w axis) k
     ≡ lt zero_f e.len && cond (leb 5 v.count) (ltb (v.count / 2) v.under || off_axis v.sx v.sy e.ux e.uy) (leb 8 total && lt (sheet_limit_of (edge_along w axis) w.count) e.len)
-verdict-is w axis k {total} {limit} {e} {v} a p q =
-    fails_by w (edge_along w axis) k e.len v total (ap (λ d. d.len) p) q a.total-is
+verdict-is w axis k {total} {e} {v} a p q =
+    fails_by w (edge_along w axis) k e.len v total (ap (λ d. d.len) p) q a
     ∙ rw (← ap (λ d. d.ux) p, ← ap (λ d. d.uy) p) refl
 
 -- the positive lengths, read from a column

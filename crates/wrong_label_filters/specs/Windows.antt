@@ -1,5 +1,5 @@
 -- Words of the inner contracts: edges read from the table, and a window so far. Assumes nothing.
-use Rattle.std.specs.Prelude.{◌≡◌, Bool, cond, ◌&&◌, ◌||◌, List, ℕ, ◌+◌, ◌<◌, eqb, Float, Option, None, Some}
+use Rattle.std.specs.Prelude.{◌≡◌, Bool, cond, ◌&&◌, ◌||◌, List, ℕ, ◌+◌, eqb, Float, Option, None, Some}
 use Rattle.std.specs.Float.Ieee.{lt}
 use Rattle.folds.specs.Arith.{◌⊕◌, ◌⊗◌, zero_f}
 use Rattle.folds.specs.Below.{tally, sum_of}
@@ -16,6 +16,7 @@ use Rattle.edges.specs.Edges.{stored_at}
 use Rattle.edges.specs.declared.StoredEdge.{StoredEdge}
 use Rattle.wrong_label_filters.specs.Judged.{in_window}
 use Rattle.wrong_label_filters.specs.declared.judged_edges.EdgesAlong.{EdgesAlong}
+use Rattle.wrong_label_filters.specs.declared.judged_edges.Known.{Known}
 use Rattle.wrong_label_filters.specs.declared.judged_edges.Window.{Window}
 
 -- the edges along an axis
@@ -71,11 +72,10 @@ abbrev pub Limits : (ℕ → StoredEdge) → ℕ → Option Float → Type 0
 Limits E n None = Unit {0}
 Limits E n (Some x) = x ≡ sheet_limit_of E n
 
--- what the verdict on rank k's edge is asked with
-pub record Asked (w : View) (axis : Axis) (k total : ℕ) (limit : Option Float) : Type 0 where
-  pub below : k < w.count
-  pub total-is : total ≡ tally (λ i. lt zero_f (edge_along w axis i).len) w.count
-  pub limits : Limits (edge_along w axis) w.count limit
+-- what is known of the edges by then
+pub record Knows (a : EdgesAlong) (known : Known) : Type 0 where
+  pub total-is : known.total ≡ tally (λ i. lt zero_f (edges_in a i).len) (sheet_in a).count
+  pub limits : Limits (edges_in a) (sheet_in a).count known.limit
 
 -- the edge from rank k over the offset o leads to a point, it fails, and m is one of its ends
 abbrev pub failing_ends : View → Offset → (ℕ → Bool) → ℕ → ℕ → Bool

@@ -1,7 +1,6 @@
 // Ends of rows and columns whose spacing has a kink.
-ghost use Rattle.std.specs.Prelude.{◌≡◌, true, not, ◌&&◌, ◌||◌, ℕ, ◌<◌, eqb, ltb};
+ghost use Rattle.std.specs.Prelude.{◌≡◌, not, ◌&&◌, ◌||◌, ℕ, ◌<◌, eqb, ltb};
 ghost use Rattle.folds.specs.Marked.{Marked};
-ghost use Rattle.offsets.specs.Offsets.{is_near};
 ghost use Rattle.view.specs.Seen.{view_in};
 ghost use Rattle.wrong_label_filters.specs.Frontier.{kink, kink_at, frontier_mark};
 ghost use Rattle.wrong_label_filters.specs.Lasts.{line_in, line_mark, Lasts};
@@ -31,7 +30,7 @@ fn has_kink(e0: Distance, e1: Distance, e2: Distance) -> bool
 // Whether four cells follow each other inward from rank k, with a kink there.
 #[tactic(auto, using(crate::proofs::LineEnds::kink_steps), unfolding(step::specs::Step::spacing))]
 fn kink_at(view: &View, inward: Offset, k: usize) -> bool
-    requires { (is_near inward ≡ true) × (k < view.now.sheet.lattice.count) }
+    requires { k < view.now.sheet.lattice.count }
     ensures { result ≡ kink_at (view_in view.now) inward k }
 {
     let lattice = view.sheet.lattice;
@@ -56,7 +55,7 @@ fn kink_at(view: &View, inward: Offset, k: usize) -> bool
 
 // Whether rank k is the end of its line, with a kink there.
 fn end_at(view: &View, end: usize, inward: Offset, k: usize) -> bool
-    requires { (is_near inward ≡ true) × (k < view.now.sheet.lattice.count) }
+    requires { k < view.now.sheet.lattice.count }
     ensures { result ≡ eqb end k && kink_at (view_in view.now) inward k }
 {
     end == k && kink_at(view, inward, k)

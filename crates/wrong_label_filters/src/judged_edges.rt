@@ -10,7 +10,7 @@ ghost use Rattle.offsets.specs.Axes.{forward};
 ghost use Rattle.view.specs.View.{max_points};
 ghost use Rattle.view.specs.Seen.{view_in};
 ghost use Rattle.wrong_label_filters.specs.Judged.{off_axis, fails, edge_mark};
-ghost use Rattle.wrong_label_filters.specs.Windows.{sheet_in, edges_in, with_edge, with_edge_at, window_to, sheet_limit_of, Limits, Asked, failing_ends};
+ghost use Rattle.wrong_label_filters.specs.Windows.{sheet_in, edges_in, with_edge, with_edge_at, window_to, sheet_limit_of, Knows, failing_ends};
 
 use edges::{EdgeTable, StoredEdge};
 use float::constants::{GLOBAL_OVERLONG_RATIO, OVERLONG_RATIO};
@@ -33,11 +33,11 @@ struct Window {
     sy: f32,
 }
 
-// Whether an edge fails; and 1.6 times the median of the sheet's positive lengths, if it is known by then: only an edge with few others in its
-// window asks for it.
+// How many of the edges have a positive length; and 1.6 times the median of these lengths, if it is known by then: only an edge with few
+// others in its window asks for it.
 #[derive(Clone, Copy)]
-struct Verdict {
-    fails: bool,
+struct Known {
+    total: usize,
     limit: Option<f32>,
 }
 
@@ -138,65 +138,56 @@ impl EdgesAlong<'_> {
     }
 
     // The sheet's limit, taken where it is not known yet.
-    fn sheet_limit(&self, limit: Option<f32>) -> f32
-        requires { Limits (edges_in self.now) (sheet_in self.now).count limit }
-        ensures { result ≡ sheet_limit_of (edges_in self.now) (sheet_in self.now).count }
+    fn sheet_limit(&self, known: &mut Known) -> f32
+        requires { Knows self.now known.old }
+        ensures limit { result ≡ sheet_limit_of (edges_in self.now) (sheet_in self.now).count }
+        ensures known { Knows self.now known.new }
     {
-        match limit {
-            Some(known) => known,
-            None => {
-                let lengths = Numbers {
-                    values: &self.lengths(),
-                    count: self.table.view.sheet.lattice.count,
-                };
-                GLOBAL_OVERLONG_RATIO * median::middle(&lengths)
-            }
+        if let Some(limit) = known.limit {
+            return limit;
         }
+        let lengths = Numbers {
+            values: &self.lengths(),
+            count: self.table.view.sheet.lattice.count,
+        };
+        let limit = GLOBAL_OVERLONG_RATIO * median::middle(&lengths);
+        known.limit = Some(limit);
+        limit
     }
 
-    // Whether the edge that starts at rank k fails; total of the edges have a positive length.
-    fn fails_at(&self, k: usize, total: usize, limit: Option<f32>) -> Verdict
-        requires { Asked (sheet_in self.now) self.now.axis k total limit }
-        ensures { (result.fails ≡ fails (sheet_in self.now) (edges_in self.now) k) × Limits (edges_in self.now) (sheet_in self.now).count result.limit }
+    // Whether the edge that starts at rank k fails.
+    fn fails_at(&self, k: usize, known: &mut Known) -> bool
+        requires { (k < (sheet_in self.now).count) × Knows self.now known.old }
+        ensures fails { result ≡ fails (sheet_in self.now) (edges_in self.now) k }
+        ensures known { Knows self.now known.new }
     {
         let own = self.at(k);
         if 0.0 < own.len {
             let v = self.window_at(k, own.len);
             if 5 <= v.count {
-                return Verdict {
-                    fails: fails_in(v, own),
-                    limit,
-                };
+                return fails_in(v, own);
             }
-            if 8 <= total {
-                let sheet = self.sheet_limit(limit);
-                return Verdict {
-                    fails: sheet < own.len,
-                    limit: Some(sheet),
-                };
+            if 8 <= known.total {
+                return self.sheet_limit(known) < own.len;
             }
         }
-        Verdict {
-            fails: false,
-            limit,
-        }
+        false
     }
 
     // Marks the ends of the edge that starts at rank k, if it fails.
-    fn mark_edge(&self, k: usize, total: usize, limit: Option<f32>, mark: &mut Marks) -> Option<f32>
-        requires { Asked (sheet_in self.now) self.now.axis k total limit }
-        ensures { Marked (failing_ends (sheet_in self.now) (forward self.now.axis) (fails (sheet_in self.now) (edges_in self.now)) k) mark.old mark.new × Limits (edges_in self.now) (sheet_in self.now).count result }
+    fn mark_edge(&self, k: usize, known: &mut Known, mark: &mut Marks)
+        requires { (k < (sheet_in self.now).count) × Knows self.now known.old }
+        ensures mark { Marked (failing_ends (sheet_in self.now) (forward self.now.axis) (fails (sheet_in self.now) (edges_in self.now)) k) mark.old mark.new }
+        ensures known { Knows self.now known.new }
     {
         let lattice = self.table.view.sheet.lattice;
         let Some(e) = lattice.neighbour(k, self.axis.forward()) else {
-            return limit;
+            return;
         };
-        let verdict = self.fails_at(k, total, limit);
-        if verdict.fails {
+        if self.fails_at(k, known) {
             mark[k] = 1;
             mark[e] = 1;
         }
-        verdict.limit
     }
 }
 
@@ -208,9 +199,11 @@ pub(crate) fn mark_failing(table: &EdgeTable, axis: Axis, mark: &mut Marks)
         table: *table,
         axis,
     };
-    let total = edges.sheet_count();
-    let mut limit = None;
+    let mut known = Known {
+        total: edges.sheet_count(),
+        limit: None,
+    };
     for k in 0..table.view.sheet.lattice.count {
-        limit = edges.mark_edge(k, total, limit, mark);
+        edges.mark_edge(k, &mut known, mark);
     }
 }

@@ -5,4 +5,4 @@ use Rattle.edges.specs.Edges.{stored_at, no_stored, blank_column}
 use Rattle.edges.proofs.fill_along.Given as goal
 
 abbrev pub invariant-loop-k : goal.invariant-loop-k
-invariant-loop-k l = Filling blank_column no_stored (stored_at (seen_in l.lattice l.seen) (forward l.axis)) l.k l.column
+invariant-loop-k l = Filling blank_column no_stored (stored_at (seen_in l.points) (forward l.axis)) l.k l.column

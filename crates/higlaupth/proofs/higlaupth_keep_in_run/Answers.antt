@@ -11,7 +11,7 @@ use Rattle.higlaupth.proofs.higlaupth_keep_in_run.Goals as goal
 
 pub number_of-number-requires : goal.number_of-number-requires
 number_of-number-requires c =
-    rw c.keep_in_run-k.ensures.answer (countable-in-run _ _ _ (λ k. (c.type_inv.file k).fits))
+    rw c.keep_in_run-answer.ensures.answer (countable-in-run _ _ _ (λ k. (c.type_inv.file k).fits))
 
 -- the words after the call, by what it gives of the record that the words hold
 module _ (words file : List ℕ) (room : ℕ) {run after : Run} (answer : Result Counts Refusal) (e : run ≡ run_in words) (f : numbered answer ≡ answer_in_run run file room) (g : after ≡ run_after run file room) where
@@ -37,10 +37,10 @@ module _ (words file : List ℕ) (room : ℕ) {run after : Run} (answer : Result
 
 pub returns-then-is_ok-clause-run : goal.returns-then-is_ok-clause-run
 returns-then-is_ok-clause-run c =
-    let k = c.keep_in_run-k.ensures in
-    c.words_of-words.ensures ∙ written c.args.run.now c.args.file.now _ _ c.run_in.ensures k.answer k.run c.if-is_ok.ensures.value
+    let k = c.keep_in_run-answer.ensures in
+    c.words_of-words.ensures ∙ written c.args.run.now c.args.file.now _ _ c.run_in-after.ensures k.answer k.run c.if-is_ok.ensures.value
 
 pub returns-else-is_ok-clause-run : goal.returns-else-is_ok-clause-run
 returns-else-is_ok-clause-run c =
-    let k = c.keep_in_run-k.ensures in
-    left c.args.run.now c.args.file.now _ _ c.run_in.ensures k.answer k.run c.if-is_ok.ensures.value
+    let k = c.keep_in_run-answer.ensures in
+    left c.args.run.now c.args.file.now _ _ c.run_in-after.ensures k.answer k.run c.if-is_ok.ensures.value

@@ -1,18 +1,4 @@
-use native.Mathlib.Omega.{arith}
 use Rattle.higlaupth.proofs.number_of.Goals as goal
 
--- nothing wraps
-pub overflow_mul-result : goal.overflow_mul-result
-overflow_mul-result c = let h = rw c.in-Ok.is at c.requires in omega (arith, h.few-rounds, h.few-points)
-
-pub overflow_add-result : goal.overflow_add-result
-overflow_add-result c = let h = rw c.in-Ok.is at c.requires in omega (arith, h.few-rounds, h.few-points)
-
-pub overflow_mul-result-in-Ok : goal.overflow_mul-result-in-Ok
-overflow_mul-result-in-Ok c = let h = rw c.in-Ok.is at c.requires in omega (arith, h.few-points)
-
-pub overflow_add-result-in-Ok : goal.overflow_add-result-in-Ok
-overflow_add-result-in-Ok c = let h = rw c.in-Ok.is at c.requires in omega (arith, h.few-rounds, h.few-points)
-
-pub overflow_add-result-in-Ok-2 : goal.overflow_add-result-in-Ok-2
-overflow_add-result-in-Ok-2 c = let h = rw c.in-Ok.is at c.requires in omega (arith, h.few-rounds, h.few-components, h.few-points)
+pub packed-requires : goal.packed-requires
+packed-requires c = rw c.in-Ok.is at c.requires

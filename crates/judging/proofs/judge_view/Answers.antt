@@ -6,5 +6,6 @@ use Rattle.judging.proofs.judge_view.Goals as goal
 pub returns : goal.returns
 returns c =
     let a = c.args in
+    let v = a.celled.now.view in
     let m = c.measure-m.ensures in
-    judged-is a.s (view_in a.view.now) (cells_at a.keys.now) a.strength.now _ _ m.findings m.residuals m.figures (c.drop_patches-d.ensures a.view.now.seen.x.now a.view.now.seen.y.now)
+    judged-is a.s (view_in v) (cells_at a.celled.now.keys.now) a.strength.now _ _ m.findings m.residuals m.figures (c.drop_patches-d.ensures v.seen.x.now v.seen.y.now)

@@ -1,12 +1,7 @@
 use mathlib.Core.Path.{refl}
 use Rattle.judged.specs.Judged.{judged_from}
-use Rattle.kept.proofs.Cases.{arrays, fit, done}
+use Rattle.kept.proofs.Cases.{fit, done}
 use Rattle.kept.proofs.keep_sheet.Goals as goal
-
-pub of-requires : goal.of-requires
-of-requires c =
-    let a = c.args in
-    arrays a.file.now a.rows.now (λ k. (c.type_inv.file k).fits) a.sheet.now c.requires
 
 pub judge-j-requires : goal.judge-j-requires
 judge-j-requires c = refl

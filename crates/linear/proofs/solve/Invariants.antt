@@ -4,4 +4,4 @@ use Rattle.linear.specs.Linear.{eliminate_column}
 use Rattle.linear.proofs.solve.Given as goal
 
 abbrev pub invariant-loop-i : goal.invariant-loop-i
-invariant-loop-i l = run eliminate_column l.i 8 (record { rows = l.m; right = l.y }) ≡ run eliminate_column 0 8 (record { rows = l.initial.m; right = l.initial.y })
+invariant-loop-i l = run eliminate_column l.i 8 l.s ≡ run eliminate_column 0 8 l.initial.s

@@ -2,9 +2,8 @@ use Rattle.std.proofs.Common.{rules, ℕ, arith}
 use lib.ListN.{length-replicate}
 use Rattle.folds.proofs.Column.{replicate-at}
 use Rattle.folds.proofs.Scattered.{counted-le}
-use Rattle.view.specs.View.{max_points}
+use Rattle.view.specs.View.{max_points, value_at}
 use Rattle.view.specs.Seen.{view_in}
-use Rattle.lines.specs.Fit.{value_at}
 use Rattle.lines.proofs.Marking.{line-counts}
 use Rattle.lines.proofs.line_flags.Goals as goal
 

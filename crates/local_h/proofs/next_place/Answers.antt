@@ -1,6 +1,6 @@
-use Rattle.std.proofs.Common.{refl, sym, ◌∙◌, arith}
+use Rattle.std.proofs.Common.{refl, sym, ◌∙◌}
 use Rattle.view.specs.Seen.{lattice_in}
-use Rattle.local_h.proofs.Finding.{asked, passed-none, passed-some, stopped, ended}
+use Rattle.local_h.proofs.Finding.{passed-none, passed-some, stopped, ended}
 use Rattle.local_h.proofs.next_place.Goals as goal
 use Rattle.local_h.proofs.next_place.Goals.{in-Some+else-serves, in_default}
 
@@ -12,17 +12,13 @@ loop-p-preserved g c h t =
     let w = lattice_in c.args.lattice.now in
     let left = c.loop-p.invariant h t in
     elim c.match-other.branch [
-      | in-Some+else-serves b ↦ passed-some w c.args.k h c.args.start c.loop-p.p left c.loop-p-test.true b.in-Some.ensures.value (sym (t b.in-Some.f.offset b.serves.result b.in-Some.ensures.within b.serves.ensures) ∙ b.if-serves.false)
-      | in_default b ↦ passed-none w c.args.k h c.args.start c.loop-p.p left c.loop-p-test.true b.in_default.ensures.value
+      | in-Some+else-serves b ↦ passed-some w c.args.k h c.args.start c.loop-p.p left c.loop-p-test.true b.in-Some.ensures (sym (t b.in-Some.f.offset b.serves.result b.serves.ensures) ∙ b.if-serves.false)
+      | in_default b ↦ passed-none w c.args.k h c.args.start c.loop-p.p left c.loop-p-test.true b.in_default.ensures
     ]
 
 pub returns-then-serves-clause-value : goal.returns-then-serves-clause-value
 returns-then-serves-clause-value g c h t =
-    stopped (lattice_in c.args.lattice.now) c.args.k h c.args.start c.loop-p.p (c.loop-p.invariant h t) c.loop-p-test.true c.in-Some.ensures.value (sym (t c.in-Some.f.offset c.serves.result c.in-Some.ensures.within c.serves.ensures) ∙ c.if-serves.true)
-
-pub returns-then-serves-clause-within : goal.returns-then-serves-clause-within
-returns-then-serves-clause-within g c =
-    (omega (arith, asked (lattice_in c.args.lattice.now) c.args.k c.loop-p.p c.in-Some.ensures.value), c.in-Some.ensures.within)
+    stopped (lattice_in c.args.lattice.now) c.args.k h c.args.start c.loop-p.p (c.loop-p.invariant h t) c.loop-p-test.true c.in-Some.ensures (sym (t c.in-Some.f.offset c.serves.result c.serves.ensures) ∙ c.if-serves.true)
 
 pub returns-clause-value : goal.returns-clause-value
 returns-clause-value g c h t =

@@ -1,7 +1,6 @@
-use Rattle.std.proofs.Common.{◌≡◌, Bool, true, ◌&&◌, ℕ}
+use Rattle.std.proofs.Common.{◌≡◌, Bool, ◌&&◌, ℕ}
 use Rattle.folds.specs.Below.{first}
 use Rattle.offsets.specs.declared.Offset.{Offset}
-use Rattle.offsets.specs.Offsets.{is_near}
 use Rattle.view.specs.Seen.{lattice_in}
 use Rattle.local_h.specs.Order.{offset_at}
 use Rattle.local_h.specs.Base.{is_other}
@@ -9,5 +8,5 @@ use Rattle.local_h.proofs.next_place.Given as goal
 
 abbrev pub invariant-loop-p : goal.invariant-loop-p
 invariant-loop-p g l =
-    (h : Offset → Bool) → ((o : Offset) (r : Bool) → is_near o ≡ true → goal.F-post g l.serves o r → r ≡ h o)
+    (h : Offset → Bool) → ((o : Offset) (r : Bool) → goal.F-post g l.serves o r → r ≡ h o)
     → first (λ (p : ℕ). h (offset_at p) && is_other (lattice_in l.lattice) l.k p) l.p 24 ≡ first (λ (p : ℕ). h (offset_at p) && is_other (lattice_in l.lattice) l.k p) l.start 24

@@ -12,6 +12,6 @@ unfolding index_marks
 returns c xs ys =
     let w = lattice_in c.args.sheet.now.lattice in
     let held : ℕ → ℕ = λ m. bit (place_has w c.args.mark.now m) in
-    spread-column 0 w.count _ _ (c.spread.ensures 0) (λ k h.
+    spread-column 0 w.count _ _ (c.by_index.ensures 0) (λ k h.
     let below : w.by_idx k < w.count = c.args.sheet.now.ranked.indices k h in
-    rw (c.at_index-held.ensures, column-at max_points 0 w.count held (w.by_idx k) below))
+    rw (c.at_index.ensures, column-at max_points 0 w.count held (w.by_idx k) below))

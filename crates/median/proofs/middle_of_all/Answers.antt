@@ -12,13 +12,13 @@ pub returns-then-v-eq0 : goal.returns-then-v-eq0
 returns-then-v-eq0 c =
     nan-is ∙ sym (no-median _ (length-list _ _ ∙ c.if-v-eq0.true))
 
-pub bounds-v-a : goal.bounds-v-a
-bounds-v-a c =
+pub bounds-v-place : goal.bounds-v-place
+bounds-v-place c =
     let g = c.args in
-    omega (arith, key-in-order c.keys_in_order-a.ensures (g.v.now.count / 2) (omega arith), placed_below (key_at g.v.now.values.now) g.v.now.count (omega arith) (g.v.now.count / 2) (omega arith))
+    omega (arith, c.place.ensures, key-in-order c.keys_in_order-a.ensures c.index-a-v.result (g.v.now.count / 2) (omega arith) (omega arith), placed_below (key_at g.v.now.values.now) g.v.now.count (omega arith) (g.v.now.count / 2) (omega arith))
 
 pub returns : goal.returns
 returns c =
     let g = c.args in
     let k = c.keys_in_order-a.ensures in
-    rw (key-in-order k (g.v.now.count / 2) (omega arith)) (median-at g.v.now.values.now g.v.now.count (omega arith) k.numbers (omega arith))
+    rw (c.place.ensures, key-in-order k c.index-a-v.result (g.v.now.count / 2) (omega arith) (omega arith)) (median-at g.v.now.values.now g.v.now.count (omega arith) k.numbers (omega arith))

@@ -8,4 +8,4 @@ use Rattle.std.specs.Prelude.{None}
 use Rattle.residuals.proofs.cell_residuals.Given as goal
 
 abbrev pub invariant-loop-k : goal.invariant-loop-k
-invariant-loop-k l = Filling (replicate max_points None) None (residual_at (view_in l.view) (cells_at l.keys)) l.k l.values
+invariant-loop-k l = Filling (replicate max_points None) None (residual_at (view_in l.celled.view) (cells_at l.celled.keys.now)) l.k l.values

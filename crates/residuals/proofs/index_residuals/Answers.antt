@@ -8,9 +8,10 @@ use Rattle.residuals.proofs.index_residuals.Goals as goal
 
 pub returns : goal.returns
 returns c =
-    let w = view_in c.args.view.now in
-    let cell = cells_at c.args.keys.now in
+    let v = c.args.celled.now.view in
+    let w = view_in v in
+    let cell = cells_at c.args.celled.now.keys.now in
     record {
       residuals = residuals-are w cell c.cell_residuals.ensures c.gather.ensures;
-      flags = flags-are w (residual_at w cell) (λ (j : ℕ). get_or c.args.scale.now j nan) c.args.tolerance c.cell_residuals.ensures c.flags_of.ensures (c.by_index.ensures c.args.view.now.seen.x.now c.args.view.now.seen.y.now) (c.by_index-2.ensures c.args.view.now.seen.x.now c.args.view.now.seen.y.now);
+      flags = flags-are w (residual_at w cell) (λ (j : ℕ). get_or c.args.scale.now j nan) c.args.tolerance c.cell_residuals.ensures c.flags_of.ensures (c.by_index.ensures v.seen.x.now v.seen.y.now) (c.by_index-2.ensures v.seen.x.now v.seen.y.now);
     }

@@ -1,12 +1,7 @@
 use Rattle.std.proofs.Common.{refl}
 use Rattle.judged.specs.Judged.{judged_from}
-use Rattle.sheet_fills.proofs.Cases.{arrays, fitted, done}
+use Rattle.sheet_fills.proofs.Cases.{fitted, done}
 use Rattle.sheet_fills.proofs.fill_read.Goals as goal
-
-pub of-columns-requires : goal.of-columns-requires
-of-columns-requires c =
-    let a = c.args in
-    arrays a.file.now a.out.now (λ k. (c.type_inv.file k).fits) a.sheet.now c.requires
 
 pub judge_sheet-j-requires : goal.judge_sheet-j-requires
 judge_sheet-j-requires c = (refl, refl)

@@ -1,8 +1,8 @@
-use Rattle.sheet_map.proofs.Cases.{turned, ready, drawn}
+use Rattle.ruling.specs.Ruling.{rows_size}
+use Rattle.judging.proofs.Sheets.{refused-sheet}
+use Rattle.sheet_map.specs.Text.{map_ruling_of, map_text_of}
+use Rattle.sheet_map.proofs.Cases.{drawn}
 use Rattle.sheet_map.proofs.draw_sheet.Goals as goal
-
-pub of-requires : goal.of-requires
-of-requires c = ready c.args.file.now (λ k. (c.type_inv.file k).fits) c.in-Ok.sheet (rw c.in-Ok.is at c.read.ensures)
 
 pub returns-in-Ok : goal.returns-in-Ok
 returns-in-Ok c =
@@ -11,4 +11,5 @@ returns-in-Ok c =
     at (rw (p.settings, p.count, p.keys, p.idx, p.x, p.y, p.strength) at c.draw.ensures)
 
 pub returns-in-Err : goal.returns-in-Err
-returns-in-Err c = rw (turned c.args.file.now c.in-Err.refusal (rw c.in-Err.is at c.read.ensures)) at (rw c.number.ensures at c.write_refusal.ensures)
+unfolding map_text_of map_ruling_of
+returns-in-Err c = rw (refused-sheet c.args.file.now rows_size c.in-Err.refusal (rw c.in-Err.is at c.read.ensures)) (rw c.number.ensures at c.write_refusal.ensures)

@@ -1,22 +1,22 @@
-use mathlib.Core.Path.{◌≡◌, ap}
-use Prim.Native.Nat.{ℕ, ◌+◌, ◌/◌, ◌%◌, ◌≤◌}
+use mathlib.Core.Path.{◌≡◌, ap, sym}
+use Prim.Native.Nat.{ℕ, zero, suc, ◌*◌, ◌/◌, ◌%◌, ◌^◌, ◌≤◌, ◌<◌}
+use native.Mathlib.Nat.{pow-suc}
 use native.Mathlib.Omega.{arith}
 use lib.ListN.{length, length-append}
+use Rattle.std.proofs.Math.Nat.{one-le-pow}
 use Rattle.text.specs.Text.{digit, decimal}
-use Rattle.text.proofs.Numbers.{decimal-one, decimal-more, decimal-length}
+use Rattle.text.proofs.Numbers.{decimal-one, decimal-more}
 use Rattle.text.proofs.decimal_length.Goals as goal
 
-one_less : (n : ℕ) → 10 ≤ n → length (decimal n) ≡ length (decimal (n / 10)) + 1
-one_less n h = rw (decimal-more n h) (length-append (decimal (n / 10)) (digit (n % 10)))
+-- a number from 10 ^ k up to below 10 ^ (k + 1) has k + 1 digits
+sized : (k n : ℕ) → 10 ^ k ≤ n → n < 10 * 10 ^ k → length (decimal n) ≡ suc k
+sized zero n l h = ap length (decimal-one n h)
+sized (suc k) n l h =
+    let p = pow-suc 10 k in
+    rw (decimal-more n (omega (arith, p, one-le-pow k 10 (omega arith))), length-append (decimal (n / 10)) (digit (n % 10)), sized k (n / 10) (omega (arith, p)) (omega (arith, p))) (omega arith)
 
-pub overflow_add-size : goal.overflow_add-size
-overflow_add-size c =
-    omega (arith, decimal-length 19 c.args.n (omega arith), c.loop-rest.invariant)
-
-pub loop-rest-preserved : goal.loop-rest-preserved
-loop-rest-preserved c =
-    omega (arith, one_less c.loop-rest.rest (omega arith), c.loop-rest.invariant)
+pub returns-then-n-eq0 : goal.returns-then-n-eq0
+returns-then-n-eq0 c = sym (ap length (decimal-one c.args.n (omega arith)))
 
 pub returns : goal.returns
-returns c =
-    let e : length (decimal c.loop-rest.rest) ≡ 1 = ap length (decimal-one c.loop-rest.rest (omega arith)) in omega (arith, c.loop-rest.invariant)
+returns c = omega (arith, sized _ _ c.ilog10.ensures.power_le c.ilog10.ensures.next_power_gt)

@@ -8,6 +8,6 @@ returns c =
     let a = c.args in
     let r = c.by_rules-ruled.ensures in
     record {
-      measured = all_are a.s (view_in a.view.now) (cells_at a.keys.now) a.figures.now r.marks c.requires.reasons c.boundary_by.ensures c.with_reasons.ensures;
+      measured = all_are a.s (view_in a.celled.now.view) (cells_at a.celled.now.keys.now) a.figures.now r.marks c.requires.reasons c.boundary_by.ensures c.with_reasons.ensures;
       residuals = r.residuals;
     }

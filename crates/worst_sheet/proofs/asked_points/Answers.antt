@@ -1,20 +1,14 @@
-use Rattle.std.proofs.Common.{sym, ◌∙◌, arith, rules}
-use mathlib.Core.Bool.{false≢true}
-use Rattle.folds.proofs.Same.{same_self, same-equal}
-use Rattle.text.specs.Text.{decimal}
-use Rattle.worst_sheet.proofs.Asked.{asked_is, asked-else}
+use Rattle.std.proofs.Common.{◌≡◌, Option, None, Some, ℕ, sym, ◌∙◌, arith, rules}
+use Rattle.worst_sheet.proofs.Asked.{asked-else, asked-told, some_same}
 use Rattle.worst_sheet.proofs.asked_points.Goals as goal
 
+pub returns-in_err-number_of-clause-points : goal.returns-in_err-number_of-clause-points
+returns-in_err-number_of-clause-points c = rw c.from_residual.ensures (sym (asked-else _ (λ m g l e. let f : ◌≡◌ {A = Option ℕ} None (Some m) = sym c.in_err-number_of.was ∙ c.number_of.ensures m (omega arith) e in cc)))
+
 pub returns-then-n-lt2 : goal.returns-then-n-lt2
-returns-then-n-lt2 c = let v = c.value_of-n.ensures in record { points = sym (asked-else _ (λ g l e. omega (arith, c.then-n-lt2.either))); few = search rules }
+returns-then-n-lt2 c = record { points = sym (asked-else _ (λ m g l e. omega (arith, c.then-n-lt2.either, c.from-n.ensures, some_same (sym c.in_ok-number_of.was ∙ c.number_of.ensures m (omega arith) e)))); few = search rules }
 
-pub returns-then-is_decimal : goal.returns-then-is_decimal
-returns-then-is_decimal c =
-    let a = c.args.argument.now in
-    let n = c.value_of-n.result in
-    record { points = sym (asked_is a n (omega arith) (omega arith) (same-equal (decimal n) a (sym c.is_decimal.ensures ∙ c.if-is_decimal.true))); few = search rules }
-
-pub returns-else-is_decimal : goal.returns-else-is_decimal
-returns-else-is_decimal c =
-    let a = c.args.argument.now in
-    record { points = sym (asked-else a (λ g l e. false≢true (sym c.if-is_decimal.false ∙ c.is_decimal.ensures ∙ rw (c.value_of-n.ensures, e) (same_self a)))); few = search rules }
+pub returns : goal.returns
+returns c =
+    rw c.then_some.ensures
+    (record { points = asked-told _ _ (omega arith) (omega arith) (λ m l e. sym (c.from-n.ensures ∙ some_same (sym c.in_ok-number_of.was ∙ c.number_of.ensures m l e))) _ c.is_decimal.ensures; few = search rules })

@@ -1,7 +1,7 @@
+use Rattle.std.proofs.lemmas.List.Sums.{fold_more}
+use Rattle.std.specs.List.{fold}
 use Rattle.std.proofs.Common.{rules, refl, ◌≡◌, [], arith}
 use Rattle.std.specs.Prelude.{None}
-use Rattle.folds.specs.Lists.{over}
-use Rattle.folds.proofs.Lists.{over-more}
 use Rattle.view.specs.Seen.{lattice_in}
 use Rattle.blame.specs.Marks.{evidence_in, place_in}
 use Rattle.blame.proofs.Blamed.{members-there, blamed-by, place-inside}
@@ -12,12 +12,11 @@ worse-worst-requires-clause-member c =
     let v = c.args.self.now.sheet in members-there (lattice_in v.lattice) c.args.k (c.pick_local_h_base-base.ensures [] []) c.loop-p.p-index
 
 pub loop-p-init : goal.loop-p-init
-unfolding over
 loop-p-init c = (refl, tt)
 
 pub loop-p-preserved : goal.loop-p-preserved
 loop-p-preserved c =
-    (rw (over-more _ _ c.pick_local_h_base-base.result c.loop-p.p-index None (omega arith), ← c.loop-p.invariant.0) c.worse-worst.ensures.value, c.worse-worst.ensures.inside)
+    (rw (fold_more _ _ c.pick_local_h_base-base.result c.loop-p.p-index None (omega arith), ← c.loop-p.invariant.0) c.worse-worst.ensures.value, c.worse-worst.ensures.inside)
 
 pub returns : goal.returns
 returns c =

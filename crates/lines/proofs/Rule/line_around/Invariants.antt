@@ -1,4 +1,5 @@
-use Rattle.lines.specs.Fit.{value_at, moment_of}
+use Rattle.view.specs.View.{value_at}
+use Rattle.lines.specs.Fit.{moment_of}
 use lib.ListN.{take}
 use mathlib.Core.Path.{◌≡◌}
 use Rattle.lines.proofs.Rule.line_around.Given as goal

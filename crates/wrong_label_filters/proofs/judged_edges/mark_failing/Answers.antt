@@ -7,13 +7,13 @@ use Rattle.wrong_label_filters.proofs.judged_edges.mark_failing.Goals as goal
 
 pub loop-k-init : goal.loop-k-init
 unfolding some
-loop-k-init c = (marked-none _ _ (λ m. refl), c.sheet_count-total.ensures, tt)
+loop-k-init c = (marked-none _ _ (λ m. refl), record { total-is = c.sheet_count.ensures; limits = tt })
 
 pub loop-k-preserved : goal.loop-k-preserved
 loop-k-preserved c =
     let l = c.loop-k in
     let a = c.args in
-    (marked_more (hits (view_in a.table.now.view) a.axis) l.k l.invariant.0 c.mark_edge-limit.ensures.0, l.invariant.1, c.mark_edge-limit.ensures.1)
+    (marked_more (hits (view_in a.table.now.view) a.axis) l.k l.invariant.0 c.mark_edge.ensures.mark, c.mark_edge.ensures.known)
 
 pub returns : goal.returns
 returns c =

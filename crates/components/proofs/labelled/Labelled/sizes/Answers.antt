@@ -10,7 +10,7 @@ use Rattle.components.proofs.labelled.Labelled.sizes.Goals as goal
 use Rattle.components.proofs.labelled.Labelled.sizes.Goals.{then-s-self, else-s-self}
 
 pub loop-k-init : goal.loop-k-init
-loop-k-init c = labels-none c.args.self.now.label c.args.self.now.count one_more
+loop-k-init c = labels-none 0 c.args.self.now.label c.args.self.now.count one_more
 
 pub overflow_add-size : goal.overflow_add-size
 overflow_add-size c =
@@ -23,8 +23,8 @@ pub loop-k-preserved : goal.loop-k-preserved
 loop-k-preserved c =
     let a = c.args.self.now in
     elim c.if-s-self.branch [
-      | then-s-self w ↦ rw w.size-is (labels-put a.label a.count one_more c.loop-k.k c.from-s.result a.few c.from-s.ensures w.if-s-self.true c.loop-k.invariant)
-      | else-s-self w ↦ rw w.size-is (labels-skip a.label a.count one_more c.loop-k.k c.from-s.result c.from-s.ensures w.if-s-self.false c.loop-k.invariant)
+      | then-s-self w ↦ rw w.size-is (labels-put 0 a.label a.count one_more c.loop-k.k c.from-s.result a.few c.from-s.ensures w.if-s-self.true c.loop-k.invariant)
+      | else-s-self w ↦ rw w.size-is (labels-skip 0 a.label a.count one_more c.loop-k.k c.from-s.result c.from-s.ensures w.if-s-self.false c.loop-k.invariant)
     ]
 
 pub returns : goal.returns

@@ -8,4 +8,4 @@ use Rattle.patches.proofs.search.Search.expand.Given as goal
 abbrev pub invariant-loop-o : goal.invariant-loop-o
 invariant-loop-o l =
     (l.x < max_points)
-    × Expanding (lattice_in l.lattice) (places l.sides) l.s l.head l.x l.initial.self.visited l.initial.self.label l.initial.self.queue l.initial.self.tail l.self.visited l.self.label l.self.queue l.self.tail l.o-index
+    × Expanding (lattice_in l.linked.lattice) (places l.linked.sides.now) l.s l.head l.x l.initial.self.visited l.initial.self.label l.initial.self.queue l.initial.self.tail l.self.visited l.self.label l.self.queue l.self.tail l.o-index

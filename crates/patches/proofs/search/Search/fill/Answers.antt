@@ -12,4 +12,4 @@ pub loop-head-preserved : goal.loop-head-preserved
 loop-head-preserved c = advance-then c.loop-head.invariant c.expand.ensures
 
 pub returns : goal.returns
-returns c = fill_end c.requires.1 c.args.self.now.list c.visit.ensures c.loop-head.invariant c.loop-head-test.false
+returns c = fill_end c.requires c.args.self.now.list c.visit.ensures c.loop-head.invariant c.loop-head-test.false

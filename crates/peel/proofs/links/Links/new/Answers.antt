@@ -15,4 +15,4 @@ loop-k-preserved c =
 pub invariant_of-result : goal.invariant_of-result
 invariant_of-result c =
     let e : c.loop-k.k ≡ c.args.sheet.now.lattice.count = omega arith in
-    record { near = c.requires; chained = rw e at c.loop-k.invariant }
+    record { chained = rw e at c.loop-k.invariant }

@@ -5,4 +5,4 @@ use Rattle.peel.specs.Steps.{SearchedBy}
 use Rattle.peel.proofs.removals.Removals.around.Given as goal
 
 abbrev pub invariant-loop-o : goal.invariant-loop-o
-invariant-loop-o l = SearchedBy l.links l.state (λ (k : ℕ). Beside l.links.sheet.lattice.ranks.now (places l.links.sides.now) l.o-index l.x k) l.initial.self l.self
+invariant-loop-o l = SearchedBy l.round (λ (k : ℕ). Beside l.round.links.now.sheet.lattice.ranks.now (places l.round.links.now.sides.now) l.o-index l.x k) l.initial.self l.self

@@ -6,7 +6,7 @@ use Rattle.peel.proofs.removals.Removals.consider.Goals as goal
 
 pub put-requires : goal.put-requires
 put-requires c =
-    let v = c.args.links.now.sheet in
+    let v = c.args.round.now.links.now.sheet in
     let i = c.loop-next.invariant in
     let l = last-is _ i.0 c.in-Some.x (sym i.1 ∙ c.in-Some.is) in
     (omega (arith, l.below, i.2.within, v.lattice.few), put-new i.2 l)
@@ -19,12 +19,12 @@ before-next-requires c =
 
 pub loop-next-smaller : goal.loop-next-smaller
 loop-next-smaller c =
-    let less : past c.before-next.result < past (Some c.in-Some.x) = omega (arith, ap past c.before-next.ensures, past-le (with_index c.args.links.now.sheet.lattice.ranks.now (index_at c.args.links.now.sheet.lattice.ranks.now c.in-Some.x)) c.in-Some.x) in
+    let less : past c.before-next.result < past (Some c.in-Some.x) = omega (arith, ap past c.before-next.ensures, past-le (with_index c.args.round.now.links.now.sheet.lattice.ranks.now (index_at c.args.round.now.links.now.sheet.lattice.ranks.now c.in-Some.x)) c.in-Some.x) in
     rw c.in-Some.is less
 
 pub loop-next-preserved : goal.loop-next-preserved
 loop-next-preserved c =
-    let v = c.args.links.now.sheet in
+    let v = c.args.round.now.links.now.sheet in
     let i = c.loop-next.invariant in
     let l = last-is _ i.0 c.in-Some.x (sym i.1 ∙ c.in-Some.is) in
     let e = c.put.ensures in (

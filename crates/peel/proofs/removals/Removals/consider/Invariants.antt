@@ -6,8 +6,8 @@ use Rattle.peel.proofs.removals.Removals.consider.Given as goal
 
 abbrev pub invariant-loop-next : goal.invariant-loop-next
 invariant-loop-next l =
-    let n = l.links.sheet.lattice.count in
-    let ranks = l.links.sheet.lattice.ranks.now in
+    let n = l.round.links.now.sheet.lattice.count in
+    let ranks = l.round.links.now.sheet.lattice.ranks.now in
     let b = index_at ranks l.k in
     (m : ℕ) × (l.next ≡ last_below (with_index ranks b) m) × Putting n ranks b m l.initial.self.marks l.initial.self.queue l.initial.self.tail l.self.marks l.self.queue l.self.tail
 

@@ -3,4 +3,4 @@ use Rattle.peel.specs.Steps.{SearchedBy}
 use Rattle.peel.proofs.removals.Removals.scan.Given as goal
 
 abbrev pub invariant-loop-k : goal.invariant-loop-k
-invariant-loop-k l = SearchedBy l.links l.state (λ (j : ℕ). j < l.k) l.initial.self l.self
+invariant-loop-k l = SearchedBy l.round (λ (j : ℕ). j < l.k) l.initial.self l.self

@@ -4,4 +4,4 @@ use Rattle.predict.specs.Steps.{view_of}
 use Rattle.predict.proofs.kept.Kept.prediction.Given as goal
 
 abbrev pub invariant-loop-o : goal.invariant-loop-o
-invariant-loop-o l = l.sums ≡ sums_to (view_of l.self) l.self.marks.now l.k l.sides l.o-index
+invariant-loop-o l = l.sums ≡ sums_to (view_of l.self) l.self.marks.now l.k l.self.sides.now l.o-index

@@ -24,7 +24,7 @@ returns-then-is_inner c =
 
 pub returns-then-end_at : goal.returns-then-end_at
 unfolding line_mark
-returns-then-end_at c = rw (← c.first-first.ensures.0, ← c.forward.ensures.0, ← c.end_at.ensures, c.if-end_at.true)
+returns-then-end_at c = rw (← c.first-first.ensures.0, ← c.forward.ensures, ← c.end_at.ensures, c.if-end_at.true)
 
 pub returns : goal.returns
 unfolding line_mark
@@ -32,4 +32,4 @@ returns c =
     let a = c.args in
     let w = view_in a.self.now.view in
     let last = last-is w (line_in a.self.now) a.lasts.now a.k c.first-first.result c.requires.0 c.first-first.ensures.0 (omega (arith, c.first-first.ensures.1, a.self.now.view.sheet.lattice.few)) in
-    rw (← last, ← c.from-last.ensures, ← c.first-first.ensures.0, ← c.forward.ensures.0, ← c.end_at.ensures, c.if-end_at.false, ← c.back.ensures.0) c.end_at-2.ensures
+    rw (← last, ← c.from-last.ensures, ← c.first-first.ensures.0, ← c.forward.ensures, ← c.end_at.ensures, c.if-end_at.false, ← c.back.ensures) c.end_at-2.ensures
