@@ -27,7 +27,8 @@
  *
  *   tag 1, length 4 or 21: cell size f32; with length 21 also line tolerance f32, line minimum
  *     u16, local tolerance f32, step flag u8, step threshold f32, wrong-label switch u8,
- *     largest-patch switch u8. With length 4 these are 0.15, 3, 0.2, 0, 0, 1, 1.
+ *     largest-patch switch u8. With length 4 these are 0.15, 4, 0.2, 0, 0, 1, 1
+ *     (before version 6.0.0 the line minimum of length 4 was 3).
  *   tag 2, optional, length 17: minimum degree u8, least continuation cosine f32, largest
  *     continuation ratio f32, least cell cosine f32, largest cell ratio f32. Without it there is
  *     no edge-shape gate.
@@ -49,10 +50,10 @@ extern "C" {
 
 /* The version of this header and of the library that is installed with it. A change that breaks a
    caller raises the first number, an addition the second, anything else the third. */
-#define HIGLAUPTH_VERSION_MAJOR 5
+#define HIGLAUPTH_VERSION_MAJOR 6
 #define HIGLAUPTH_VERSION_MINOR 0
-#define HIGLAUPTH_VERSION_PATCH 5
-#define HIGLAUPTH_VERSION "5.0.5"
+#define HIGLAUPTH_VERSION_PATCH 0
+#define HIGLAUPTH_VERSION "6.0.0"
 
 /* Sizes, in bytes but for the first three. */
 #define HIGLAUPTH_MOST_POINTS 2304  /* a sheet with more is refused */

@@ -940,8 +940,8 @@ static void check_not_added(size_t file_len, size_t rows_len, const uint32_t *nu
     CHECK(memcmp(then, numbers, sizeof then) == 0);
 }
 
-/* A sheet without repeated indices with a different number under each word of the tally. The last
-   six points are weak and have no neighbours. */
+/* A sheet without repeated indices with a different number under each word of the tally, by lines of
+   three. The last six points are weak and have no neighbours. */
 static const point twenty_one[] = {
     {0, 1, 1, 0, 100},        {0, 2, 2, 0, 200},        {1, 0, 3, 100, 0},
     {1, 1, 4, 0, 0},          {1, 2, 5, 100, 200},      {2, 0, 6, 230, -30},
@@ -956,7 +956,7 @@ static const float strengths_of_21[] = {4, 4, 4, 4, 4, 4, 4, 4, 4, 4, 4, 4, 4, 4
 static const uint32_t tally_of_21[SUMS] = {2, 5, 3, 1, 6, 4};
 
 static size_t write_21(void) {
-    const size_t length = write_points(100, twenty_one, 21);
+    const size_t length = write_list(write_settings(3, 1), twenty_one, 21);
     return write_strengths(length, 4 + 4 * 21, 0.5f, strengths_of_21, 21);
 }
 
@@ -1211,6 +1211,27 @@ static void check_roots(void) {
         }
 }
 
+/* A cross of five points whose middle is off its lines of three. The cell size alone stands for the
+   line minimum 4: no point is marked, as with 4 spelled out. With 3 spelled out the middle is. */
+static void check_short_settings(void) {
+    const point cross[] = {
+        {0, 1, 1, 0, 100}, {1, 0, 2, 100, 0}, {1, 1, 3, 130, 130}, {1, 2, 4, 100, 200}, {2, 1, 5, 200, 100}};
+    static uint8_t rows[sizeof after];
+    const size_t size = 5 * HIGLAUPTH_ROW_SIZE;
+    uint64_t returned = keep(write_points(100, cross, 5), size);
+    CHECK(!higlaupth_refused(returned) && higlaupth_components(returned) == 1);
+    for (int k = 0; k < 5; k++) CHECK(after[k * HIGLAUPTH_ROW_SIZE + HIGLAUPTH_MARKS] == 0);
+    memcpy(rows, after, size);
+
+    CHECK(keep(write_list(write_settings(4, 1), cross, 5), size) == returned);
+    CHECK(memcmp(after, rows, size) == 0);
+
+    returned = keep(write_list(write_settings(3, 1), cross, 5), size);
+    CHECK(higlaupth_components(returned) == 4);
+    for (int k = 0; k < 5; k++)
+        CHECK((after[k * HIGLAUPTH_ROW_SIZE + HIGLAUPTH_MARKS] & HIGLAUPTH_MARK_VALIDATE) == (k == 2));
+}
+
 int main(int argc, char **argv) {
     if (argc != 4) return 2;
     check_numbers(argv[1]);
@@ -1220,6 +1241,7 @@ int main(int argc, char **argv) {
     check_filters();
     check_five_points(argv[2]);
     check_lengths();
+    check_short_settings();
     check_fill_functions();
     check_fills_of_five_points(argv[2]);
     check_cross();

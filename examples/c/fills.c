@@ -15,9 +15,13 @@
 #include <string.h>
 
 /* Nine points of a board whose cells are 100 pixels wide, the middle one 30 pixels off, and one
-   point apart from them. */
+   point apart from them. Its lines have three points, so all 21 bytes of the settings are spelled
+   out, with the line minimum 3. */
 static const uint8_t ten_points[] = {
-    1, 4, 0,  0, 0, 200, 66, /* as in five_points */
+    1, 21, 0,  0, 0, 200, 66,          /* tag 1, length 21: cell size 100, */
+    154, 153, 25, 62,  3, 0,           /* line tolerance 0.15, line minimum 3, */
+    205, 204, 76, 62,  0, 0, 0, 0, 0,  /* local tolerance 0.2, step flag 0, step threshold 0, */
+    1, 1,                              /* both switches 1 */
     3, 200, 0,
     0, 0, 0, 0,  0, 0, 0, 0,  10, 0, 0, 0,  0, 0, 0, 0,     0, 0, 0, 0,
     1, 0, 0, 0,  0, 0, 0, 0,  11, 0, 0, 0,  0, 0, 200, 66,  0, 0, 0, 0,

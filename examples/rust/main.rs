@@ -315,7 +315,7 @@ const FIVE_POINTS: &[Point] = &[
     (1, 1, 13, 100.0, 100.0),
 ];
 /// Nine points of a board whose cells are 100 pixels wide, the middle one 30 pixels off, and one
-/// point apart from them.
+/// point apart from them. Its lines have three points.
 const TEN_POINTS: &[Point] = &[
     (0, 0, 10, 0.0, 0.0),
     (1, 0, 11, 100.0, 0.0),
@@ -355,6 +355,21 @@ fn sheet(points: &[Point]) -> Vec<u8> {
         file.extend([x.to_le_bytes(), y.to_le_bytes()].concat());
     }
     file
+}
+
+/// The same file with all settings spelled out: those that the cell size alone stands for, but for
+/// the line minimum, 3.
+fn with_lines_of_three(file: &[u8]) -> Vec<u8> {
+    let mut out = vec![1, 21, 0]; // tag 1, length 21
+    out.extend(&file[3..7]); // the cell size
+    out.extend(0.15f32.to_le_bytes()); // line tolerance
+    out.extend(3u16.to_le_bytes()); // line minimum
+    out.extend(0.2f32.to_le_bytes()); // local tolerance
+    out.push(0); // step flag
+    out.extend(0f32.to_le_bytes()); // step threshold
+    out.extend([1, 1]); // wrong-label and largest-patch switch
+    out.extend(&file[7..]);
+    out
 }
 
 /// The file of a sheet of these points with a fraction and a strength for each of them.
@@ -547,13 +562,14 @@ fn asked() -> Result<u8, String> {
         return print_root(arguments);
     }
     let option = arguments.next_if(|first| first == "--map" || first == "--fills");
+    let five = || sheet(FIVE_POINTS);
     let (own, found): (_, fn(&[u8]) -> Result<String, usize>) = match option.as_deref() {
-        None => (FIVE_POINTS, lines),
-        Some("--fills") => (TEN_POINTS, fills),
-        Some(_) => (FIVE_POINTS, map),
+        None => (five(), lines),
+        Some("--fills") => (with_lines_of_three(&sheet(TEN_POINTS)), fills),
+        Some(_) => (five(), map),
     };
     let file = match arguments.next() {
-        None => sheet(own),
+        None => own,
         Some(path) => read(&path)?,
     };
     let (status, text) = match found(&file) {

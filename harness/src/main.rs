@@ -15,6 +15,7 @@ mod limits;
 mod listing;
 mod load;
 mod map_reader;
+mod minimum;
 mod mutants;
 mod peel_reader;
 mod properties;
@@ -59,6 +60,9 @@ harness compare --worst [--step N] [--cells N] [--sheets N] [--seed S]
                                       the sheets that take longest, --step: of every N-th number of
                                       points too; sheets beside these; the bound on the rounds on
                                       all sheets of blocks of N cells
+harness compare --minimum [--sheets N] [--seed S]
+                                      sheets with short settings, the same with the line minimum 4
+                                      spelled out, and with 3: how many listings 3 changes
 harness mutants [--sheets N] [--seed S] [--maps | --runs | --peels | --fills | --roots | --worst]
                                       how many sheets show each deliberate fault of the answers,
                                       or of the maps, or how many runs each of the run, or how
@@ -172,6 +176,14 @@ fn compare_worst(args: &[String]) -> bool {
     longest.failed + beside.failed == 0 && blocks.failure.is_none()
 }
 
+/// Sheets with short settings, and the same with 4 and with 3 spelled out.
+fn compare_minimum(args: &[String]) -> bool {
+    let sheets = option(args, "--sheets", 2300) as usize;
+    let report = minimum::run(sheets, option(args, "--seed", 0));
+    report.print();
+    report.failed == 0
+}
+
 fn compare(args: &[String]) -> bool {
     say_left_out();
     if has(args, "--runs") {
@@ -179,6 +191,9 @@ fn compare(args: &[String]) -> bool {
     }
     if has(args, "--worst") {
         return compare_worst(args);
+    }
+    if has(args, "--minimum") {
+        return compare_minimum(args);
     }
     let kind = args
         .iter()

@@ -29,7 +29,9 @@ const NO_ROUNDS: Faults = &[
     (Fault::WorstColumn, "a row along v"),
     (Fault::WorstAcross, "the positions lie on another line"),
     (Fault::WorstFalling, "another order"),
-    (Fault::WorstAllSettings, "the same settings"),
+    (Fault::WorstShortSettings, "no line flag in a straight row"),
+    (Fault::WorstMinimum4, "no line flag in a straight row"),
+    (Fault::WorstSwitchOff, "the rounds come before the patches"),
     (Fault::WorstGate, "no point fails it"),
 ];
 

@@ -2,6 +2,7 @@
 
 use crate::compare::{self, Report};
 use crate::generate::{self, Kind};
+use crate::minimum;
 use crate::mutants::{self, Part};
 use crate::properties;
 use crate::roots;
@@ -81,6 +82,16 @@ fn longest() -> Vec<(String, bool)> {
             ),
             blocks.failure.is_none() && blocks.bound.met(),
         ),
+    ]
+}
+
+/// Sheets with short settings, with 4 and with 3 spelled out.
+fn short_settings() -> Vec<(String, bool)> {
+    let report = minimum::run(900, 1);
+    report.print();
+    vec![
+        ("short settings: as with 4".into(), report.failed == 0),
+        ("a listing that 3 changes".into(), report.differ > 0),
     ]
 }
 
@@ -264,6 +275,7 @@ pub fn run() -> bool {
     let mut checks = stars::checks();
     checks.extend(comparisons());
     checks.extend(longest());
+    checks.extend(short_settings());
     checks.extend(runs());
     checks.extend(faults(&mutants::answers()));
     checks.extend(faults(&mutants::maps()));

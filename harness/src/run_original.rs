@@ -75,7 +75,12 @@ impl Prepared {
     pub fn new(sheet: &Sheet) -> Option<Prepared> {
         let rest = sheet.settings.rest.clone().unwrap_or_else(Rest::defaults);
         let mut params = match &sheet.settings.rest {
-            None => ValidationParams::default(),
+            // "Comparison with the Rust sets its minimum to 4 for the short form."
+            None => {
+                let mut short = ValidationParams::default();
+                short.line_min_members = 4;
+                short
+            }
             Some(r) => ValidationParams::new(
                 r.line_tolerance,
                 usize::from(r.line_minimum),

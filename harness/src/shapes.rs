@@ -107,7 +107,7 @@ pub fn all_filters() -> Rest {
     Rest {
         step_flag: 1,
         step_threshold: 0.5,
-        ..Rest::defaults()
+        ..Rest::with_three()
     }
 }
 
@@ -431,7 +431,7 @@ pub fn checkered(count: usize, height: usize) -> Sheet {
     sheet.settings.rest = Some(Rest {
         line_minimum: u16::MAX,
         wrong_label: 0,
-        ..Rest::defaults()
+        ..Rest::with_three()
     });
     if let Some(last) = sheet.points.last_mut() {
         last.u += 2;
@@ -472,7 +472,10 @@ pub fn with_strengths(mut sheet: Sheet, fraction: f32, strength: impl Fn(usize) 
 pub fn chain(count: usize) -> Sheet {
     const APART: f32 = 7.0;
     let mut row = columns(count, 1);
-    row.settings.cell_size = APART;
+    row.settings = Settings {
+        cell_size: APART,
+        rest: Some(Rest::with_three()),
+    };
     for point in &mut row.points {
         point.x = APART * point.u as f32;
     }
@@ -514,7 +517,7 @@ pub fn unmarked(cells: Cells, points: usize) -> Shape {
         gate: None,
         rest: Rest {
             line_minimum: u16::MAX,
-            ..Rest::defaults()
+            ..Rest::with_three()
         },
         ..Shape::new(cells, points)
     }

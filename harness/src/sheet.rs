@@ -23,17 +23,27 @@ pub struct Rest {
 }
 
 impl Rest {
-    /// What the short form stands for.
-    pub fn defaults() -> Rest {
+    /// What the short form stands for, with a line minimum.
+    pub fn with_minimum(line_minimum: u16) -> Rest {
         Rest {
             line_tolerance: 0.15,
-            line_minimum: 3,
+            line_minimum,
             local_tolerance: 0.2,
             step_flag: 0,
             step_threshold: 0.0,
             wrong_label: 1,
             largest_patch: 1,
         }
+    }
+
+    /// What the short form stands for: document 02, A.9.
+    pub fn defaults() -> Rest {
+        Rest::with_minimum(4)
+    }
+
+    /// What sheets that rely on lines of three spell out.
+    pub fn with_three() -> Rest {
+        Rest::with_minimum(3)
     }
 }
 
@@ -100,10 +110,22 @@ pub fn field(tag: u8, data: &[u8]) -> Vec<u8> {
     out
 }
 
-impl Sheet {
-    pub fn settings_field(&self) -> Vec<u8> {
-        let mut data = self.settings.cell_size.to_le_bytes().to_vec();
-        if let Some(r) = &self.settings.rest {
+/// A file with short settings with all 21 bytes of them, and a line minimum; any other file as it is.
+pub fn spelled_out(file: &[u8], line_minimum: u16) -> Vec<u8> {
+    let [1, 4, 0, a, b, c, d, after @ ..] = file else {
+        return file.to_vec();
+    };
+    let settings = Settings {
+        cell_size: f32::from_le_bytes([*a, *b, *c, *d]),
+        rest: Some(Rest::with_minimum(line_minimum)),
+    };
+    [&settings.field(), after].concat()
+}
+
+impl Settings {
+    fn field(&self) -> Vec<u8> {
+        let mut data = self.cell_size.to_le_bytes().to_vec();
+        if let Some(r) = &self.rest {
             data.extend(r.line_tolerance.to_le_bytes());
             data.extend(r.line_minimum.to_le_bytes());
             data.extend(r.local_tolerance.to_le_bytes());
@@ -112,6 +134,12 @@ impl Sheet {
             data.extend([r.wrong_label, r.largest_patch]);
         }
         field(1, &data)
+    }
+}
+
+impl Sheet {
+    pub fn settings_field(&self) -> Vec<u8> {
+        self.settings.field()
     }
 
     pub fn gate_field(&self) -> Vec<u8> {

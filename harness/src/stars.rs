@@ -1,9 +1,10 @@
 //! The sheets that document 01 names, with what it says of them, one on which the Rust's acos
 //! differs, maps, tallies and calls in a run written out from document 02, A.1 and A.2, sheets
 //! about A.4's limit of points, sheets with A.5's strengths, A.6's sheets that take longest, A.7's
-//! positions for dropped points, and A.8's roots with their remainders.
+//! positions for dropped points, A.8's roots with their remainders, and A.9's lines of four.
 
 mod fills;
+mod lines;
 mod peels;
 mod points;
 mod roots;
@@ -107,7 +108,7 @@ const SHEETS: &[(&str, &str, Says)] = &[
         Says::Marks(&["-----", "-----", "-----", "-----"]),
     ),
     (
-        "row with one line flag each",
+        "row of three without a line flag",
         "cell 100\n0 0 1 0 0\n1 0 2 100 60\n2 0 3 200 0",
         Says::Marks(&["-----", "-----", "-----"]),
     ),
@@ -244,6 +245,11 @@ pub fn filled_files() -> Vec<Vec<u8>> {
     fills::files()
 }
 
+/// The files of the sheets about lines of three.
+pub fn lined_files() -> Vec<Vec<u8>> {
+    lines::files()
+}
+
 /// The files of the sheets about roots.
 pub fn rooted_files() -> Vec<Vec<u8>> {
     roots::files()
@@ -273,6 +279,7 @@ pub fn checks() -> Vec<(String, bool)> {
     out.extend(peels::checks());
     out.extend(worst::checks());
     out.extend(fills::checks());
+    out.extend(lines::checks());
     out.extend(roots::checks());
     out.extend(runs::tallies());
     out.extend(runs::calls());

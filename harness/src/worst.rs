@@ -270,7 +270,7 @@ fn numbered(height: usize, numbering: &[u32], weak: u32) -> Sheet {
         rest: Some(Rest {
             line_minimum: u16::MAX,
             wrong_label: 0,
-            ..Rest::defaults()
+            ..Rest::with_three()
         }),
     };
     of_points(taken.map(point).collect(), settings)
@@ -296,7 +296,7 @@ fn with_dropped(mut k: usize) -> Sheet {
         cell_size: 100.0,
         rest: Some(Rest {
             line_minimum: u16::MAX,
-            ..Rest::defaults()
+            ..Rest::with_three()
         }),
     };
     of_points(points, settings)

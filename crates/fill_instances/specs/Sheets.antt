@@ -8,13 +8,13 @@ use Rattle.sheet_file.specs.Bytes.{little_endian}
 use Rattle.sheet_file.specs.Grammar.{field}
 use Rattle.sheet_file.specs.declared.Fraction.TheVariants.{Missing}
 use Rattle.sheet_file.specs.declared.Settings.{Settings}
-use Rattle.written_file.specs.File.{points_bytes, unweighed_file}
+use Rattle.written_file.specs.File.{points_bytes, long_settings, unweighed_file}
 use Rattle.predict.specs.Predict.{Prediction}
 use Rattle.std.specs.Prelude.{Some}
 use Rattle.edge_shape.specs.Figures.{index_figures}
 use Rattle.judging.specs.Judging.{fills_for}
 use Rattle.stars.specs.Stars.{rules-compute}
-use Rattle.instances.specs.Files.{point, long_settings}
+use Rattle.instances.specs.Files.{point}
 
 -- This name on an `unfolding` line opens every definition that marks and fills compute by.
 unfoldable pub fills-compute : Bool
@@ -42,7 +42,7 @@ gate_on cosine =
       cell_opposite_length_ratio_max = f32 0x4680_0000;
     })
 
--- the largest-patch switch off, and the default tolerances
+-- the largest-patch switch off, line tolerance 0.15, line minimum 3, local tolerance 0.20
 abbrev pub row_settings : Settings
 row_settings = record {
   cell_size = f32 0x4120_0000;
@@ -62,11 +62,11 @@ abbrev pub row : List Point
 row = point 0 0 1 0 0 ∷ point 1 0 2 0x4120_0000 0x4120_0000 ∷ point 2 0 3 0x41A0_0000 0 ∷ []
 
 abbrev pub row_file : List ℕ
-row_file = field 1 (long_settings 0x4120_0000 1 0) ++ (gate 0x3F00_0000 ++ field 3 (points_bytes row))
+row_file = field 1 (long_settings 0x4120_0000 3 1 0) ++ (gate 0x3F00_0000 ++ field 3 (points_bytes row))
 
 -- its first two points the other way round
 abbrev pub row_turned : List ℕ
-row_turned = field 1 (long_settings 0x4120_0000 1 0) ++ (gate 0x3F00_0000 ++ field 3 (points_bytes (point 1 0 2 0x4120_0000 0x4120_0000 ∷ point 0 0 1 0 0 ∷ point 2 0 3 0x41A0_0000 0 ∷ [])))
+row_turned = field 1 (long_settings 0x4120_0000 3 1 0) ++ (gate 0x3F00_0000 ++ field 3 (points_bytes (point 1 0 2 0x4120_0000 0x4120_0000 ∷ point 0 0 1 0 0 ∷ point 2 0 3 0x41A0_0000 0 ∷ [])))
 
 -- moved by (−6, 7): 0xFFFFFFFA is −6
 abbrev pub row_moved : List Point
@@ -93,7 +93,7 @@ other = point 0 0 8 0 0 ∷ point 1 0 9 0x4120_0000 0xC0E0_0000 ∷ point 2 0 7 
 
 -- listed from its end
 abbrev pub other_file : List ℕ
-other_file = field 1 (long_settings 0x41A0_0000 0 0) ++ (gate 0x3F66_6666 ++ field 3 (points_bytes (point 2 0 7 0x41A0_0000 0 ∷ point 1 0 9 0x4120_0000 0xC0E0_0000 ∷ point 0 0 8 0 0 ∷ [])))
+other_file = field 1 (long_settings 0x41A0_0000 3 0 0) ++ (gate 0x3F66_6666 ++ field 3 (points_bytes (point 2 0 7 0x41A0_0000 0 ∷ point 1 0 9 0x4120_0000 0xC0E0_0000 ∷ point 0 0 8 0 0 ∷ [])))
 
 -- ---- five points: u and v enter the fits as f32s
 

@@ -23,7 +23,7 @@ use Rattle.components.specs.WholePatches.{WholePatch, Smallest}
 use Rattle.promises.specs.Words.{DistinctIndices, other_mark, survivor, joined, kept_rank}
 use Rattle.promises.specs.Promises.{LargestPatch, PatchCount}
 use Rattle.promises.proofs.Theorems.{kept-patch, component-count}
-use Rattle.stars.specs.Stars.{rules-compute, settings}
+use Rattle.stars.specs.Stars.{rules-compute, settings, of_three}
 use Rattle.stars.specs.Listed.{file, file-computes, answered}
 use Rattle.instances.specs.Files.{point, short_file, long_file, five, zero_size, answered_components, marks_of}
 use Rattle.instances.proofs.Computed.{distinct-by, marks-are, alive-is, link-is, kept-is, reached-in, patch-by}
@@ -140,7 +140,7 @@ second-smallest = apart-largest.has-smallest second second-whole
 -- ---- with the largest-patch switch off: the same two points
 
 abbrev switch_off : Settings
-switch_off = switched settings 1 0
+switch_off = switched of_three 1 0
 
 abbrev off_file : List ℕ
 off_file = long_file 0x42C8_0000 1 0 apart

@@ -9,3 +9,4 @@ pub mod MovedMap
 pub mod Tally
 pub mod Runs
 pub mod Limit
+pub mod Short

@@ -6,12 +6,13 @@ use mathlib.Core.List.{List, [], ◌∷◌, ◌++◌}
 use mathlib.Core.Logic.{◌⊎◌, inl, inr}
 use Prim.Native.Nat.{ℕ, ◌<◌}
 use native.Mathlib.Omega.{arith}
-use lib.IntN.{ℤ, pos, negsuc, ◌+ℤ◌, +ℤ_idr}
+use lib.IntN.{ℤ, pos, negsuc, +ℤ_idr}
 use lib.ListN.{get_or}
 use Rattle.folds.specs.Below.{every}
 use Rattle.cells.specs.Points.{Point}
 use Rattle.cells.specs.Cell.{cells_of}
 use Rattle.sheet_file.specs.Bytes.{Bytes}
+use Rattle.sheet_file.specs.Refusals.{settings_in}
 use Rattle.sheet_file.specs.declared.Settings.{Settings}
 use Rattle.ruling.specs.Ruling.{refused, accepted, ruling_of, rows_size}
 use Rattle.ruling.specs.Offset.{moved_file, StaysInRange}
@@ -25,7 +26,7 @@ use Rattle.sheet_map.specs.Text.{map_ruling_of, map_text_of}
 use Rattle.promises.specs.Words.{marks_in}
 use Rattle.promises.specs.Map.{BothRefused, LinesMoved, MovedMap}
 use Rattle.promises.proofs.Theorems.{map-numbers, moved-file-map}
-use Rattle.stars.specs.Stars.{rules-compute, settings}
+use Rattle.stars.specs.Stars.{rules-compute, settings, of_three}
 use Rattle.stars.specs.Listed.{file, file-computes}
 use Rattle.instances.specs.Files.{short_file, five}
 use Rattle.instances.proofs.Computed.{in-range-by}
@@ -108,8 +109,8 @@ empty-moved = refl
 abbrev moved_bent : List ℕ
 moved_bent = moved_file bent (pos 1) (pos 0)
 
-bent-accepted : ruling_of bent rows_size ≡ accepted settings given
-unfolding file-computes rules-compute
+bent-accepted : ruling_of bent rows_size ≡ accepted of_three given
+unfolding file-computes rules-compute settings_in
 bent-accepted = refl
 
 bent-narrow : too_wide 5 (cells_of given) ≡ false
@@ -121,10 +122,10 @@ pub bent-drawn : map_text_of bent ≡
     ++ bytes "     1 .#...................................................................... \n"
     ++ bytes "     2 CVC..................................................................... \n"
 unfolding map_of cells_of
-bent-drawn = drawn-by bent settings given (8 ∷ 0 ∷ 0 ∷ 1 ∷ 8 ∷ []) bent-accepted bent-narrow given-marks
+bent-drawn = drawn-by bent of_three given (8 ∷ 0 ∷ 0 ∷ 1 ∷ 8 ∷ []) bent-accepted bent-narrow given-marks
 
-bent-moved-accepted : ruling_of moved_bent rows_size ≡ accepted settings one_more
-unfolding file-computes moved_file rules-compute
+bent-moved-accepted : ruling_of moved_bent rows_size ≡ accepted of_three one_more
+unfolding file-computes moved_file rules-compute settings_in
 bent-moved-accepted = refl
 
 bent-moved-narrow : too_wide 5 (cells_of one_more) ≡ false
@@ -136,10 +137,10 @@ pub bent-moved-drawn : map_text_of moved_bent ≡
     ++ bytes "     1 .V...................................................................... \n"
     ++ bytes "     2 #VC..................................................................... \n"
 unfolding map_of cells_of
-bent-moved-drawn = drawn-by moved_bent settings one_more (0 ∷ 8 ∷ 1 ∷ 1 ∷ 8 ∷ []) bent-moved-accepted bent-moved-narrow one-more-marks
+bent-moved-drawn = drawn-by moved_bent of_three one_more (0 ∷ 8 ∷ 1 ∷ 1 ∷ 8 ∷ []) bent-moved-accepted bent-moved-narrow one-more-marks
 
-bent-map-ruled : map_ruling_of bent ≡ accepted settings given
-bent-map-ruled = (map-numbers bent).none settings given bent-accepted bent-narrow
+bent-map-ruled : map_ruling_of bent ≡ accepted of_three given
+bent-map-ruled = (map-numbers bent).none of_three given bent-accepted bent-narrow
 
 -- the map has not moved along
 not-along : BothRefused bent moved_bent ⊎ LinesMoved bent moved_bent (pos 0) → ⊥
@@ -153,7 +154,7 @@ not-along (inr r) =
 pub validate-needed-for-map : ((file : List ℕ) (a b : ℤ) → Bytes file → (s : Settings) (ps : List Point) → ruling_of file rows_size ≡ accepted s ps → StaysInRange a b ps
     → BothRefused file (moved_file file a b) ⊎ LinesMoved file (moved_file file a b) b) → ⊥
 unfolding every
-validate-needed-for-map f = not-along (f bent (pos 1) (pos 0) (bytes-by bent refl) settings given bent-accepted (in-range-by (pos 1) (pos 0) given refl))
+validate-needed-for-map f = not-along (f bent (pos 1) (pos 0) (bytes-by bent refl) of_three given bent-accepted (in-range-by (pos 1) (pos 0) given refl))
 
 -- ---- out of range: (5, 5) moved to (8001, 5)
 

@@ -13,6 +13,7 @@ use Rattle.cells.specs.Points.{Point}
 use Rattle.cells.specs.Cell.{cells_of}
 use Rattle.grid.specs.Views.{view_of}
 use Rattle.sheet_file.specs.Bytes.{Bytes}
+use Rattle.sheet_file.specs.Refusals.{settings_in}
 use Rattle.sheet_file.specs.declared.Settings.{Settings}
 use Rattle.ruling.specs.Ruling.{refused, accepted, ruling_of}
 use Rattle.ruling.specs.Offset.{moved_file, StaysInRange}
@@ -24,9 +25,9 @@ use Rattle.promises.specs.Words.{marks_in, kept_rank}
 use Rattle.promises.specs.Promises.{MovedMarks}
 use Rattle.promises.proofs.Moving.{validate-in}
 use Rattle.promises.proofs.Theorems.{moved-file}
-use Rattle.stars.specs.Stars.{rules-compute, settings}
+use Rattle.stars.specs.Stars.{rules-compute, settings, of_three}
 use Rattle.stars.specs.Listed.{file, file-computes}
-use Rattle.instances.specs.Files.{point, short_file, five, marks_of}
+use Rattle.instances.specs.Files.{point, short_file, long_file, five, marks_of}
 use Rattle.instances.proofs.Computed.{in-range-by, marks-are, kept-is}
 use Rattle.instances.proofs.KeptPatch.{file-bytes, file-accepted, fifth_marked, five-marks}
 
@@ -104,10 +105,10 @@ kept-moved k = ap (λ (m : ℕ). ltb k 5 && eqb m 0) (marks-moved k)
 
 -- ---- without the condition on the validate marks: u and v enter the fits as f32s; as given index 3 has no fit, moved it has one by rounding
 
--- (2,2) 5 at (200,200); (1,0) 4 at (100,0); (1,1) 3 at (200,100); (1,2) 2 at (100,200); (0,2) 8 at (25,200)
+-- line minimum 3; (2,2) 5 at (200,200); (1,0) 4 at (100,0); (1,1) 3 at (200,100); (1,2) 2 at (100,200); (0,2) 8 at (25,200)
 abbrev pub bent : List ℕ
 bent =
-    short_file 0x42C8_0000
+    long_file 0x42C8_0000 1 1
     (point 2 2 5 0x4348_0000 0x4348_0000 ∷ point 1 0 4 0x42C8_0000 0 ∷ point 1 1 3 0x4348_0000 0x42C8_0000
     ∷ point 1 2 2 0x42C8_0000 0x4348_0000 ∷ point 0 2 8 0x41C8_0000 0x4348_0000 ∷ [])
 
@@ -126,28 +127,28 @@ given = bent_from 0
 abbrev pub one_more : List Point
 one_more = bent_from 1
 
-bent-accepted : ruling_of bent 140 ≡ accepted settings given
-unfolding file-computes rules-compute
+bent-accepted : ruling_of bent 140 ≡ accepted of_three given
+unfolding file-computes rules-compute settings_in
 bent-accepted = refl
 
-bent-moved-accepted : ruling_of (moved_file bent (pos 1) (pos 0)) 140 ≡ accepted settings one_more
-unfolding file-computes moved_file rules-compute
+bent-moved-accepted : ruling_of (moved_file bent (pos 1) (pos 0)) 140 ≡ accepted of_three one_more
+unfolding file-computes moved_file rules-compute settings_in
 bent-moved-accepted = refl
 
 -- as given, 4 and 3 are kept, and 2 has the validate mark; moved, 8 alone is kept, and 3 and 2 have it
-pub given-marks : marks_of settings given ≡ 8 ∷ 0 ∷ 0 ∷ 1 ∷ 8 ∷ []
+pub given-marks : marks_of of_three given ≡ 8 ∷ 0 ∷ 0 ∷ 1 ∷ 8 ∷ []
 unfolding rules-compute
 given-marks = refl
 
-pub one-more-marks : marks_of settings one_more ≡ 0 ∷ 8 ∷ 1 ∷ 1 ∷ 8 ∷ []
+pub one-more-marks : marks_of of_three one_more ≡ 0 ∷ 8 ∷ 1 ∷ 1 ∷ 8 ∷ []
 unfolding rules-compute
 one-more-marks = refl
 
 -- the kept patch has not moved along
-not-along : ((k : ℕ) → kept_rank settings one_more k ≡ kept_rank settings given k) → ⊥
+not-along : ((k : ℕ) → kept_rank of_three one_more k ≡ kept_rank of_three given k) → ⊥
 not-along f =
-    let old = kept-is settings given (8 ∷ 0 ∷ 0 ∷ 1 ∷ 8 ∷ []) given-marks in
-    let new = kept-is settings one_more (0 ∷ 8 ∷ 1 ∷ 1 ∷ 8 ∷ []) one-more-marks in
+    let old = kept-is of_three given (8 ∷ 0 ∷ 0 ∷ 1 ∷ 8 ∷ []) given-marks in
+    let new = kept-is of_three one_more (0 ∷ 8 ∷ 1 ∷ 1 ∷ 8 ∷ []) one-more-marks in
     true≢false (sym (ap (λ (K : ℕ → Bool). K 0) new) ∙ f 0 ∙ ap (λ (K : ℕ → Bool). K 0) old)
 
 -- so "the kept patch has moved along" needs the condition
@@ -156,10 +157,10 @@ pub validate-needed : ((file : List ℕ) (a b : ℤ) → Bytes file → (room : 
 unfolding every
 validate-needed f =
     let r = in-range-by (pos 1) (pos 0) given refl in
-    let p = moved-file bent (pos 1) (pos 0) (bytes-by bent refl) 140 settings given bent-accepted r in
+    let p = moved-file bent (pos 1) (pos 0) (bytes-by bent refl) 140 of_three given bent-accepted r in
     not-along
-    (subst (λ (qs : List Point). (k : ℕ) → kept_rank settings qs k ≡ kept_rank settings given k) (points-are p bent-moved-accepted)
-    (f bent (pos 1) (pos 0) (bytes-by bent refl) 140 settings given bent-accepted r p))
+    (subst (λ (qs : List Point). (k : ℕ) → kept_rank of_three qs k ≡ kept_rank of_three given k) (points-are p bent-moved-accepted)
+    (f bent (pos 1) (pos 0) (bytes-by bent refl) 140 of_three given bent-accepted r p))
 
 -- ---- out of range: (5, 5) moved to (8001, 5)
 

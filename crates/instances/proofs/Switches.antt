@@ -17,7 +17,7 @@ use Rattle.folds.proofs.Below.{every-at}
 use Rattle.cells.specs.Points.{Point}
 use Rattle.sheet_file.specs.Bytes.{Bytes, byte_at}
 use Rattle.sheet_file.specs.Frame.{layout_of}
-use Rattle.sheet_file.specs.Refusals.{defaults_for, settings_in, gate_in, no_flag}
+use Rattle.sheet_file.specs.Refusals.{defaults_with, settings_in, gate_in, no_flag}
 use Rattle.sheet_file.specs.declared.Fraction.TheVariants.{Missing}
 use Rattle.sheet_file.specs.declared.Settings.{Settings}
 use Rattle.edge_shape.specs.Figures.{index_figures}
@@ -62,7 +62,7 @@ largest_only = gated_file 0x42C8_0000 0 1 1 points
 
 abbrev settings : Settings
 settings =
-    defaults_for (f32 0x42C8_0000)
+    defaults_with 3 (f32 0x42C8_0000)
     (Some
     (record {
       min_cardinal_degree = 1;

@@ -18,7 +18,7 @@ use Rattle.cells.specs.Cell.{cells_of}
 use Rattle.grid.specs.Views.{view_of}
 use Rattle.sheet_file.specs.Bytes.{Bytes}
 use Rattle.sheet_file.specs.Frame.{framing_of, layout_of}
-use Rattle.sheet_file.specs.Refusals.{defaults_for, settings_in}
+use Rattle.sheet_file.specs.Refusals.{defaults_with, defaults_for, settings_in}
 use Rattle.sheet_file.specs.declared.Fraction.TheVariants.{Given}
 use Rattle.sheet_file.specs.declared.Layout.{Layout}
 use Rattle.sheet_file.specs.declared.Settings.{Settings}
@@ -58,6 +58,10 @@ on_row u i x s = record { u = u; v = 0; index = i; x = x; y = 0; strength = s }
 -- a short file's settings, with the patterns of the cell size and the fraction
 abbrev weighed : ℕ → ℕ → Settings
 weighed size fraction = defaults_for (f32 size) None (Given (f32 fraction))
+
+-- and the same with the line minimum 3 spelled out
+abbrev of_three_weighed : ℕ → ℕ → Settings
+of_three_weighed size fraction = defaults_with 3 (f32 size) None (Given (f32 fraction))
 
 -- ---- the row of three points with cell size 7, fraction 2 and strengths 1, 1 and 2
 
@@ -215,17 +219,17 @@ row-moved-answered =
 -- ---- without "if the earlier marks hold": the sheet whose validate marks do not stay, each point with strength 1, and fraction 2
 
 abbrev weak_bent : List ℕ
-weak_bent = short_weighed 0x42C8_0000 two (with_strength one given)
+weak_bent = long_file 0x42C8_0000 1 1 (with_strength one given) ++ weights two (with_strength one given)
 
 abbrev bent_settings : Settings
-bent_settings = weighed 0x42C8_0000 two
+bent_settings = of_three_weighed 0x42C8_0000 two
 
 weak-bent-accepted : ruling_of weak_bent 140 ≡ accepted bent_settings (with_strength one given)
-unfolding file-computes rules-compute
+unfolding file-computes rules-compute settings_in
 weak-bent-accepted = refl
 
 weak-bent-moved : ruling_of (moved_file weak_bent (pos 1) (pos 0)) 140 ≡ accepted bent_settings (with_strength one one_more)
-unfolding file-computes moved_file rules-compute
+unfolding file-computes moved_file rules-compute settings_in
 weak-bent-moved = refl
 
 -- index 3 has the L mark as given, and the validate mark in its place once moved
@@ -264,7 +268,7 @@ abbrev four_file : ℕ → List ℕ
 four_file largest = long_file 0x42C8_0000 1 largest four ++ weights one four
 
 abbrev four_settings : Settings
-four_settings = weighed 0x42C8_0000 one
+four_settings = of_three_weighed 0x42C8_0000 one
 
 four_bytes : Bytes (four_file 1)
 four_bytes = bytes-by (four_file 1) refl
@@ -285,7 +289,6 @@ unfolding rules-compute
 four-marks = refl
 
 four-on : four_settings.apply_largest_component ≡ true
-unfolding defaults_for
 four-on = refl
 
 -- what the promise says of it
@@ -348,11 +351,15 @@ unfolding list_of
 leaves-unswitched = ap leaves_in four-off-marks ∙ sym (ap leaves_in four-marks)
 
 -- the wrong-label switch may alter them: two points 19 pixels apart, each with strength 1, and fraction 2, with the switch on and off
-pub near-on-marks : marks_of bent_settings (with_strength one near) ≡ 4 ∷ 4 ∷ []
+-- cell size 100 and fraction 2
+abbrev fraction_two : Settings
+fraction_two = weighed 0x42C8_0000 two
+
+pub near-on-marks : marks_of fraction_two (with_strength one near) ≡ 4 ∷ 4 ∷ []
 unfolding rules-compute
 near-on-marks = refl
 
-pub near-off-marks : marks_of (switched bent_settings 0 1) (with_strength one near) ≡ 16 ∷ 16 ∷ []
+pub near-off-marks : marks_of (switched fraction_two 0 1) (with_strength one near) ≡ 16 ∷ 16 ∷ []
 unfolding rules-compute
 near-off-marks = refl
 
@@ -381,24 +388,24 @@ square =
 abbrev square_file : List ℕ
 square_file = short_weighed 0x42C8_0000 two square
 
-square-accepted : ruling_of square_file 112 ≡ accepted bent_settings square
+square-accepted : ruling_of square_file 112 ≡ accepted fraction_two square
 unfolding file-computes rules-compute
 square-accepted = refl
 
-pub square-marks : marks_of bent_settings square ≡ 0 ∷ 0 ∷ 0 ∷ 0 ∷ []
+pub square-marks : marks_of fraction_two square ≡ 0 ∷ 0 ∷ 0 ∷ 0 ∷ []
 unfolding rules-compute
 square-marks = refl
 
-pub first-left : survivor bent_settings square 0 ≡ true
+pub first-left : survivor fraction_two square 0 ≡ true
 unfolding some
-first-left = ap (λ (A : ℕ → Bool). A 0) (alive-is bent_settings square (0 ∷ 0 ∷ 0 ∷ 0 ∷ []) square-marks)
+first-left = ap (λ (A : ℕ → Bool). A 0) (alive-is fraction_two square (0 ∷ 0 ∷ 0 ∷ 0 ∷ []) square-marks)
 
-pub first-weak : weak_rank bent_settings square 0 ≡ true
+pub first-weak : weak_rank fraction_two square 0 ≡ true
 unfolding rules-compute
 first-weak = refl
 
-pub first_two : 2 ≤ live_neighbours bent_settings square 0
-first_two = (weak-ends square_file 112 bent_settings square (bytes-by square_file refl) square-accepted).left-two 0 first-left first-weak
+pub first_two : 2 ≤ live_neighbours fraction_two square 0
+first_two = (weak-ends square_file 112 fraction_two square (bytes-by square_file refl) square-accepted).left-two 0 first-left first-weak
 
 -- the five points of the kept patch, without tag 4
 five-unweighed : is_some (layout_of file).weights ≡ false

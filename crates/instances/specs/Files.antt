@@ -11,7 +11,7 @@ use Rattle.sheet_file.specs.declared.Fraction.TheVariants.{Missing}
 use Rattle.sheet_file.specs.declared.Settings.{Settings}
 use Rattle.judging.specs.Judging.{judged_for}
 use Rattle.stars.specs.Listed.{file}
-use Rattle.written_file.specs.File.{points_bytes, unweighed_file, weighed_file}
+use Rattle.written_file.specs.File.{points_bytes, long_settings, unweighed_file, weighed_file}
 
 -- a point without tag 4: the patterns of its cell, its index, and the patterns of its position
 abbrev pub point : ℕ → ℕ → ℕ → ℕ → ℕ → Point
@@ -21,18 +21,14 @@ point u v i x y = record { u = u; v = v; index = i; x = x; y = y; strength = 0 }
 abbrev pub short_file : ℕ → List Point → List ℕ
 short_file size ps = unweighed_file (little_endian size) ps
 
--- "Tag 1, length 21": with the default tolerances 0.15, 3 and 0.20, the step flag off, and these two switches
-abbrev pub long_settings : ℕ → ℕ → ℕ → List ℕ
-long_settings size wrong largest =
-    little_endian size ++ (little_endian 0x3E19_999A ++ (3 ∷ 0 ∷ (little_endian 0x3E4C_CCCD ++ (0 ∷ (little_endian 0 ++ (wrong ∷ largest ∷ []))))))
-
+-- "Tag 1, length 21", with the line minimum 3 and these two switches
 abbrev pub long_file : ℕ → ℕ → ℕ → List Point → List ℕ
-long_file size wrong largest ps = unweighed_file (long_settings size wrong largest) ps
+long_file size wrong largest ps = unweighed_file (long_settings size 3 wrong largest) ps
 
 -- "Tag 2, optional, length 17": with this minimum degree, both least cosines 0 and both largest ratios 4
 abbrev pub gated_file : ℕ → ℕ → ℕ → ℕ → List Point → List ℕ
 gated_file size wrong largest degree ps =
-    field 1 (long_settings size wrong largest)
+    field 1 (long_settings size 3 wrong largest)
     ++ (field 2 (degree ∷ (little_endian 0 ++ little_endian 0x4080_0000 ++ little_endian 0 ++ little_endian 0x4080_0000))
     ++ field 3 (points_bytes ps))
 

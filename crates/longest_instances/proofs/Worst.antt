@@ -1,15 +1,18 @@
--- The sheet that the program `worst` writes: of three points it is the row of the worked sheets, of 2,304 it takes 2,303 rounds; and what the
--- conditions are for: one point, a point too many, a buffer that is a byte too short. Assumes nothing.
+-- The sheet that the program `worst` writes: of three points it has the points and strengths of the worked row of three, of 2,304 it takes
+-- 2,303 rounds; and what the conditions are for: one point, a point too many, a buffer that is a byte too short. Assumes nothing.
 use Rattle.std.specs.Prelude.{Ok}
 use mathlib.Core.Path.{◌≡◌, refl, sym, ap, ◌∙◌}
-use mathlib.Core.List.{List}
-use mathlib.Core.Logic.{inr}
+use mathlib.Core.List.{List, ◌++◌}
+use mathlib.Core.Logic.{inl}
 use Prim.Native.Nat.{ℕ, ◌*◌, ◌≤◌, ◌<◌}
 use native.Mathlib.Omega.{arith}
 use lib.Ieee.{of_int, round, to_bits}
+use lib.ListN.{drop}
 use Rattle.folds.specs.Lists.{list_of}
 use Rattle.folds.proofs.Lists.{length-list}
 use Rattle.view.specs.View.{max_points}
+use Rattle.sheet_file.specs.Grammar.{field}
+use Rattle.sheet_file.specs.Refusals.{settings_in}
 use Rattle.ruling.specs.Ruling.{Ruling, refused, accepted, ruling_of}
 use Rattle.written_file.specs.File.{weighed_file}
 use Rattle.written_file.proofs.Framed.{SettingsSize}
@@ -21,16 +24,17 @@ use Rattle.promises.specs.Words.{rounds_of}
 use Rattle.promises.specs.Worst.{Reaches}
 use Rattle.promises.proofs.Worst.{worst}
 use Rattle.stars.specs.Stars.{rules-compute}
-use Rattle.stars.specs.Listed.{row_file, row-answered}
+use Rattle.stars.specs.Listed.{file-computes, row_file}
 
--- ---- three points, byte for byte
+-- ---- three points: byte for byte the row of the worked sheets, after tag 1
 
-pub three-is : worst_file 3 ≡ row_file
+pub three-is : worst_file 3 ≡ field 1 settings_data ++ drop 7 row_file
 unfolding worst_file to_bits of_int round
 three-is = refl
 
 pub three-answered : answer_of (worst_file 3) 84 ≡ Ok (record { points = 3; components = 1; rounds = 2 })
-three-answered = ap (λ (file : List ℕ). answer_of file 84) three-is ∙ row-answered
+unfolding answer_of worst_file to_bits of_int round settings_in file-computes rules-compute
+three-answered = refl
 
 -- ---- the most points
 
@@ -56,7 +60,7 @@ ruled_as (refused k) = k
 ruled_as (accepted s ps) = 0
 
 worst-size : SettingsSize settings_data
-worst-size = inr refl
+worst-size = inl refl
 
 worst-is : (n : ℕ) → worst_file n ≡ weighed_file settings_data (float_bits 2) (worst_points n)
 unfolding worst_file

@@ -17,7 +17,6 @@ use Rattle.grid.specs.InOrder.{CellOrder}
 use Rattle.grid.specs.Views.{view_of}
 use Rattle.grid.proofs.Views.{view-is, ranks-ranked}
 use Rattle.sheet_file.specs.Bytes.{Bytes}
-use Rattle.sheet_file.specs.Limit.{outside}
 use Rattle.sheet_file.specs.declared.EdgeShapeParams.{EdgeShapeParams}
 use Rattle.sheet_file.specs.declared.Settings.{Settings}
 use Rattle.points.specs.Refusals.{off_limit}

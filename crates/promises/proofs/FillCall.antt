@@ -1,6 +1,6 @@
 -- The call for the fills, of every file and buffer. Assumes nothing.
 use Rattle.std.specs.Prelude.{Err}
-use mathlib.Core.Path.{◌≡◌, refl, sym, ap, ◌∙◌}
+use mathlib.Core.Path.{◌≡◌, ap, ◌∙◌}
 use mathlib.Core.Bool.{not}
 use mathlib.Core.List.{List, ◌++◌}
 use Prim.Native.Nat.{ℕ, ◌*◌, ◌≤◌}
@@ -16,7 +16,7 @@ use Rattle.cells.specs.Cell.{cells_of}
 use Rattle.sheet_file.specs.Bytes.{Bytes}
 use Rattle.sheet_file.specs.Frame.{layout_of}
 use Rattle.sheet_file.specs.declared.Settings.{Settings}
-use Rattle.ruling.specs.Ruling.{Ruling, refused, accepted, applies}
+use Rattle.ruling.specs.Ruling.{accepted, applies}
 use Rattle.ruling.proofs.Standing.{accepted-order}
 use Rattle.judging.specs.Judging.{judged_for, fills_for}
 use Rattle.kept.proofs.Cases.{rows_fit}

@@ -8,7 +8,7 @@ use Prim.Native.Nat.{ℕ, ◌+◌, ◌≤◌, ◌<◌}
 use native.Mathlib.Decide.{dec_lt}
 use native.Mathlib.Omega.{arith}
 use lib.Dec.{eqb, ltb}
-use lib.IntN.{◌+ℤ◌, +ℤ_idr}
+use lib.IntN.{+ℤ_idr}
 use lib.Ieee.{Float, nan}
 use lib.ListN.{length, get_or}
 use borrow.Author.Tests.{ltb-true, lt-ltb, not-true}

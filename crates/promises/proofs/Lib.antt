@@ -17,3 +17,4 @@ pub mod Longest
 pub mod Worst
 pub mod Fills
 pub mod FillCall
+pub mod Short

@@ -10,7 +10,7 @@ use native.Mathlib.Omega.{arith}
 use lib.IntN.{ℤ, pos, ◌+ℤ◌}
 use lib.ListN.{length, get_or}
 use Rattle.cells.specs.Points.{Point, nowhere}
-use Rattle.cells.specs.Cell.{moved, cells_of}
+use Rattle.cells.specs.Cell.{cells_of}
 use Rattle.grid.specs.Moved.{Moved}
 use Rattle.sheet_file.specs.declared.Settings.{Settings}
 use Rattle.ruling.specs.Ruling.{refused, accepted, ruling_of, rows_size}

@@ -10,7 +10,6 @@ use native.Mathlib.Decide.{ℕ_discrete}
 use lib.Dec.{eqb, ltb}
 use lib.ListN.{length}
 use borrow.Author.Tests.{ltb-true}
-use Rattle.folds.specs.Below.{tally}
 use Rattle.cells.specs.Points.{Point}
 use Rattle.cells.specs.Cell.{cells_of}
 use Rattle.cells.proofs.Keys.{cell_at}
@@ -57,7 +56,7 @@ use Rattle.promises.proofs.MovingMap.{ten-moved, ten-before, map-stays}
 use Rattle.promises.proofs.OnMap.{cells-apart, kept-shown, only-kept-shown}
 use Rattle.promises.specs.Tally.{TallyPromise}
 use Rattle.promises.specs.Map.{on_map, MapLinesPromise, MapPointsPromise, MapSizePromise, MapNumbersPromise, MapTextsPromise, TenAlonePromise, OffsetMapPromise, MovedFileMapPromise}
-use Rattle.promises.specs.Promises.{RanksAreCells, KeptByRows, KeptPatchPromise, ComponentCountPromise, NoCountPromise, AnotherOrderPromise, OffsetPromise, OffsetRowsPromise, MovedFilePromise, MovedFileRowsPromise, SwitchesPromise, SwitchedRowsPromise}
+use Rattle.promises.specs.Promises.{RanksAreCells, KeptByRows, KeptPatchPromise, ComponentCountPromise, NoCountPromise, SameResult, AnotherOrderPromise, OffsetPromise, OffsetRowsPromise, MovedFilePromise, MovedFileRowsPromise, SwitchesPromise, SwitchedRowsPromise}
 use Rattle.std.proofs.lemmas.Bool.{and_parts}
 
 pub ranks-are-cells : RanksAreCells
@@ -103,17 +102,21 @@ pub tally-by-index : TallyPromise
 unfolding tally_of
 tally-by-index file room s ps e = record { tally = ap tally_by e; counts = counts-indices s ps }
 
-pub another-order : AnotherOrderPromise
+-- files that are ruled the same with every buffer have the same result
+pub same-results : (file other : List ℕ) → ((room : ℕ) → ruling_of other room ≡ ruling_of file room) → SameResult file other
 unfolding answer_of rows_after tally_of text_of map_text_of map_ruling_of fill_answer_of fills_after
-another-order file other f b e r = record {
-  answer = λ room. ap answer_by (sym (same-ruling file other f b e r room));
-  rows = λ buffer. ap (rows_by buffer) (sym (same-ruling file other f b e r (length buffer)));
-  tally = λ room. ap tally_by (sym (same-ruling file other f b e r room));
-  listing = ap text_by (sym (same-ruling file other f b e r rows_size));
-  map = ap (λ (x : Ruling). map_by (map_ruling x)) (sym (same-ruling file other f b e r rows_size));
-  fill-answer = λ room. ap fill_answer_by (sym (same-ruling file other f b e r (as_rows room)));
-  fills = λ buffer. ap (fills_by buffer) (sym (same-ruling file other f b e r (as_rows (length buffer))));
+same-results file other e = record {
+  answer = λ room. ap answer_by (e room);
+  rows = λ buffer. ap (rows_by buffer) (e (length buffer));
+  tally = λ room. ap tally_by (e room);
+  listing = ap text_by (e rows_size);
+  map = ap (λ (x : Ruling). map_by (map_ruling x)) (e rows_size);
+  fill-answer = λ room. ap fill_answer_by (e (as_rows room));
+  fills = λ buffer. ap (fills_by buffer) (e (as_rows (length buffer)));
 }
+
+pub another-order : AnotherOrderPromise
+another-order file other f b e r = same-results file other (λ room. sym (same-ruling file other f b e r room))
 
 pub moved-sheet : OffsetPromise
 unfolding applies

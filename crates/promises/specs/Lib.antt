@@ -8,3 +8,4 @@ pub mod Leaves
 pub mod Longest
 pub mod Worst
 pub mod Fills
+pub mod Short

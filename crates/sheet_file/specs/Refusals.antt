@@ -21,12 +21,12 @@ float_at file at = f32 (le32 file at)
 
 -- ---- the settings
 
--- "Length 4 gives the cell size only; the rest is `ValidationParams::default` with both switches 1": 0.15, 3, 0.20, off, 0.0
-unfoldable pub defaults_for : Float → Option EdgeShapeParams → Fraction → Settings
-defaults_for cell_size gate fraction = record {
+-- "the rest is `ValidationParams::default` with both switches 1": 0.15, 0.20, off, 0.0, with this line minimum
+abbrev pub defaults_with : ℕ → Float → Option EdgeShapeParams → Fraction → Settings
+defaults_with minimum cell_size gate fraction = record {
   cell_size = cell_size;
   line_tol_rel = f32 0x3E19999A;
-  line_min_members = 3;
+  line_min_members = minimum;
   local_h_tol_rel = f32 0x3E4CCCCD;
   use_step_aware = false;
   step_deviation_thresh_rel = f32 0;
@@ -35,6 +35,10 @@ defaults_for cell_size gate fraction = record {
   edge_shape = gate;
   score_frac = fraction;
 }
+
+-- "Length 4 gives the cell size only", and (document 02, A.9) "the default line minimum becomes 4 for length-4 settings"
+unfoldable pub defaults_for : Float → Option EdgeShapeParams → Fraction → Settings
+defaults_for = defaults_with 4
 
 -- "cell size f32, line tolerance f32, line minimum u16, local tolerance f32, step flag u8, step threshold f32, wrong-label switch u8,
 -- largest-patch switch u8", from byte 3 of the file on

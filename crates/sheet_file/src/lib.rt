@@ -119,7 +119,7 @@ pub struct Settings {
 impl Settings {
     pub const LINE_TOL_REL: f32 = 0.15;
 
-    pub const LINE_MIN_MEMBERS: u16 = 3;
+    pub const LINE_MIN_MEMBERS: u16 = 4;
 
     pub const LOCAL_H_TOL_REL: f32 = 0.20;
 

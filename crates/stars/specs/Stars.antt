@@ -11,7 +11,7 @@ use Rattle.points.specs.Refusals.{number_for, cell_order}
 use Rattle.grid.specs.Views.{view_of}
 use Rattle.sheet_file.specs.declared.Settings.{Settings}
 use Rattle.sheet_file.specs.declared.Fraction.TheVariants.{Missing}
-use Rattle.sheet_file.specs.Refusals.{defaults_for}
+use Rattle.sheet_file.specs.Refusals.{defaults_with, defaults_for}
 use Rattle.local_h.specs.Residual.{residuals-compute}
 use Rattle.residuals.specs.ByIndex.{last_fit, index_residual, residuals_of, index_flags}
 use Rattle.lines.specs.Flags.{flag_count}
@@ -46,6 +46,9 @@ rules-compute = true
 -- "Cell size 100, defaults"
 abbrev pub settings : Settings
 settings = defaults_for (f32 0x42C8_0000) None Missing
+
+abbrev pub of_three : Settings
+of_three = defaults_with 3 (f32 0x42C8_0000) None Missing
 
 -- what the definitions say of points in cell order with settings
 abbrev pub said_of : Settings → List Point → Said
@@ -83,6 +86,13 @@ star ps s = record { settings = settings; sheet = ps; said = s }
 abbrev pub Right : Star → Type 0
 Right s = (number_for s.settings.score_frac s.sheet ≡ 0) × (said_of s.settings (cell_order s.sheet) ≡ s.said)
 
+-- and with the line minimum 3 spelled out, which was the default before document 02, A.9
+abbrev star_of_three : List Point → Said → Star
+star_of_three ps s = record { settings = of_three; sheet = ps; said = s }
+
+abbrev bent_row : List Point
+bent_row = pt 0 0 10 0 0 ∷ pt 1 0 11 0x42C8_0000 0x4270_0000 ∷ pt 2 0 12 0x4348_0000 0 ∷ []
+
 abbrev pub stars : List Star
 stars =
     -- "No points: components 0, kept 0."
@@ -101,8 +111,10 @@ stars =
     star (pt 0 0 10 0 0 ∷ pt 1 0 11 0x430C_0000 0 ∷ pt 2 0 12 0x4370_0000 0 ∷ pt 3 0 13 0x43AA_0000 0 ∷ pt 4 0 14 0x43DC_0000 0 ∷ []) (says 1 0 (0 ∷ 0 ∷ 0 ∷ 0 ∷ 0 ∷ []) (0 ∷ 0 ∷ 0 ∷ 0 ∷ 0 ∷ []) (0 ∷ 0 ∷ 0 ∷ 0 ∷ 0 ∷ []) (4 ∷ 0 ∷ 0 ∷ 0 ∷ 0 ∷ []) (0 ∷ 0 ∷ 1 ∷ 0 ∷ 0 ∷ 4 ∷ [])) ∷
     -- "At 0, 130, 230, 330: none."
     star (pt 0 0 10 0 0 ∷ pt 1 0 11 0x4302_0000 0 ∷ pt 2 0 12 0x4366_0000 0 ∷ pt 3 0 13 0x43A5_0000 0 ∷ []) (says 1 0 (0 ∷ 0 ∷ 0 ∷ 0 ∷ []) (0 ∷ 0 ∷ 0 ∷ 0 ∷ []) (0 ∷ 0 ∷ 0 ∷ 0 ∷ []) (0 ∷ 0 ∷ 0 ∷ 0 ∷ []) (0 ∷ 0 ∷ 0 ∷ 0 ∷ 0 ∷ 4 ∷ [])) ∷
-    -- "Row at (0,0), (100,60), (200,0): one line flag each, none marked."
-    star (pt 0 0 10 0 0 ∷ pt 1 0 11 0x42C8_0000 0x4270_0000 ∷ pt 2 0 12 0x4348_0000 0 ∷ []) (says 1 0 (1 ∷ 1 ∷ 1 ∷ []) (0 ∷ 0 ∷ 0 ∷ []) (0 ∷ 0 ∷ 0 ∷ []) (0 ∷ 0 ∷ 0 ∷ []) (0 ∷ 0 ∷ 0 ∷ 0 ∷ 0 ∷ 3 ∷ [])) ∷
+    -- "Row at (0,0), (100,60), (200,0)": it "stays short and gives no flags" (document 02, A.9), since three are fewer than the line minimum 4.
+    star bent_row (says 1 0 (0 ∷ 0 ∷ 0 ∷ []) (0 ∷ 0 ∷ 0 ∷ []) (0 ∷ 0 ∷ 0 ∷ []) (0 ∷ 0 ∷ 0 ∷ []) (0 ∷ 0 ∷ 0 ∷ 0 ∷ 0 ∷ 3 ∷ [])) ∷
+    -- The same row with 3 spelled out: "one line flag each, none marked."
+    star_of_three bent_row (says 1 0 (1 ∷ 1 ∷ 1 ∷ []) (0 ∷ 0 ∷ 0 ∷ []) (0 ∷ 0 ∷ 0 ∷ []) (0 ∷ 0 ∷ 0 ∷ []) (0 ∷ 0 ∷ 0 ∷ 0 ∷ 0 ∷ 3 ∷ [])) ∷
     -- "Cells (0,0), (1,0), (0,1) at x = 0, 30, 60, y = 0: no vote."
     star (pt 0 0 10 0 0 ∷ pt 1 0 11 0x41F0_0000 0 ∷ pt 0 1 12 0x4270_0000 0 ∷ []) (says 1 0 (0 ∷ 0 ∷ 0 ∷ []) (0 ∷ 0 ∷ 0 ∷ []) (0 ∷ 0 ∷ 0 ∷ []) (0 ∷ 0 ∷ 0 ∷ []) (0 ∷ 0 ∷ 0 ∷ 0 ∷ 0 ∷ 3 ∷ [])) ∷
     -- "Index 7 twice at one position, cells (0,0), (1,0): both rows W." In the tally it is one corner.
@@ -111,4 +123,4 @@ stars =
 
 pub stars-right : All Right stars
 unfolding rules-compute
-stars-right = ((refl, refl), ((refl, refl), ((refl, refl), ((refl, refl), ((refl, refl), ((refl, refl), ((refl, refl), ((refl, refl), ((refl, refl), ((refl, refl), ((refl, refl), tt)))))))))))
+stars-right = ((refl, refl), ((refl, refl), ((refl, refl), ((refl, refl), ((refl, refl), ((refl, refl), ((refl, refl), ((refl, refl), ((refl, refl), ((refl, refl), ((refl, refl), ((refl, refl), tt))))))))))))

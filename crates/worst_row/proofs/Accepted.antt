@@ -3,8 +3,7 @@ use Rattle.std.specs.List.{list_any}
 use Rattle.std.specs.Prelude.{None}
 use mathlib.Core.Path.{◌≡◌, refl, ◌∙◌}
 use mathlib.Core.Bool.{Bool, true, false, cond}
-use mathlib.Core.Logic.{inr}
-use mathlib.Core.List.{[], ◌∷◌}
+use mathlib.Core.Logic.{inl}
 use Prim.Native.Nat.{ℕ, ◌+◌, ◌*◌, ◌≤◌, ◌<◌}
 use native.Mathlib.Omega.{arith}
 use lib.Dec.{eqb}
@@ -23,13 +22,12 @@ use Rattle.cells.specs.Cell.{signed, within}
 use Rattle.cells.proofs.Coordinates.{ends-are}
 use Rattle.cells.proofs.Keys.{range-is}
 use Rattle.sort.proofs.Sorted.{at_all}
-use Rattle.sheet_file.specs.Bytes.{Bytes, le32}
-use Rattle.sheet_file.specs.Refusals.{defaults_for, fraction_in}
+use Rattle.sheet_file.specs.Bytes.{Bytes}
+use Rattle.sheet_file.specs.Refusals.{defaults_with, fraction_in}
 use Rattle.points.specs.Refusals.{off_range, off_limit, off_strength, same_cell, two_positions, two_strengths, point_refusals, comes_before, cell_order}
 use Rattle.ruling.specs.Ruling.{refused, accepted, ruling_for, ruling_of}
 use Rattle.ruling.proofs.Standing.{Words}
-use Rattle.written_file.proofs.Parts.{word-there, words-bytes, no_bytes}
-use Rattle.written_file.proofs.ReadBack.{ruled, bytes_back}
+use Rattle.written_file.proofs.ReadBack.{ruled, spelled-bytes, bytes_back}
 use Rattle.straight_row.specs.Row.{Plain}
 use Rattle.worst_sheet.specs.Worst.{float_bits, point_at, worst_points, settings_data, worst_file}
 use Rattle.worst_row.specs.Sheet.{worst_settings}
@@ -39,11 +37,11 @@ use Rattle.sort.proofs.Listed.{sort-listed}
 -- ---- the settings
 
 pub settings-plain : Plain worst_settings
-unfolding defaults_for lt of_bits
+unfolding lt of_bits
 settings-plain = record { cell = refl; ungated = refl; tolerant = refl }
 
-settings-are : defaults_for (f32 (le32 settings_data 0)) None (fraction_in (f32 (float_bits 2))) ≡ worst_settings
-settings-are = rw (word-there (float_bits 7) [] (bits_small 7), seven_is, bits_inside 2 (omega arith), two_is)
+settings-are : defaults_with 3 (f32 (float_bits 7)) None (fraction_in (f32 (float_bits 2))) ≡ worst_settings
+settings-are = rw (seven_is, bits_inside 2 (omega arith), two_is)
 
 -- ---- one point
 
@@ -87,7 +85,7 @@ module _ (n : ℕ) (few : n ≤ max_points) where
 
   -- none of 6, 7, 13, 8, 9 and 14 applies
   points-pass : list_any holds (point_refusals worst_settings.score_frac (worst_points n)) ≡ false
-  unfolding point_refusals defaults_for
+  unfolding point_refusals
   points-pass =
       rw (
         any-list (point_at n) n off_range ∙ some-no (λ k. off_range (point_at n k)) n (λ k h. point-in-range n k (omega arith)),
@@ -109,9 +107,9 @@ module _ (n : ℕ) (few : n ≤ max_points) where
   pub worst-accepted : (room : ℕ) → 28 * n ≤ room → ruling_of (worst_file n) room ≡ accepted worst_settings (worst_points n)
   unfolding worst_file
   worst-accepted room enough =
-      ruled settings_data (float_bits 2) (worst_points n) refl room (omega (arith, point-count)) words (bits_small 2) (omega (arith, point-count)) (rw (word-there (float_bits 7) [] (bits_small 7)) (bits_inside 7 (omega arith)))
+      ruled (float_bits 7) 3 (float_bits 2) (worst_points n) (bits_small 7) (omega arith) room (omega (arith, point-count)) words (bits_small 2) (omega (arith, point-count)) (bits_inside 7 (omega arith))
       ∙ rw settings-are points-accepted
 
   pub worst-bytes : Bytes (worst_file n)
   unfolding worst_file
-  worst-bytes = bytes_back settings_data (float_bits 2) (worst_points n) (inr refl) (words-bytes (float_bits 7 ∷ []) [] no_bytes) (omega (arith, point-count))
+  worst-bytes = bytes_back settings_data (float_bits 2) (worst_points n) (inl refl) (spelled-bytes (float_bits 7) 3) (omega (arith, point-count))

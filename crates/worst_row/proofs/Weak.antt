@@ -18,7 +18,6 @@ use Rattle.cells.specs.Points.{Point, nowhere, strengths_of}
 use Rattle.median.specs.Median.{median_of, first_of}
 use Rattle.marks.specs.Marks.{is_set}
 use Rattle.marks.proofs.Guards.{set_is}
-use Rattle.sheet_file.specs.Refusals.{defaults_for}
 use Rattle.sheet_file.specs.declared.Fraction.{Fraction}
 use Rattle.sheet_file.specs.declared.Fraction.TheVariants.{Given}
 use Rattle.strengths.proofs.Laws.{weak-by}
@@ -38,7 +37,6 @@ abbrev strength : ℕ → ℕ → Float
 strength n k = cond (eqb (k + 1) n) two one
 
 fraction-is : worst_settings.score_frac ≡ Given two
-unfolding defaults_for
 fraction-is = refl
 
 pattern-read : (b : Bool) → f32 (float_bits (cond b 2 1)) ≡ cond b two one

@@ -16,8 +16,8 @@ others = refl
 
 -- the settings; two points, with u, v, index, x and y; the fraction 2, the strengths 1 and 2
 smallest : worst_file 2 ≡
-    (1 ∷ 4 ∷ 0 ∷ [])
-    ++ (0 ∷ 0 ∷ 0xE0 ∷ 0x40 ∷ [])
+    (1 ∷ 21 ∷ 0 ∷ [])
+    ++ (0 ∷ 0 ∷ 0xE0 ∷ 0x40 ∷ 0x9A ∷ 0x99 ∷ 0x19 ∷ 0x3E ∷ 3 ∷ 0 ∷ 0xCD ∷ 0xCC ∷ 0x4C ∷ 0x3E ∷ 0 ∷ 0 ∷ 0 ∷ 0 ∷ 0 ∷ 1 ∷ 1 ∷ [])
     ++ (3 ∷ 40 ∷ 0 ∷ [])
     ++ (0 ∷ 0 ∷ 0 ∷ 0 ∷ 0 ∷ 0 ∷ 0 ∷ 0 ∷ 0 ∷ 0 ∷ 0 ∷ 0 ∷ 0 ∷ 0 ∷ 0 ∷ 0 ∷ 0 ∷ 0 ∷ 0 ∷ 0 ∷ [])
     ++ (1 ∷ 0 ∷ 0 ∷ 0 ∷ 0 ∷ 0 ∷ 0 ∷ 0 ∷ 1 ∷ 0 ∷ 0 ∷ 0 ∷ 0 ∷ 0 ∷ 0xE0 ∷ 0x40 ∷ 0 ∷ 0 ∷ 0 ∷ 0 ∷ [])

@@ -38,8 +38,8 @@ records-long n = ap length (records-are n) ∙ each_long (λ u. point_bytes (poi
 pub strengths-long : (n : ℕ) → length (strength_bytes (worst_points n)) ≡ 4 * n
 strengths-long n = ap length (strengths-are n) ∙ each_long (λ u. little_endian (strength_at n u)) 4 n (λ k l. refl)
 
--- "length-4 settings, .. cell size 7"
-pub settings-are : settings_data ≡ 0 ∷ 0 ∷ 0xE0 ∷ 0x40 ∷ []
+-- "cell size 7", and all 21 bytes "with 3"
+pub settings-are : settings_data ≡ 0 ∷ 0 ∷ 0xE0 ∷ 0x40 ∷ 0x9A ∷ 0x99 ∷ 0x19 ∷ 0x3E ∷ 3 ∷ 0 ∷ 0xCD ∷ 0xCC ∷ 0x4C ∷ 0x3E ∷ 0 ∷ 0 ∷ 0 ∷ 0 ∷ 0 ∷ 1 ∷ 1 ∷ []
 unfolding to_bits of_int
 settings-are = refl
 

@@ -9,8 +9,7 @@ use Rattle.folds.specs.Same.{same_list}
 use Rattle.view.specs.View.{max_points}
 use Rattle.text.specs.Text.{decimal}
 use Rattle.cells.specs.Points.{Point}
-use Rattle.sheet_file.specs.Bytes.{little_endian}
-use Rattle.written_file.specs.File.{weighed_file}
+use Rattle.written_file.specs.File.{spelled_out, weighed_file}
 
 -- the 32-bit pattern of the whole number n as f32
 abbrev pub float_bits : ℕ → ℕ
@@ -28,9 +27,9 @@ point_at n u = record { u = u; v = 0; index = u; x = float_bits (7 * u); y = flo
 abbrev pub worst_points : ℕ → List Point
 worst_points n = list_of n (point_at n)
 
--- "length-4 settings, .. cell size 7": the data of tag 1
+-- "cell size 7", and (document 02, A.9) "A.6's program, now spell out all 21 bytes with 3": the data of tag 1
 abbrev pub settings_data : List ℕ
-settings_data = little_endian (float_bits 7)
+settings_data = spelled_out (float_bits 7) 3
 
 -- "no tag 2, .. fraction 2"
 unfoldable pub worst_file : ℕ → List ℕ

@@ -17,10 +17,12 @@ use little_endian::put_u32;
 use text::{NoRoom, Writer};
 use view::MAX_POINTS;
 
-const SETTINGS_SIZE: usize = 4;
+const SETTINGS_SIZE: usize = 21;
 
-// The data of tag 1: the f32 7.
-const SETTINGS: [u8; SETTINGS_SIZE] = [0, 0, 0xE0, 0x40];
+// The data of tag 1: the f32s 7 and 0.15, the line minimum 3, the f32 0.20, the step flag 0, the f32 0, and both switches 1.
+const SETTINGS: [u8; SETTINGS_SIZE] = [
+    0, 0, 0xE0, 0x40, 0x9A, 0x99, 0x19, 0x3E, 3, 0, 0xCD, 0xCC, 0x4C, 0x3E, 0, 0, 0, 0, 0, 1, 1,
+];
 
 // A buffer of this size has room for every sheet: three fields, of the settings, of the points, and of a fraction and the strengths.
 pub const WORST_SIZE: usize = (3 + SETTINGS_SIZE)

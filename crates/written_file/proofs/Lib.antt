@@ -2,4 +2,5 @@
 pub mod Parts
 pub mod Framed
 pub mod ReadBack
+pub mod SpelledOut
 pub mod Examples

@@ -22,7 +22,7 @@ module _ (a l : List ℕ) where
   pub first_part : (m k : ℕ) → k + m ≤ length a → SameBytes m a k (a ++ l) k
   first_part m k h j b = get_or-append a l 0 (k + j) (omega arith)
 
-  second-part : (m k : ℕ) → SameBytes m l k (a ++ l) (length a + k)
+  pub second-part : (m k : ℕ) → SameBytes m l k (a ++ l) (length a + k)
   second-part m k j b = let e : length a + k + j ≡ length a + (k + j) = omega arith in rw e (get_or-append-add a l (k + j) 0)
 
   pub word_after : (at k : ℕ) → at ≡ length a + k → le32 (a ++ l) at ≡ le32 l k

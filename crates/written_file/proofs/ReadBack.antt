@@ -8,8 +8,8 @@ use mathlib.Core.List.{List, [], ◌∷◌, ◌++◌}
 use Prim.Native.Nat.{ℕ, zero, suc, ◌+◌, ◌*◌, ◌/◌, ◌%◌, ◌^◌, ◌≤◌, ◌<◌}
 use native.Mathlib.Omega.{arith}
 use lib.Dec.{eqb}
-use lib.ListN.{length, get_or, get_or-append}
-use lib.Ieee.{Float}
+use lib.ListN.{length, get_or, drop, get_or-append}
+use lib.Ieee.{Float, of_bits}
 use borrow.Author.Tests.{lt-ltb, le-ltb, eq-eqb}
 use Rattle.folds.specs.Arith.{f32}
 use Rattle.folds.specs.Lists.{All}
@@ -21,7 +21,7 @@ use Rattle.sheet_file.specs.Frame.{weights_of}
 use Rattle.sheet_file.specs.Bytes.{Bytes, byte_at, le16, le32, little_endian}
 use Rattle.sheet_file.specs.Grammar.{field}
 use Rattle.sheet_file.specs.Limit.{outside}
-use Rattle.sheet_file.specs.Refusals.{float_at, defaults_for, settings_in, edge_shape_of, fraction_in, fraction_of, settings_of, bad_flag, bad_float, header_refusals}
+use Rattle.sheet_file.specs.Refusals.{float_at, defaults_with, defaults_for, settings_in, edge_shape_of, fraction_in, fraction_of, settings_of, bad_flag, bad_float, header_refusals}
 use Rattle.sheet_file.specs.declared.Fraction.{Fraction}
 use Rattle.sheet_file.specs.declared.Layout.{Layout}
 use Rattle.sheet_file.specs.declared.Settings.{Settings}
@@ -31,8 +31,9 @@ use Rattle.ruling.specs.Ruling.{refused, ruling_for, points_of, ruling_of}
 use Rattle.ruling.proofs.Given.{by-points}
 use Rattle.ruling.proofs.Limit.{more-refused}
 use Rattle.ruling.proofs.Standing.{Words}
-use Rattle.written_file.specs.File.{points_bytes, strength_bytes, weights, weighed_file}
-use Rattle.written_file.proofs.Parts.{first_part, word_after, point-after, word-there, words-bytes, weighing, records-length, records-there, records-bytes, strengths-length, strengths-there, strengths-bytes}
+use Rattle.ruling.proofs.Weights.{bytes-by}
+use Rattle.written_file.specs.File.{points_bytes, strength_bytes, weights, spelled_out, weighed_file}
+use Rattle.written_file.proofs.Parts.{no_bytes, first_part, word_after, point-after, word-there, words-bytes, weighing, records-length, records-there, records-bytes, strengths-length, strengths-there, strengths-bytes}
 use Rattle.written_file.proofs.Framed.{SettingsSize, layout_for, written-well, framed}
 
 -- the data of tag 4
@@ -160,26 +161,34 @@ module _ (settings : List ℕ) (fraction : ℕ) (ps : List Point) where
         by-points file room
         ∙ rw (framed settings fraction ps size, settings-read small size, points-back words) (none_passes refused (ruling_for (settings_for settings fraction) ps) (header_refusals file room (Some f)) header-passes)
 
--- ---- settings of length 4
+-- ---- settings spelled out
 
-module _ (settings : List ℕ) (fraction : ℕ) (ps : List Point) (size : length settings ≡ 4) where
+module _ (size minimum fraction : ℕ) (ps : List Point) (fits : size < 2 ^ 32) (short : minimum < 65536) where
+  abbrev settings : List ℕ
+  settings = spelled_out size minimum
+
   abbrev cell_size : Float
-  cell_size = f32 (le32 settings 0)
+  cell_size = f32 size
 
-  abbrev short : Settings
-  short = defaults_for cell_size None (fraction_in (f32 fraction))
+  abbrev spelled : Settings
+  spelled = defaults_with minimum cell_size None (fraction_in (f32 fraction))
 
-  first_word : le32 (field 1 settings) 3 ≡ le32 settings 0
-  first_word = word_after (head_of 1 settings) settings 3 0 refl
+  first_word : le32 (field 1 settings) 3 ≡ size
+  first_word = word_after (head_of 1 settings) settings 3 0 refl ∙ word-there size (drop 4 settings) fits
 
-  short-settings : settings_for settings fraction ≡ short
-  short-settings = rw (first_word, size)
+  minimum_read : le16 (field 1 settings) 11 ≡ minimum
+  unfolding le16
+  minimum_read = omega arith
+
+  spelled-settings : settings_for settings fraction ≡ spelled
+  unfolding settings_in le32
+  spelled-settings = rw (first_word, minimum_read) refl
 
   -- none of 1, 12, 2, 3, 4 and 5 applies
-  pub ruled : (room : ℕ) → length ps ≤ max_points → All Words ps → fraction < 2 ^ 32 → 28 * length ps ≤ room → outside cell_size ≡ false → ruling_of (weighed_file settings fraction ps) room ≡ ruling_for short ps
-  unfolding bad_flag bad_float
+  pub ruled : (room : ℕ) → length ps ≤ max_points → All Words ps → fraction < 2 ^ 32 → 28 * length ps ≤ room → outside cell_size ≡ false → ruling_of (weighed_file settings fraction ps) room ≡ ruling_for spelled ps
+  unfolding bad_flag bad_float le32 of_bits
   ruled room few words small enough inside =
-      ruled-by-points settings fraction ps room few enough (inr size) (rw size) (rw (first_word, inside, size)) words small ∙ rw short-settings
+      ruled-by-points settings fraction ps room few enough (inl refl) refl (rw (first_word, inside) refl) words small ∙ rw spelled-settings
 
 -- ---- the limits of a list and of a result buffer
 
@@ -206,6 +215,16 @@ field-bytes tag body t l h zero = t
 field-bytes tag body t l h (suc zero) = omega arith
 field-bytes tag body t l h (suc (suc zero)) = omega arith
 field-bytes tag body t l h (suc (suc (suc k))) = h k
+
+pub spelled-bytes : (size minimum : ℕ) → Bytes (spelled_out size minimum)
+spelled-bytes size minimum =
+    words-bytes (size ∷ 0x3E19_999A ∷ []) (minimum % 256 ∷ minimum / 256 % 256 ∷ drop 10 (spelled_out 0 0))
+    (bytes-join (minimum % 256 ∷ minimum / 256 % 256 ∷ []) (drop 10 (spelled_out 0 0)) two_bytes (bytes-by (drop 10 (spelled_out 0 0)) refl))
+  where
+    two_bytes : Bytes (minimum % 256 ∷ minimum / 256 % 256 ∷ [])
+    two_bytes zero = omega arith
+    two_bytes (suc zero) = omega arith
+    two_bytes (suc (suc k)) = no_bytes k
 
 pub bytes_back : (settings : List ℕ) (fraction : ℕ) (ps : List Point) → SettingsSize settings → Bytes settings → length ps ≤ max_points → Bytes (weighed_file settings fraction ps)
 bytes_back settings fraction ps size b few =

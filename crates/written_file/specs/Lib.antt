@@ -1,1 +1,2 @@
 pub mod File
+pub mod Spelled

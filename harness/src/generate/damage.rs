@@ -30,7 +30,7 @@ const NOT_BOUNDED: [f32; 7] = [
 ];
 
 fn bad_flag(r: &mut Random, s: &mut Sheet) {
-    let rest = s.settings.rest.get_or_insert_with(Rest::defaults);
+    let rest = s.settings.rest.get_or_insert_with(Rest::with_three);
     let bad = r.pick(&[2, 3, 128, 255]);
     match r.below(3) {
         0 => rest.step_flag = bad,
@@ -46,19 +46,19 @@ fn bad_float(r: &mut Random, s: &mut Sheet) {
         1 => {
             s.settings
                 .rest
-                .get_or_insert_with(Rest::defaults)
+                .get_or_insert_with(Rest::with_three)
                 .line_tolerance = bad
         }
         2 => {
             s.settings
                 .rest
-                .get_or_insert_with(Rest::defaults)
+                .get_or_insert_with(Rest::with_three)
                 .local_tolerance = bad
         }
         3 => {
             s.settings
                 .rest
-                .get_or_insert_with(Rest::defaults)
+                .get_or_insert_with(Rest::with_three)
                 .step_threshold = bad
         }
         k => {

@@ -94,7 +94,7 @@ fn lenient(largest_patch: u8) -> Rest {
         line_minimum: u16::MAX,
         wrong_label: 0,
         largest_patch,
-        ..Rest::defaults()
+        ..Rest::with_three()
     }
 }
 
@@ -275,7 +275,7 @@ fn letters(r: &mut Random) -> Sheet {
         s.settings.rest = Some(Rest {
             wrong_label,
             largest_patch,
-            ..Rest::defaults()
+            ..Rest::with_three()
         });
     }
     s
@@ -316,7 +316,7 @@ fn all_or_none(r: &mut Random) -> Sheet {
             s.settings.rest = Some(Rest {
                 line_tolerance: -1.0,
                 line_minimum: 1,
-                ..Rest::defaults()
+                ..Rest::with_three()
             });
         }
         1 => {

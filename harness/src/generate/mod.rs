@@ -18,7 +18,7 @@ pub use worst::{arguments, REFUSED};
 
 use crate::random::Random;
 use crate::second::ROW;
-use crate::sheet::Sheet;
+use crate::sheet::{self, Sheet};
 
 macro_rules! kinds {
     ($($name:ident: $text:literal,)*) => {
@@ -179,8 +179,18 @@ impl Kind {
     }
 }
 
-/// The case of a kind and a seed.
+/// The case of a kind and a seed: of every other seed with 3 spelled out for short settings, so that lines of
+/// three count there.
 pub fn case(kind: Kind, seed: u64) -> Case {
+    let mut case = drawn(kind, seed);
+    if seed % 2 == 1 {
+        case.file = sheet::spelled_out(&case.file, 3);
+    }
+    case
+}
+
+/// The same with short settings wherever they were drawn.
+pub fn drawn(kind: Kind, seed: u64) -> Case {
     let place = kind as u64;
     let mut own = Random::new(seed ^ place << 56);
     if kind as usize >= BEFORE_ROOTS {
@@ -249,9 +259,21 @@ pub fn full(seed: u64) -> Case {
     }
 }
 
-/// Case i of a run: some kinds in turn, each with rising seeds from `seed` on.
+/// Kind and seed i of a run: some kinds in turn, each with rising seeds from `seed` on.
+fn place(kinds: &[(Kind, &str)], seed: u64, i: usize) -> (Kind, u64) {
+    (kinds[i % kinds.len()].0, seed + (i / kinds.len()) as u64)
+}
+
+/// Case i of a run.
 pub fn nth(kinds: &[(Kind, &str)], seed: u64, i: usize) -> Case {
-    case(kinds[i % kinds.len()].0, seed + (i / kinds.len()) as u64)
+    let (kind, seed) = place(kinds, seed, i);
+    case(kind, seed)
+}
+
+/// The same with short settings wherever they were drawn.
+pub fn nth_drawn(kinds: &[(Kind, &str)], seed: u64, i: usize) -> Case {
+    let (kind, seed) = place(kinds, seed, i);
+    drawn(kind, seed)
 }
 
 /// An accepted sheet of a kind.

@@ -108,7 +108,7 @@ fn several(r: &mut Random) -> Sheet {
     s.settings.rest = Some(Rest {
         line_tolerance: r.pick(&[-1.0, 0.0, 0.05, 0.15]),
         line_minimum: r.pick(&[2, 3, 5, 8, 10]),
-        ..Rest::defaults()
+        ..Rest::with_three()
     });
     s
 }

@@ -253,7 +253,7 @@ fn unmarked(r: &mut Random, s: &mut Sheet) {
         line_minimum: u16::MAX,
         wrong_label: 0,
         largest_patch: u8::from(!r.one_in(5)),
-        ..Rest::defaults()
+        ..Rest::with_three()
     });
 }
 
@@ -362,7 +362,7 @@ fn sheet(kind: Kind, r: &mut Random) -> Sheet {
             s.settings.rest = Some(Rest {
                 wrong_label,
                 largest_patch,
-                ..Rest::defaults()
+                ..Rest::with_three()
             });
         }
         _ => {}

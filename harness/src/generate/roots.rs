@@ -260,7 +260,7 @@ pub fn case(kind: Kind, r: &mut Random, seed: u64) -> Case {
             s.settings.rest = Some(Rest {
                 wrong_label: r.whole(0, 1) as u8,
                 largest_patch: r.whole(0, 1) as u8,
-                ..Rest::defaults()
+                ..Rest::with_three()
             });
         }
     }

@@ -139,7 +139,7 @@ fn refused(r: &mut Random) -> Step {
     let number = r.whole(1, 12) as u8;
     match number {
         1 => return damage::framing(r, 0).into(),
-        10.. => return super::case(Kind::DamagedPeels, r.bits() >> 16).into(),
+        10.. => return super::drawn(Kind::DamagedPeels, r.bits() >> 16).into(),
         _ => {}
     }
     let mut sheet = super::sheet(Kind::Noise, r);
@@ -165,7 +165,7 @@ impl From<super::Case> for Step {
 /// One sheet: accepted, refused, without points, or with a buffer too short.
 fn step(r: &mut Random) -> Step {
     let kind = r.pick(&KINDS);
-    let mut accepted: Step = super::case(kind, r.bits() >> 16).into();
+    let mut accepted: Step = super::drawn(kind, r.bits() >> 16).into();
     match r.below(16) {
         0..3 => refused(r),
         3 => damage::scrambled(r, 0).into(),
@@ -216,7 +216,7 @@ pub fn few_indices(r: &mut Random) -> Sheet {
     let rest = Rest {
         line_tolerance: r.pick(&[0.15, 100.0, 100.0]),
         wrong_label: 0,
-        ..Rest::defaults()
+        ..Rest::with_three()
     };
     sheet(Some(rest), points)
 }

@@ -10,7 +10,7 @@ const EXTREME: [f32; 16] = [
 ];
 
 fn rest(s: &mut Sheet) -> &mut Rest {
-    s.settings.rest.get_or_insert_with(Rest::defaults)
+    s.settings.rest.get_or_insert_with(Rest::with_three)
 }
 
 /// A tolerance in use, or one so small that rounding decides.

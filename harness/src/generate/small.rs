@@ -56,7 +56,7 @@ pub fn shapes(r: &mut Random) -> Sheet {
         s.settings.rest = Some(Rest {
             line_minimum: r.pick(&[0, 1, 2, 3]),
             line_tolerance: r.pick(&[0.15, 0.0, -1.0]),
-            ..Rest::defaults()
+            ..Rest::with_three()
         });
     }
     s
@@ -223,7 +223,7 @@ pub fn shared(r: &mut Random) -> Sheet {
         line_tolerance: r.pick(&[0.15, 1.0, 100.0]),
         line_minimum: r.pick(&[2, 3, 3, 4]),
         local_tolerance: r.pick(&[0.0, 1e-6, 0.2, 100.0]),
-        ..Rest::defaults()
+        ..Rest::with_three()
     });
     s
 }
@@ -241,7 +241,7 @@ pub fn two_steps(r: &mut Random) -> Sheet {
         line_minimum: 2,
         step_flag: 1,
         step_threshold: r.pick(&[0.25, 0.5, 2.0]),
-        ..Rest::defaults()
+        ..Rest::with_three()
     });
     s
 }

@@ -91,7 +91,7 @@ fn repeated_index(r: &mut Random, s: &mut Sheet) {
     s.settings.rest = Some(Rest {
         line_minimum: u16::MAX,
         wrong_label: 0,
-        ..Rest::defaults()
+        ..Rest::with_three()
     });
 }
 

@@ -128,12 +128,21 @@ fn fields(file: &[u8], fault: Fault) -> Option<Vec<(u8, &[u8])>> {
     Some(out)
 }
 
-fn settings(data: &[u8]) -> Option<Settings> {
+/// "the default line minimum becomes 4 for length-4 settings"
+fn default_minimum(fault: Fault) -> usize {
+    match fault {
+        Fault::ShortThree => 3,
+        Fault::ShortFive => 5,
+        _ => 4,
+    }
+}
+
+fn settings(data: &[u8], fault: Fault) -> Option<Settings> {
     match data.len() {
         4 => Some(Settings {
             cell_size: f32_at(data, 0),
             line_tolerance: 0.15,
-            line_minimum: 3,
+            line_minimum: default_minimum(fault),
             local_tolerance: 0.20,
             step_flag: 0,
             step_threshold: 0.0,
@@ -143,7 +152,10 @@ fn settings(data: &[u8]) -> Option<Settings> {
         21 => Some(Settings {
             cell_size: f32_at(data, 0),
             line_tolerance: f32_at(data, 4),
-            line_minimum: u16_at(data, 8),
+            line_minimum: match u16_at(data, 8) {
+                3 if fault == Fault::ThreeNotTaken => 4,
+                minimum => minimum,
+            },
             local_tolerance: f32_at(data, 10),
             step_flag: data[14],
             step_threshold: f32_at(data, 15),
@@ -208,7 +220,7 @@ pub fn framed(file: &[u8], fault: Fault) -> Option<Framed> {
         [(1, first), (2, second), (3, third)] => (*first, Some(*second), *third),
         _ => return None,
     };
-    let settings = settings(first)?;
+    let settings = settings(first, fault)?;
     let gate = match second {
         Some(data) => Some(gate(data)?),
         None => None,

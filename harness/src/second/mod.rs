@@ -108,6 +108,7 @@ struct Judged {
     rows: Vec<u8>,
     /// For each rank that of its index.
     residuals: Vec<Option<Distance>>,
+    flags: Vec<u32>,
     tally: Tally,
     fills: Vec<Fill>,
 }
@@ -138,7 +139,9 @@ impl Judged {
         let tally = Tally::new(&board, &rows, fault);
         let fills = fills::fills(&board, &rows, fills::SQUARE, fault);
         let homes = board.home.iter();
-        let residuals = homes.map(|home| findings.residual[*home]).collect();
+        let residuals = homes.clone().map(|home| findings.residual[*home]);
+        let residuals = residuals.collect();
+        let flags = homes.map(|home| findings.flags[*home]).collect();
         let counts = Counts {
             points: board.len(),
             components: patch.components,
@@ -149,6 +152,7 @@ impl Judged {
             counts,
             rows,
             residuals,
+            flags,
             tally,
             fills,
         }
@@ -304,6 +308,8 @@ pub struct All {
     pub fills: Fills,
     /// Of each point of an accepted sheet that of its index, if there is one.
     pub residuals: Vec<Option<Distance>>,
+    /// Likewise how many line flags its index has.
+    pub flags: Vec<u32>,
 }
 
 impl All {
@@ -317,6 +323,7 @@ impl All {
                 map: Err(number),
                 fills: Err(number),
                 residuals: Vec::new(),
+                flags: Vec::new(),
             },
             Ok(sheet) => {
                 let judged = Judged::new(sheet, fault);
@@ -329,6 +336,7 @@ impl All {
                     map: judged.map(fault),
                     fills: Ok(judged.filled()),
                     residuals: judged.residuals,
+                    flags: judged.flags,
                 }
             }
         }

@@ -13,6 +13,7 @@ use super::root::Distance;
 pub struct Findings {
     pub marked: Vec<bool>,
     pub residual: Vec<Option<Distance>>,
+    pub flags: Vec<u32>,
     pub figures: Option<Vec<Figures>>,
 }
 
@@ -154,6 +155,7 @@ pub fn validate(sheet: &Sheet, board: &Board, fault: Fault) -> Findings {
     Findings {
         marked,
         residual: residuals.held,
+        flags,
         figures,
     }
 }

@@ -53,21 +53,26 @@ fn asked(arguments: &[Vec<u8>], fault: Fault) -> Option<usize> {
     (least <= n && n <= most).then_some(n)
 }
 
-/// "length-4 settings, .. cell size 7"
+/// "cell size 7", and "all 21 bytes with 3"
 fn settings(fault: Fault) -> Vec<u8> {
     let cell_size: f32 = match fault {
         Fault::WorstCell8 => 8.0,
         Fault::WorstCell100 => 100.0,
         _ => 7.0,
     };
+    let minimum: u16 = match fault {
+        Fault::WorstMinimum4 => 4,
+        _ => 3,
+    };
+    let largest_patch = u8::from(fault != Fault::WorstSwitchOff);
     let mut data = cell_size.to_le_bytes().to_vec();
-    if fault == Fault::WorstAllSettings {
+    if fault != Fault::WorstShortSettings {
         data.extend(0.15f32.to_le_bytes());
-        data.extend(3u16.to_le_bytes());
+        data.extend(minimum.to_le_bytes());
         data.extend(0.2f32.to_le_bytes());
         data.push(0);
         data.extend(0f32.to_le_bytes());
-        data.extend([1, 1]);
+        data.extend([1, largest_patch]);
     }
     data
 }

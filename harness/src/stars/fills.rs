@@ -21,7 +21,7 @@ const SHEETS: &[Worked] = &[
     // 41200000.
     Worked {
         name: "the middle of a 3 by 3 board: two pairs",
-        sheet: "cell 10\n0 0 1 0 0\n1 0 2 10 0\n2 0 3 20 0\n0 1 4 0 10\n1 1 5 13 10\n2 1 6 20 10\n\
+        sheet: "settings 10 0.15 3 0.2 0 0 1 1\n0 0 1 0 0\n1 0 2 10 0\n2 0 3 20 0\n0 1 4 0 10\n1 1 5 13 10\n2 1 6 20 10\n\
                 0 2 7 0 20\n1 2 8 10 20\n2 2 9 20 20",
         marks: &[
             "-----", "-----", "-----", "-----", "V----", "-----", "-----", "-----", "-----",
@@ -46,7 +46,7 @@ const SHEETS: &[Worked] = &[
     // Blamed likewise. Along u both neighbours are kept, along v there is one.
     Worked {
         name: "a hole at the rim: one pair",
-        sheet: "cell 10\n0 0 1 0 0\n1 0 2 10 3\n2 0 3 20 0\n0 1 4 0 10\n1 1 5 10 10\n2 1 6 20 10",
+        sheet: "settings 10 0.15 3 0.2 0 0 1 1\n0 0 1 0 0\n1 0 2 10 3\n2 0 3 20 0\n0 1 4 0 10\n1 1 5 10 10\n2 1 6 20 10",
         marks: &["-----", "-----", "V----", "-----", "-----", "-----"],
         fills: &["1 0 1 41200000 00000000"],
     },
@@ -143,7 +143,7 @@ const SHEETS: &[Worked] = &[
     // The same kept points: other settings, indices and dropped points change nothing of their fill.
     Worked {
         name: "the hole at the rim, other indices, strengths and another dropped point",
-        sheet: "cell 10\nfraction 0.5\n2 1 10 20 10 1\n1 1 20 10 10 2\n0 1 30 0 10 3\n2 0 40 20 0 1\n\
+        sheet: "settings 10 0.15 3 0.2 0 0 1 1\nfraction 0.5\n2 1 10 20 10 1\n1 1 20 10 10 2\n0 1 30 0 10 3\n2 0 40 20 0 1\n\
                 1 0 50 11 -3 9\n0 0 60 0 0 1\n7 7 70 90 90 4",
         marks: &["-----", "-----", "V----", "-----", "-----", "-----", "----C"],
         fills: &["1 0 1 41200000 00000000", "7 7 0"],

@@ -98,7 +98,7 @@ const SHEETS: &[Worked] = &[
     // The middle is 3 off, and marked. The maps of the others are rounded; that of 8 leads just 2^-20 off.
     Worked {
         name: "a 3 by 3 board, its middle 3 off: two are exact",
-        sheet: "cell 10\n0 0 1 0 0\n1 0 2 10 0\n2 0 3 20 0\n0 1 4 0 10\n1 1 5 13 10\n2 1 6 20 10\n\
+        sheet: "settings 10 0.15 3 0.2 0 0 1 1\n0 0 1 0 0\n1 0 2 10 0\n2 0 3 20 0\n0 1 4 0 10\n1 1 5 13 10\n2 1 6 20 10\n\
                 0 2 7 0 20\n1 2 8 10 20\n2 2 9 20 20",
         residuals: &[
             "357D3112", "4013B136", "404A1AF8", "3583FFC4", "40400000=", "35800000=", "3600C703",

@@ -82,7 +82,7 @@ fn almost_full() -> Record {
 
 /// A small generated sheet that counts some index under every word.
 fn counted_everywhere() -> Step {
-    let cases = (0..).map(|seed| generate::case(Kind::Weighed, seed));
+    let cases = (0..).map(|seed| generate::drawn(Kind::Weighed, seed));
     let mut small = cases.filter(|case| case.file.len() < 1000);
     let everywhere = |case: &Case| match second::answer(&case.file, BUFFER, Fault::None) {
         Answer::Accepted { tally, .. } => SUMMED.iter().all(|word| tally.of(word) > 0),

@@ -19,7 +19,7 @@ use super::Vectors;
 use crate::compare::{self, Verdict};
 use crate::generate::{self, Case, Kind};
 use crate::second::{self, All, Answer, Fault, MAX_POINTS, ROOM};
-use crate::sheet::Sheet;
+use crate::sheet::{self, Sheet};
 use crate::stars;
 
 fn put(out: &mut Vec<u8>, numbers: &[usize]) {
@@ -56,6 +56,16 @@ fn encode(file: &[u8], buffer: usize, all: &All) -> Vec<u8> {
     out.extend(map.as_bytes());
     out.extend(fills.map_or(Vec::new(), |filled| filled.bytes()));
     out
+}
+
+/// The case with 3 spelled out for its short settings, if that makes another answer.
+fn of_three(case: &Case) -> Option<Case> {
+    let file = sheet::spelled_out(&case.file, 3);
+    let answer = |file: &[u8]| second::answer(file, case.buffer, Fault::None);
+    (answer(&file) != answer(&case.file)).then(|| Case {
+        file,
+        ..case.clone()
+    })
 }
 
 /// The case, if the original and the second program agree on it.
@@ -103,9 +113,15 @@ impl Choice {
     };
 }
 
-/// The first generated cases that the original agrees with.
+/// The first generated cases that the original agrees with; after one with short settings that 3 would change, the
+/// same with 3.
 fn first(cases: impl Iterator<Item = Case>, count: usize) -> Vec<Vec<u8>> {
-    cases.filter_map(|case| agreed(&case)).take(count).collect()
+    let both = |case: Case| -> Option<Vec<Vec<u8>>> {
+        let one = agreed(&case)?;
+        let other = of_three(&case).and_then(|case| agreed(&case));
+        Some(std::iter::once(one).chain(other).collect())
+    };
+    cases.filter_map(both).take(count).flatten().collect()
 }
 
 /// The cases of files written out by hand, with buffers that have room for their rows.
@@ -117,10 +133,10 @@ fn named(files: Vec<Vec<u8>>) -> impl Iterator<Item = Vec<u8>> {
 }
 
 /// Document 01's sheets, maps and weak ends written out by hand, generated ones, those with dropped points, and those
-/// about roots.
+/// about roots and lines of three.
 pub fn sheet(choice: &Choice) -> Vectors {
     let (seed, most) = (choice.seed, choice.most);
-    let of = |kinds: &'static [_]| (0..).map(move |i| generate::nth(kinds, seed, i));
+    let of = |kinds: &'static [_]| (0..).map(move |i| generate::nth_drawn(kinds, seed, i));
     let small = of(Kind::first()).filter(|case| case.file.len() <= most);
     let is_full = |case: &Case| {
         Sheet::from_file(&case.file).is_some_and(|sheet| sheet.points.len() == MAX_POINTS)
@@ -128,7 +144,7 @@ pub fn sheet(choice: &Choice) -> Vectors {
     let large = (seed..).map(generate::full).filter(is_full);
     let maps = of(Kind::for_map()).filter(|case| case.file.len() <= 2 * most);
     let lines = (seed..)
-        .map(|seed| generate::case(Kind::FullLines, seed))
+        .map(|seed| generate::drawn(Kind::FullLines, seed))
         .filter(|case| case.file.len() >= 20 * (MAX_POINTS - 100));
     let peels = of(Kind::for_peels()).filter(|case| case.file.len() <= most);
     let fills = of(Kind::for_fills()).filter(|case| case.file.len() <= most);
@@ -143,6 +159,7 @@ pub fn sheet(choice: &Choice) -> Vectors {
     cases.extend(named(stars::filled_files()));
     cases.extend(first(roots, choice.roots));
     cases.extend(named(stars::rooted_files()));
+    cases.extend(named(stars::lined_files()));
     let mut stdin = Vec::new();
     put(&mut stdin, &[cases.len()]);
     stdin.extend(cases.concat());

@@ -35,7 +35,7 @@ pub fn long(points: usize) -> Sheet {
             cell_size: 100.0,
             rest: Some(Rest {
                 step_threshold: 0.5,
-                ..Rest::defaults()
+                ..Rest::with_three()
             }),
         },
         gate: Some(Gate {
