@@ -6,8 +6,10 @@ use Rattle.cells.specs.Points.{Point}
 use Rattle.sheet_file.specs.declared.EdgeShapeParams.{EdgeShapeParams}
 use Rattle.sheet_file.specs.Bytes.{little_endian}
 use Rattle.sheet_file.specs.Grammar.{field}
+use Rattle.sheet_file.specs.Refusals.{defaults_with}
 use Rattle.sheet_file.specs.declared.Fraction.TheVariants.{Missing}
 use Rattle.sheet_file.specs.declared.Settings.{Settings}
+use Rattle.ruling.specs.Switches.{switched}
 use Rattle.written_file.specs.File.{points_bytes, long_settings, unweighed_file}
 use Rattle.predict.specs.Predict.{Prediction}
 use Rattle.std.specs.Prelude.{Some}
@@ -44,18 +46,7 @@ gate_on cosine =
 
 -- the largest-patch switch off, line tolerance 0.15, line minimum 3, local tolerance 0.20
 abbrev pub row_settings : Settings
-row_settings = record {
-  cell_size = f32 0x4120_0000;
-  line_tol_rel = f32 0x3E19_999A;
-  line_min_members = 3;
-  local_h_tol_rel = f32 0x3E4C_CCCD;
-  use_step_aware = false;
-  step_deviation_thresh_rel = f32 0;
-  apply_wrong_label_drops = true;
-  apply_largest_component = false;
-  edge_shape = gate_on 0x3F00_0000;
-  score_frac = Missing;
-}
+row_settings = switched (defaults_with 3 (f32 0x4120_0000) (gate_on 0x3F00_0000) Missing) 1 0
 
 -- (0,0) 1 at (0,0); (1,0) 2 at (10,10); (2,0) 3 at (20,0): the continuation turns at the middle
 abbrev pub row : List Point
@@ -75,18 +66,7 @@ row_moved = point 0xFFFF_FFFA 7 1 0 0 ∷ point 0xFFFF_FFFB 7 2 0x4120_0000 0x41
 -- ---- the same kept points: the middle at (10,−7), other indices, cell size 20, the wrong-label switch off and cosine 0.9
 
 abbrev pub other_settings : Settings
-other_settings = record {
-  cell_size = f32 0x41A0_0000;
-  line_tol_rel = f32 0x3E19_999A;
-  line_min_members = 3;
-  local_h_tol_rel = f32 0x3E4C_CCCD;
-  use_step_aware = false;
-  step_deviation_thresh_rel = f32 0;
-  apply_wrong_label_drops = false;
-  apply_largest_component = false;
-  edge_shape = gate_on 0x3F66_6666;
-  score_frac = Missing;
-}
+other_settings = switched (defaults_with 3 (f32 0x41A0_0000) (gate_on 0x3F66_6666) Missing) 0 0
 
 abbrev pub other : List Point
 other = point 0 0 8 0 0 ∷ point 1 0 9 0x4120_0000 0xC0E0_0000 ∷ point 2 0 7 0x41A0_0000 0 ∷ []
