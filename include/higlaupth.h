@@ -8,19 +8,21 @@
  * filter marks: the position that the kept points beside its cell give, or that they give none.
  * higlaupth_map writes text: a map of the sheet with one character for each cell, or `refused` and
  * such a number or 10. higlaupth_keep_in_run is the second form of higlaupth_keep: it also adds an
- * accepted sheet to the record of a run, or refuses with 11. Two functions start such a record:
- * higlaupth_run_new and higlaupth_run_from_old_sums. One function takes the bits of a number:
- * higlaupth_root writes its root in whole numbers with the exact remainder, for whoever checks a
- * residual by hand.
+ * accepted sheet to the record of a run, or refuses with 11. A fifth function takes two sheet files
+ * and a buffer: higlaupth_join moves the points of the right one, joins them to those of the left
+ * one, and writes the rows of the joined list, or refuses with a number of 1 to 9 or 12 to 17. Two
+ * functions start the record of a run: higlaupth_run_new and higlaupth_run_from_old_sums. One
+ * function takes the bits of a number: higlaupth_root writes its root in whole numbers with the
+ * exact remainder, for whoever checks a residual by hand.
  *
- * The functions are proved: for any bytes, any buffer, any record and any bits of a number, what is
- * returned, every byte of the buffer and every number of the record or the root are what
- * docs/SPECIFICATION.md says. The rules for callers below are what the proof takes for granted;
- * README.md says what else is assumed.
+ * The functions are proved: for any bytes, any buffer, any offset and any floats, any record and
+ * any bits of a number, what is returned, every byte of the buffer and every number of the record
+ * or the root are what docs/SPECIFICATION.md says. The rules for callers below are what the proof
+ * takes for granted; README.md says what else is assumed.
  * Link with libhiglaupth.a (x86-64; `./install PREFIX` builds and installs it). Of the C library
  * it needs the copying, filling and comparing of memory alone (memcpy, memset and their like).
- * C99, and C++ from C++11 on. keep.c, fills.c, map.c, run.c and root.c in examples/c are whole
- * programs.
+ * C99, and C++ from C++11 on. keep.c, join.c, fills.c, map.c, run.c and root.c in examples/c are
+ * whole programs.
  *
  * The sheet file, little-endian, nothing before, between or after its fields; a field is a
  * one-byte tag, a two-byte length and its data:
@@ -51,9 +53,9 @@ extern "C" {
 /* The version of this header and of the library that is installed with it. A change that breaks a
    caller raises the first number, an addition the second, anything else the third. */
 #define HIGLAUPTH_VERSION_MAJOR 6
-#define HIGLAUPTH_VERSION_MINOR 0
+#define HIGLAUPTH_VERSION_MINOR 1
 #define HIGLAUPTH_VERSION_PATCH 0
-#define HIGLAUPTH_VERSION "6.0.0"
+#define HIGLAUPTH_VERSION "6.1.0"
 
 /* Sizes, in bytes but for the first three. */
 #define HIGLAUPTH_MOST_POINTS 2304  /* a sheet with more is refused */
@@ -99,7 +101,9 @@ extern "C" {
 
 /* Refusals. A call gives the first number whose condition holds. higlaupth_keep and higlaupth_fills
    look for 1 to 9 and 12 to 14 in the order in which they stand here, higlaupth_map for 10 after
-   them, higlaupth_keep_in_run for 11 before them. */
+   them, higlaupth_keep_in_run for 11 before them. higlaupth_join looks for 1 to 9 and 12 to 14 of
+   the left file, then of the right file; then for 15, 16 and 17, before anything is moved, so that
+   the sums of indices and of cells cannot overflow; then for 2, 3, 6 and 7 of the joined list. */
 enum higlaupth_refusal {
     HIGLAUPTH_MISFRAMED = 1,         /* The fields, their order, their lengths or the end of the
                                         file differ from the list above. A tag 4 may have any
@@ -108,7 +112,8 @@ enum higlaupth_refusal {
     HIGLAUPTH_TOO_MANY_POINTS = 2,   /* There are more than 2,304 points. */
     HIGLAUPTH_SHORT_BUFFER = 3,      /* The result buffer is shorter than 28 bytes per point for
                                         rows, or 20 for fills; per point of the sheet, dropped or
-                                        kept. */
+                                        kept; of a join, of the left file, the right file and the
+                                        joined list each. */
     HIGLAUPTH_BAD_SWITCH = 4,        /* The step flag or a switch is neither 0 nor 1. */
     HIGLAUPTH_BAD_SETTING = 5,       /* A float of tag 1 or 2 is not finite or exceeds 16,384 in
                                         magnitude. */
@@ -124,13 +129,18 @@ enum higlaupth_refusal {
     HIGLAUPTH_MAP_TOO_WIDE = 10,     /* The points span more than 72 values of u or 60 of v, from
                                         the smallest to the largest. higlaupth_map alone looks for
                                         this. */
-    HIGLAUPTH_RUN_FULL = 11          /* The run counts 65,535 or more accepted sheets or has a new
+    HIGLAUPTH_RUN_FULL = 11,         /* The run counts 65,535 or more accepted sheets or has a new
                                         sum of 2^31 or more. higlaupth_keep_in_run alone looks for
                                         this, before it reads the file. */
+    HIGLAUPTH_HIGH_INDEX = 15,       /* An index of the left or the right file is 2^31 or more.
+                                        higlaupth_join alone looks for this, 16 and 17. */
+    HIGLAUPTH_BAD_MOVE = 16,         /* du or dv lies outside -16,000 to 16,000, or dx or dy is not
+                                        finite or exceeds 16,384 in magnitude. */
+    HIGLAUPTH_UNLIKE_HALVES = 17     /* Only one of the two files has a tag 4. */
 };
 
 /*
- * Rows come in cell order: by u, then v, whatever the order in the file. A row is
+ * Rows come in cell order: by u, then v, whatever the order in the file or the files. A row is
  *
  *   byte   0      marks, one bit for each filter
  *   byte   1      reason of the edge-shape gate
@@ -146,8 +156,9 @@ enum higlaupth_refusal {
  *   bytes 20..23  least cell cosine, f32
  *   bytes 24..27  largest cell ratio, f32
  *
- * Floats are little-endian. An absent one is zero; NaN is 0x7FC00000. Without tag 2, bytes 1,
- * 3 to 7 and the four edge floats are zero. A point whose byte 0 is zero is kept.
+ * Floats are little-endian. An absent one is zero; NaN is 0x7FC00000. Without tag 2, of a join that
+ * of the left file, bytes 1, 3 to 7 and the four edge floats are zero. A point whose byte 0 is zero
+ * is kept.
  */
 enum higlaupth_offset {
     HIGLAUPTH_MARKS = 0,
@@ -219,28 +230,32 @@ enum higlaupth_fill_offset {
 /*
  * The functions. Four read the sheet file of file_len bytes at `file` and write to a buffer:
  * higlaupth_keep and higlaupth_keep_in_run to rows_len bytes at `rows`, higlaupth_fills to
- * fills_len bytes at `fills`, higlaupth_map to text_len bytes at `text`. Three write the record at
- * `run`: higlaupth_keep_in_run, which reads it too, and higlaupth_run_new and
- * higlaupth_run_from_old_sums, for which its memory may hold anything before. higlaupth_root alone
- * writes the root at `into`, whose memory may hold anything before too.
+ * fills_len bytes at `fills`, higlaupth_map to text_len bytes at `text`. higlaupth_join reads the
+ * sheet files of left_len bytes at `left` and of right_len bytes at `right`, and writes to rows_len
+ * bytes at `rows`. Three write the record at `run`: higlaupth_keep_in_run, which reads it too, and
+ * higlaupth_run_new and higlaupth_run_from_old_sums, for which its memory may hold anything before.
+ * higlaupth_root alone writes the root at `into`, whose memory may hold anything before too.
  *
- * What holds of every call, whatever the bytes, the lengths, the numbers of a record and the bits:
+ * What holds of every call, whatever the bytes, the lengths, the offset and the floats of a join,
+ * the numbers of a record and the bits:
  * - It ends.
  * - It writes what is said at the function, in a buffer from its start on, and touches nothing
- *   beyond that. `file`, and of it only its file_len bytes, and `old_sums` are only read.
+ *   beyond that. The files, and of each only the bytes that its length says, and `old_sums` are
+ *   only read.
  * - It is reentrant: it keeps nothing between calls, allocates nothing, and does no input or
  *   output. Any number of threads may call at once, each with its own buffer, record and root;
- *   they may share a file and old sums.
+ *   they may share files and old sums.
  *
  * What a caller owes:
- * - `file` points to file_len readable bytes, the buffer to as many writable bytes as its length
- *   says. Either pointer may be null if its length is 0. No alignment is asked for.
+ * - `file`, `left` and `right` point to as many readable bytes as their lengths say, the buffer to
+ *   as many writable ones. Each of these pointers may be null if its length is 0. No alignment is
+ *   asked for.
  * - `run` points to the 48 bytes of a record, readable and writable, `old_sums` to its 20 readable
  *   bytes. Neither is null; both are aligned for uint32_t, as any variable of their types is.
  * - `into` points to the 12 writable bytes of a root. It is not null and is aligned for int32_t, as
  *   any variable of its type is.
- * - No two of these overlap, and during the call nobody else writes `file` or `old_sums` or touches
- *   the buffer, the record or the root.
+ * - No two of these overlap, except that `left` and `right` may: they may be the same bytes. During
+ *   the call nobody else writes a file or `old_sums` or touches the buffer, the record or the root.
  * - The floating-point mode is the default one: the SSE control register (MXCSR) rounds to
  *   nearest, keeps subnormals (neither flush-to-zero nor denormals-are-zero) and masks
  *   exceptions. The call neither reads nor changes that register's modes; like any arithmetic it
@@ -256,8 +271,8 @@ enum higlaupth_fill_offset {
  * Judges a sheet file and writes its rows: 28 bytes for each point, or nothing if it is refused.
  * Returns a refusal number, 1 to 9 or 12 to 14, or 2^48 * rounds + 2^32 + 2^16 * points +
  * components; higlaupth_refused, higlaupth_points, higlaupth_components and higlaupth_rounds take
- * this number apart, and that of higlaupth_keep_in_run. The first two of these take that of
- * higlaupth_fills too, the other two do not, and none takes that of higlaupth_map.
+ * this number apart, and those of higlaupth_join and higlaupth_keep_in_run. The first two of these
+ * take that of higlaupth_fills too, the other two do not, and none takes that of higlaupth_map.
  * Example, of the bytes file[0] to file[file_len - 1]; those below go on from it:
  *
  *     uint8_t rows[HIGLAUPTH_ROWS_SIZE];
@@ -266,8 +281,8 @@ enum higlaupth_fill_offset {
 uint64_t higlaupth_keep(const uint8_t *file, size_t file_len, uint8_t *rows, size_t rows_len);
 
 /*
- * Whether a number that higlaupth_keep, higlaupth_keep_in_run or higlaupth_fills returned is a
- * refusal; if so, it is the refusal number.
+ * Whether a number that higlaupth_keep, higlaupth_join, higlaupth_keep_in_run or higlaupth_fills
+ * returned is a refusal; if so, it is the refusal number.
  * Example:
  *
  *     if (higlaupth_refused(returned)) printf("refused %u\n", (unsigned)returned);
@@ -313,14 +328,21 @@ static inline const char *higlaupth_refusal_text(unsigned number) {
         return "a number of tag 4 is not finite or exceeds 16,384 in magnitude";
     case HIGLAUPTH_TWO_STRENGTHS:
         return "one index has strengths with different bits";
+    case HIGLAUPTH_HIGH_INDEX:
+        return "an index of one of the two files is 2^31 or more";
+    case HIGLAUPTH_BAD_MOVE:
+        return "du or dv exceeds 16,000 in magnitude, or dx or dy is not finite or exceeds 16,384";
+    case HIGLAUPTH_UNLIKE_HALVES:
+        return "only one of the two files has a tag 4";
     default:
         return "no such refusal";
     }
 }
 
 /*
- * Of a number that higlaupth_keep, higlaupth_keep_in_run or higlaupth_fills returned and that is no
- * refusal: how many points the sheet has, hence how many rows; 0 to HIGLAUPTH_MOST_POINTS.
+ * Of a number that higlaupth_keep, higlaupth_join, higlaupth_keep_in_run or higlaupth_fills
+ * returned and that is no refusal: how many points the sheet has, or the joined list, hence how
+ * many rows; 0 to HIGLAUPTH_MOST_POINTS.
  * Example:
  *
  *     for (unsigned k = 0; k < higlaupth_points(returned); k++) {
@@ -333,8 +355,8 @@ static inline unsigned higlaupth_points(uint64_t returned) {
 }
 
 /*
- * Of a number that higlaupth_keep or higlaupth_keep_in_run returned and that is no refusal: how
- * many patches the largest-patch filter saw; 0 with its switch off.
+ * Of a number that higlaupth_keep, higlaupth_join or higlaupth_keep_in_run returned and that is no
+ * refusal: how many patches the largest-patch filter saw; 0 with its switch off.
  * Example:
  *
  *     printf("%u patches\n", higlaupth_components(returned));
@@ -344,8 +366,9 @@ static inline unsigned higlaupth_components(uint64_t returned) {
 }
 
 /*
- * Of a number that higlaupth_keep or higlaupth_keep_in_run returned and that is no refusal: how
- * many rounds removed weak ends; 0 without tag 4, and never more than there are points.
+ * Of a number that higlaupth_keep, higlaupth_join or higlaupth_keep_in_run returned and that is no
+ * refusal: how many rounds removed weak ends; 0 without tag 4, and never more than there are
+ * points.
  * Example:
  *
  *     printf("%u rounds\n", higlaupth_rounds(returned));
@@ -411,6 +434,46 @@ static inline higlaupth_filter higlaupth_filter_at(unsigned place) {
     };
     return filters[place < HIGLAUPTH_FILTERS ? place : HIGLAUPTH_FILTERS];
 }
+
+/*
+ * Judges two halves of one sheet as one: joins the points of the left and of the right file and
+ * writes the rows of the joined list, or nothing if it refuses. The arguments are the left file,
+ * the right file, the offset of the right cells, the shift of the right positions and the buffer.
+ *
+ * The joined list has the points of the left file as they are, and those of the right file moved:
+ * du is added to u and dv to v, dx to x and dy to y, and 2^31, which is 2147483648, to the index,
+ * so that no index stands in both; the strength stays. dx and dy are added in f32, one addition
+ * each, also where they are 0: -0 and 0 make 0, which the sign of a cosine can show. Where a left
+ * point and a moved right one have the same cell, the left point is taken and the right one is
+ * gone: it has no row and needs no room, and its new position is not looked at.
+ *
+ * Tags 1 and 2 and the fraction of tag 4 are the left file's. Those of the right file must be such
+ * that it is accepted, and are otherwise unused. The median of the strengths is that of the joined
+ * list. The list is then judged as that of a sheet file is: the row at a place belongs to the point
+ * at this place of the joined list in cell order.
+ *
+ * Returns a refusal number, 1 to 9 or 12 to 17, or the number that higlaupth_keep returns of an
+ * accepted sheet: points, components and rounds are here those of the joined list. It refuses with
+ * the first of these numbers that there is:
+ * - the one with which higlaupth_keep refuses the left file, with this buffer;
+ * - the one with which higlaupth_keep refuses the right file, with this buffer;
+ * - 15, 16 or 17;
+ * - 2, 3, 6 or 7, by the joined list. Two full halves have 4,608 points: with 2 it refuses a joined
+ *   list that has more than HIGLAUPTH_MOST_POINTS. No other number can arise of that list.
+ *
+ * So the buffer must have room for the rows of the left file, for those of the right file, and for
+ * those of the joined list: for whichever are most. HIGLAUPTH_ROWS_SIZE always suffices.
+ * Example, of a file and the same once more, two cells and 200 pixels to the right:
+ *
+ *     uint64_t joined = higlaupth_join(file, file_len, file, file_len, 2, 0, 200.0f, 0.0f,
+ *                                      rows, sizeof rows);
+ *     if (higlaupth_refused(joined)) return 1;
+ *     printf("joined: %u points, %u patches\n", higlaupth_points(joined),
+ *            higlaupth_components(joined));
+ */
+uint64_t higlaupth_join(const uint8_t *left, size_t left_len, const uint8_t *right,
+                        size_t right_len, int32_t du, int32_t dv, float dx, float dy,
+                        uint8_t *rows, size_t rows_len);
 
 /*
  * Judges a sheet file and writes its fills: 20 bytes for each dropped point, or nothing if it is

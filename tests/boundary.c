@@ -21,7 +21,7 @@ enum { HEIGHT = 48 };
 enum { NUMBERS = 12, OLD_SUMS = 5, SHEETS = 5, NEW_SUMS = 6, SUMS = 6 };
 /* Every refusal of higlaupth_keep and higlaupth_fills, in the order in which they look for them. */
 static const unsigned refusals[] = {1, 12, 2, 3, 4, 5, 6, 7, 13, 8, 9, 14};
-enum { REFUSALS = sizeof refusals / sizeof *refusals, LAST_REFUSAL = 14 };
+enum { REFUSALS = sizeof refusals / sizeof *refusals, LAST_REFUSAL = 17 };
 
 /* The sizes are constants for the preprocessor too, each one operand. */
 #if HIGLAUPTH_ROWS_SIZE / HIGLAUPTH_ROWS_SIZE != 1 || HIGLAUPTH_FILE_SIZE - HIGLAUPTH_FILE_SIZE != 0
@@ -1232,6 +1232,503 @@ static void check_short_settings(void) {
         CHECK((after[k * HIGLAUPTH_ROW_SIZE + HIGLAUPTH_MARKS] & HIGLAUPTH_MARK_VALIDATE) == (k == 2));
 }
 
+/* What is added to the cells and to the positions of the right half. */
+typedef struct {
+    int32_t du, dv;
+    float dx, dy;
+} move;
+
+/* A half of a sheet as a list: its points, with their strengths or NULL. */
+typedef struct {
+    const point *points;
+    unsigned count;
+    const float *strengths;
+} half;
+
+/* The two files of a join, and their lengths. */
+enum { LEFT, RIGHT };
+static uint8_t halves[2][sizeof file];
+static size_t half_lens[2];
+
+/* The first bytes of `file` are that half. */
+static void set_half(int side, size_t length) {
+    memcpy(halves[side], file, length);
+    half_lens[side] = length;
+}
+
+/* higlaupth_join on the halves with a painted buffer, which is then in `after`. */
+static uint64_t join(move by, size_t rows_len) {
+    uint8_t *bytes[2], *rows = (uint8_t *)malloc(rows_len);
+    for (int side = 0; side < 2; side++) {
+        bytes[side] = (uint8_t *)malloc(half_lens[side]);
+        if (!bytes[side] || !rows) abort();
+        memcpy(bytes[side], halves[side], half_lens[side]);
+    }
+    memset(rows, PAINT, rows_len);
+    const uint64_t returned =
+        higlaupth_join(bytes[LEFT], half_lens[LEFT], bytes[RIGHT], half_lens[RIGHT], by.du, by.dv,
+                       by.dx, by.dy, rows, rows_len);
+    for (int side = 0; side < 2; side++) {
+        CHECK(memcmp(bytes[side], halves[side], half_lens[side]) == 0);
+        free(bytes[side]);
+    }
+    memcpy(after, rows, rows_len);
+    free(rows);
+    return returned;
+}
+
+static const move stay = {0, 0, 0, 0};
+
+/* The halves are refused with this number, and nothing is written. */
+static void check_unjoined(move by, size_t rows_len, unsigned number) {
+    CHECK(join(by, rows_len) == number && painted(0, rows_len));
+}
+
+/* The halves are accepted: so many points, patches and rounds. */
+static void check_joined(move by, size_t rows_len, unsigned points, unsigned components,
+                         unsigned rounds) {
+    const uint64_t returned = join(by, rows_len);
+    CHECK(returned == ((uint64_t)rounds << 48) + ((uint64_t)1 << 32) + (points << 16) + components);
+    CHECK(!higlaupth_refused(returned) && higlaupth_points(returned) == points);
+    CHECK(higlaupth_components(returned) == components && higlaupth_rounds(returned) == rounds);
+    CHECK(painted(points * HIGLAUPTH_ROW_SIZE, rows_len));
+}
+
+/* The refusal number that the halves are refused with, or 0. */
+static unsigned join_refusal(move by) {
+    const uint64_t returned = join(by, HIGLAUPTH_ROWS_SIZE);
+    CHECK(!higlaupth_refused(returned) || painted(0, HIGLAUPTH_ROWS_SIZE));
+    return higlaupth_refused(returned) ? (unsigned)returned : 0;
+}
+
+/* Writes a list with its tag 4, if it has one, at a place of `file`. Returns the length of all. */
+static size_t write_half(uint8_t *at, half list, float fraction) {
+    const size_t length = write_list(at, list.points, list.count);
+    if (!list.strengths) return length;
+    return write_strengths(length, 4 + 4 * list.count, fraction, list.strengths, list.count);
+}
+
+/* The joined list by the rules, with its strengths. Returns how many. */
+static unsigned join_lists(half left, half right, move by, point *points, float *strengths) {
+    unsigned count = left.count;
+    for (unsigned k = 0; k < left.count; k++) {
+        points[k] = left.points[k];
+        if (left.strengths) strengths[k] = left.strengths[k];
+    }
+    for (unsigned k = 0; k < right.count; k++) {
+        point p = right.points[k];
+        int taken = 0;
+        p.u += by.du;
+        p.v += by.dv;
+        p.index += 0x80000000;
+        p.x += by.dx;
+        p.y += by.dy;
+        for (unsigned n = 0; n < left.count; n++)
+            taken |= left.points[n].u == p.u && left.points[n].v == p.v;
+        if (taken) continue;
+        if (right.strengths) strengths[count] = right.strengths[k];
+        points[count++] = p;
+    }
+    return count;
+}
+
+/* Writes into `file` settings with lines of three and the original's gate. Returns where they
+   end. */
+static uint8_t *write_gated(void) {
+    write_sheet(0);
+    return file + 24 + 20;
+}
+
+/* Number and rows of two halves are those of higlaupth_keep on the file of the joined list, with the
+   left settings and fraction; each half is listed in either order, the right one with other
+   settings. Buffers that just suffice for the three lists and longer ones; a byte less is refused.
+   Returns the number. */
+static uint64_t check_as_list(half left, half right, move by) {
+    static point points[HIGLAUPTH_MOST_POINTS];
+    static float strengths[HIGLAUPTH_MOST_POINTS];
+    static uint8_t rows[HIGLAUPTH_ROWS_SIZE];
+    const half list = {points, join_lists(left, right, by, points, strengths),
+                       left.strengths ? strengths : NULL};
+    const uint64_t expected = keep(write_half(write_gated(), list, 0.5f), HIGLAUPTH_ROWS_SIZE);
+    const size_t size = (size_t)HIGLAUPTH_ROW_SIZE * list.count;
+    const unsigned most = left.count > right.count ? left.count : right.count;
+    const size_t least = HIGLAUPTH_ROW_SIZE * (size_t)(most > list.count ? most : list.count);
+    const size_t room[] = {least, least + 1, HIGLAUPTH_ROWS_SIZE, sizeof after};
+    CHECK(!higlaupth_refused(expected) && higlaupth_points(expected) == list.count);
+    memcpy(rows, after, sizeof rows);
+    set_half(LEFT, write_half(write_gated(), left, 0.5f));
+    set_half(RIGHT, write_half(write_settings(65535, 0), right, 16384));
+    for (int k = 0; k < 4; k++) {
+        CHECK(join(by, room[k]) == expected);
+        CHECK(memcmp(after, rows, size) == 0 && painted(size, room[k]));
+    }
+    if (least > 0) check_unjoined(by, least - 1, HIGLAUPTH_SHORT_BUFFER);
+    return expected;
+}
+
+/* The same halves with the points in the other order. */
+static void check_turned(half left, half right, move by) {
+    point points[2][16];
+    float strengths[2][16];
+    half turned[2] = {left, right};
+    for (int side = 0; side < 2; side++) {
+        const half given = turned[side];
+        for (unsigned k = 0; k < given.count; k++) {
+            points[side][k] = given.points[given.count - 1 - k];
+            if (given.strengths) strengths[side][k] = given.strengths[given.count - 1 - k];
+        }
+        turned[side].points = points[side];
+        if (given.strengths) turned[side].strengths = strengths[side];
+    }
+    const uint64_t returned = check_as_list(left, right, by);
+    CHECK(check_as_list(turned[LEFT], turned[RIGHT], by) == returned);
+}
+
+/* A board of 3 by 3 that two cameras see: the left one its columns 0 and 1, the right one 1 and 2 as
+   its own -4 and -3, two lines lower and 500 pixels away, with another index for each point. The
+   second column of the right half is 30 pixels off at two points, and so is the first at one, which
+   the left half has too; the strengths of the left half are small. */
+static const point left_columns[] = {{0, 0, 1, 0, 0},   {0, 1, 2, 0, 100},   {0, 2, 3, 0, 200},
+                                     {1, 0, 4, 100, 0}, {1, 1, 5, 100, 100}, {1, 2, 6, 100, 200}};
+static const point right_columns[] = {
+    {-4, -2, 1, 600, 0}, {-4, -1, 2, 630, 100}, {-4, 0, 3, 600, 200},
+    {-3, -2, 9, 700, 0}, {-3, -1, 8, 730, 100}, {-3, 0, 7, 700, 230}};
+static const float left_strengths[] = {1, 1, 1, 1, 1, 1}, right_strengths[] = {4, 4, 4, 9, 9, 9};
+static const move onto = {5, 2, -500, 0};
+
+/* The board, joined: with and without strengths; at every offset that has the halves near one
+   another, so that none, some and all points of the right half are gone. */
+static void check_board(void) {
+    const half lefts[] = {{left_columns, 6, NULL}, {left_columns, 6, left_strengths}};
+    const half rights[] = {{right_columns, 6, NULL}, {right_columns, 6, right_strengths}};
+    for (int k = 0; k < 2; k++) {
+        CHECK(higlaupth_points(check_as_list(lefts[k], rights[k], onto)) == 9);
+        for (int32_t du = onto.du - 4; du <= onto.du + 4; du++)
+            for (int32_t dv = onto.dv - 4; dv <= onto.dv + 4; dv++) {
+                const move by = {du, dv, -600 + 100.0f * (float)(du - 4), 100.0f * (float)(dv - 2)};
+                check_turned(lefts[k], rights[k], by);
+            }
+        const half none = {NULL, 0, k ? left_strengths : NULL};
+        CHECK(higlaupth_points(check_as_list(lefts[k], none, onto)) == 6);
+        CHECK(higlaupth_points(check_as_list(none, rights[k], onto)) == 6);
+        CHECK(higlaupth_points(check_as_list(none, none, onto)) == 0);
+    }
+}
+
+/* Rows that were worked out. A row of seven points, of which the left half has three with the
+   strengths 3, 4, 4 and the right one five, the first of them at the left half's last cell: the
+   median of 3, 4, 4, 8, 8, 8, 8 is 8, so that by the fraction 0.5 the first point is weak; by that of
+   the left half, 4, it would not be. Then the same with a gap: the median of 1, 3, 4, 4, 8, 8, 8, 8
+   is 8, both first points are weak, and of two patches the left one, which is smaller, goes. */
+static void check_worked_out(void) {
+    const point lefts[] = {{0, 0, 1, 0, 0}, {1, 0, 2, 100, 0}, {2, 0, 3, 200, 0}};
+    const point rights[] = {{10, 7, 1, 0, 50},
+                            {11, 7, 2, 100, 50},
+                            {12, 7, 3, 200, 50},
+                            {13, 7, 4, 300, 50},
+                            {14, 7, 5, 400, 50}};
+    const float weak[] = {3, 4, 4}, strong[] = {1, 8, 8, 8, 8};
+    const move beside = {-8, -7, 200, -50}, apart = {-6, -7, 400, -50};
+    const size_t seven = 7 * HIGLAUPTH_ROW_SIZE, eight = 8 * HIGLAUPTH_ROW_SIZE;
+    uint8_t expected[8 * HIGLAUPTH_ROW_SIZE] = {0};
+    set_half(LEFT, write_strengths(write_points(100, lefts, 3), 16, 0.5f, weak, 3));
+    set_half(RIGHT, write_strengths(write_points(7, rights, 5), 24, 16384, strong, 5));
+    expected[0] = HIGLAUPTH_MARK_LEAF;
+    check_joined(beside, seven, 7, 1, 1);
+    CHECK(memcmp(after, expected, seven) == 0);
+    check_joined(beside, sizeof after, 7, 1, 1);
+    CHECK(memcmp(after, expected, seven) == 0);
+
+    expected[1 * HIGLAUPTH_ROW_SIZE] = HIGLAUPTH_MARK_COMPONENT;
+    expected[2 * HIGLAUPTH_ROW_SIZE] = HIGLAUPTH_MARK_COMPONENT;
+    expected[3 * HIGLAUPTH_ROW_SIZE] = HIGLAUPTH_MARK_LEAF;
+    check_joined(apart, eight, 8, 2, 1);
+    CHECK(memcmp(after, expected, eight) == 0);
+}
+
+/* A point at x = -0 right of one at x = 0, round a corner: moved by 0 it is at 0, and the cosine is
+   0; moved by -0 it stays, and the cosine is -0. */
+static void check_zero(void) {
+    const point lefts[] = {{0, 0, 1, -100, 0}, {1, 0, 2, 0, 0}};
+    const point rights[] = {{2, 0, 1, -0.0f, -100}};
+    const half left = {lefts, 2, NULL}, right = {rights, 1, NULL};
+    const float zeros[] = {0.0f, -0.0f};
+    for (int k = 0; k < 2; k++) {
+        const move by = {0, 0, zeros[k], zeros[k]};
+        const uint8_t *row = after + HIGLAUPTH_ROW_SIZE;
+        uint8_t cosine[4];
+        check_as_list(left, right, by);
+        CHECK(!higlaupth_refused(join(by, sizeof after)));
+        CHECK(row[HIGLAUPTH_PRESENT] & HIGLAUPTH_HAS_CONTINUATION_COSINE);
+        write_number(cosine, k ? 0x80000000 : 0, 4);
+        CHECK(memcmp(row + HIGLAUPTH_CONTINUATION_COSINE, cosine, 4) == 0);
+    }
+}
+
+/* One index at two cells of the right half stays one index; where one of its cells is taken by the
+   left half, it stands at the other. The left half's own index 7 is another. */
+static void check_joined_index(void) {
+    const point lefts[] = {{0, 0, 7, 0, 0}}, rights[] = {{0, 0, 7, 300, 0}, {3, 0, 7, 300, 0}};
+    const half left = {lefts, 1, NULL}, right = {rights, 2, NULL};
+    const move by = {1, 0, 100, 0};
+    CHECK(higlaupth_points(check_as_list(left, right, stay)) == 2);
+    CHECK(higlaupth_points(check_as_list(left, right, by)) == 3);
+}
+
+/* The first bytes of `file`, whose points are one or more, with this index at the first. */
+static void write_index(size_t list, uint32_t index) { write_number(file + list + 8, index, 4); }
+
+/* Where the points of write_points stand. */
+enum { POINTS = 3 + 4 + 3 };
+
+/* A file of one point with this index, with or without a tag 4. */
+static size_t write_one(uint32_t index, int weighed) {
+    const point one = {0, 0, index, 0, 0};
+    const float strength = 1;
+    const size_t length = write_points(100, &one, 1);
+    return weighed ? write_strengths(length, 8, 1, &strength, 1) : length;
+}
+
+/* Each number of the left file before any of the right one, and each of the right one before 15, 16
+   and 17, whatever else is wrong. */
+static void check_own_numbers(void) {
+    const move bad = {16001, -16001, 0, number_with(0x7FC00000)};
+    const size_t less = 2 * HIGLAUPTH_ROW_SIZE - 1;
+    for (unsigned k = 0; k < REFUSALS; k++) {
+        const unsigned number = refusals[k];
+        const size_t room = number == HIGLAUPTH_SHORT_BUFFER ? less : HIGLAUPTH_ROWS_SIZE;
+        for (unsigned n = 0; n < REFUSALS; n++) {
+            set_half(LEFT, write_refused(number));
+            set_half(RIGHT, write_refused(refusals[n]));
+            check_unjoined(stay, room, number);
+        }
+        for (int weighed = 0; weighed < 2; weighed++) {
+            set_half(LEFT, write_one(0x80000000, weighed));
+            set_half(RIGHT, write_refused(number));
+            check_unjoined(bad, room, number);
+            set_half(RIGHT, write_one(0x80000000, weighed));
+            set_half(LEFT, write_refused(number));
+            check_unjoined(bad, room, number);
+        }
+    }
+}
+
+/* 15: an index of 2^31 or more in either file, first or last of its points, before 16 and 17. */
+static void check_high_index(void) {
+    const move bad = {16001, 0, 0, 0};
+    const uint32_t high[] = {0x80000000, 0x80000001, 0xFFFFFFFF};
+    for (int side = 0; side < 2; side++)
+        for (int last = 0; last < 2; last++) {
+            set_half(!side, write_two(5, 5));
+            for (int k = 0; k < 3; k++) {
+                const size_t length = write_two(1, 0);
+                write_index(POINTS + 20 * (size_t)last, high[k]);
+                CHECK(!higlaupth_refused(keep(length, HIGLAUPTH_ROWS_SIZE)));
+                set_half(side, length);
+                check_unjoined(stay, HIGLAUPTH_ROWS_SIZE, HIGLAUPTH_HIGH_INDEX);
+                check_unjoined(bad, HIGLAUPTH_ROWS_SIZE, HIGLAUPTH_HIGH_INDEX);
+                set_half(side, write_strengths(length, 12, 0, NULL, 0));
+                check_unjoined(stay, HIGLAUPTH_ROWS_SIZE, HIGLAUPTH_HIGH_INDEX);
+                check_unjoined(bad, HIGLAUPTH_ROWS_SIZE, HIGLAUPTH_HIGH_INDEX);
+            }
+            const size_t length = write_two(1, 0);
+            write_index(POINTS + 20 * (size_t)last, 0x7FFFFFFF);
+            set_half(side, length);
+            CHECK(join_refusal(stay) == 0);
+        }
+}
+
+/* 16: each of the four numbers just inside and outside, and floats that are not finite; before 17,
+   and on halves without points too. */
+static void check_moves(void) {
+    const int32_t wholes[] = {-16000, 16000, -16001, 16001, INT32_MIN, INT32_MAX};
+    const uint32_t floats[] = {0x46800000, 0xC6800000, 0x80000000, 0x00000001,
+                               0x46800001, 0xC6800001, 0x7F800000, 0xFF800000,
+                               0x7FC00000, 0xFFC00000, 0x7F800001, 0x7F7FFFFF};
+    for (int unlike = 0; unlike < 2; unlike++) {
+        const unsigned inside = unlike ? (unsigned)HIGLAUPTH_UNLIKE_HALVES : 0;
+        for (int points = 0; points < 2; points++) {
+            set_half(LEFT, points ? write_one(1, unlike) : write_sheet(0));
+            if (!points && unlike) set_half(LEFT, write_strengths(half_lens[LEFT], 4, 0, NULL, 0));
+            set_half(RIGHT, write_points(100, NULL, 0));
+            for (int k = 0; k < 6; k++) {
+                const move du = {wholes[k], 0, 0, 0}, dv = {0, wholes[k], 0, 0};
+                const unsigned number = k < 2 ? inside : (unsigned)HIGLAUPTH_BAD_MOVE;
+                CHECK(join_refusal(du) == number && join_refusal(dv) == number);
+            }
+            for (int k = 0; k < 12; k++) {
+                const float number = number_with(floats[k]);
+                const move dx = {0, 0, number, 0}, dy = {0, 0, 0, number};
+                const unsigned wanted = k < 4 ? inside : (unsigned)HIGLAUPTH_BAD_MOVE;
+                CHECK(join_refusal(dx) == wanted && join_refusal(dy) == wanted);
+            }
+        }
+    }
+}
+
+/* 17: a tag 4 in one file alone, on either side, with and without points; before 2. */
+static void check_unlike(void) {
+    for (int side = 0; side < 2; side++) {
+        for (int points = 0; points < 2; points++) {
+            const size_t length = points ? write_one(1, 0) : write_points(100, NULL, 0);
+            set_half(!side, length);
+            set_half(side, length);
+            CHECK(join_refusal(stay) == 0);
+            set_half(side, write_strengths(length, points ? 8 : 4, 0, NULL, 0));
+            CHECK(join_refusal(stay) == HIGLAUPTH_UNLIKE_HALVES);
+            set_half(!side, half_lens[side]);
+            CHECK(join_refusal(stay) == 0);
+        }
+        const move away = {100, 0, 0, 0};
+        set_half(!side, write_sheet(HIGLAUPTH_MOST_POINTS));
+        set_half(side, write_weighed(HIGLAUPTH_MOST_POINTS));
+        CHECK(join_refusal(away) == HIGLAUPTH_UNLIKE_HALVES);
+    }
+}
+
+/* Halves of so many points in columns of HEIGHT, the right one so many columns away: the number of
+   points of the joined list, or 2. */
+static void check_most(unsigned left, unsigned right, int32_t du, unsigned points) {
+    const move by = {du, 0, 100.0f * (float)du, 0};
+    set_half(LEFT, write_sheet(left));
+    set_half(RIGHT, write_sheet(right));
+    const uint64_t returned = join(by, HIGLAUPTH_ROWS_SIZE);
+    if (points <= HIGLAUPTH_MOST_POINTS)
+        CHECK(!higlaupth_refused(returned) && higlaupth_points(returned) == points);
+    else
+        CHECK(returned == HIGLAUPTH_TOO_MANY_POINTS && painted(0, HIGLAUPTH_ROWS_SIZE));
+}
+
+/* 2: more points than a sheet can have, whatever a tag 3 can hold; where some are gone, by what is
+   left; before 3, 6 and 7. */
+static void check_most_joined(void) {
+    const move out = {16000, 0, 16384, 16384};
+    const unsigned most = HIGLAUPTH_MOST_POINTS;
+    check_most(1152, 1152, 24, 2304);
+    check_most(1153, 1152, 25, 2305);
+    check_most(1152, 1153, 24, 2305);
+    check_most(1153, 1152, 24, 2304);
+    check_most(most, 1, 48, 2305);
+    check_most(most, 1, 47, 2304);
+    check_most(1, most, 1, 2305);
+    check_most(1, most, 0, 2304);
+    check_most(most, most, 0, 2304);
+    check_most(most, most, 1, 2304 + 48);
+    check_most(most, most, 48, 4608);
+    check_most(most, most, -48, 4608);
+    check_unjoined(out, HIGLAUPTH_ROWS_SIZE, HIGLAUPTH_TOO_MANY_POINTS);
+    check_most(most, 0, 0, 2304);
+    check_most(0, most, 0, 2304);
+}
+
+/* The left half has a point at (0, 0), the right one this point. */
+static void set_points(int u, int v, float x, float y) {
+    const point one = {0, 0, 1, 0, 0}, other = {u, v, 1, x, y};
+    set_half(LEFT, write_points(100, &one, 1));
+    set_half(RIGHT, write_points(100, &other, 1));
+}
+
+/* 6: a moved point just inside and outside the range, and as far as it can be; after 3 and before
+   7. */
+static void check_moved_cells(void) {
+    const struct {
+        int from, by;
+        unsigned number;
+    } cases[] = {{8000, 0, 0},      {8000, 1, 6},      {-8000, 0, 0},       {-8000, -1, 6},
+                 {7999, 1, 0},      {-7999, -1, 0},    {-8000, 16000, 0},   {8000, -16000, 0},
+                 {-7999, 16000, 6}, {7999, -16000, 6}, {8000, 16000, 6},    {-8000, -16000, 6}};
+    for (size_t k = 0; k < sizeof cases / sizeof *cases; k++) {
+        const move du = {cases[k].by, 0, 0, 0}, dv = {0, cases[k].by, 0, 0};
+        const move du_far = {cases[k].by, 0, 16384, 0}, dv_far = {0, cases[k].by, 0, 16384};
+        const unsigned or_7 = cases[k].number ? cases[k].number : (unsigned)HIGLAUPTH_BAD_POSITION;
+        const size_t room = 2 * HIGLAUPTH_ROW_SIZE;
+        set_points(cases[k].from, 3, 1, 1);
+        CHECK(join_refusal(du) == cases[k].number && join_refusal(du_far) == or_7);
+        CHECK(higlaupth_refused(join(du_far, room)));
+        check_unjoined(du_far, room - 1, HIGLAUPTH_SHORT_BUFFER);
+        set_points(3, cases[k].from, 1, 1);
+        CHECK(join_refusal(dv) == cases[k].number && join_refusal(dv_far) == or_7);
+    }
+}
+
+/* 7: by the sum that is rounded once; not of a point that is gone. */
+static void check_moved_positions(void) {
+    const struct {
+        float from, by;
+        unsigned number;
+    } cases[] = {{16384, 0, 0},         {16384, -16384, 0},         {16384, 16384, 7},
+                 {16384, 0.0009f, 0},   {16384, 0.001f, 7},         {-16384, -0.0009f, 0},
+                 {-16384, -0.001f, 7},  {0.0009f, 16384, 0},        {0.001f, 16384, 7},
+                 {16383.999f, 1e-3f, 0}, {-16384, 16384, 0},        {-16384, -16384, 7}};
+    for (size_t k = 0; k < sizeof cases / sizeof *cases; k++) {
+        const move dx = {0, 0, cases[k].by, 0}, dy = {0, 0, 0, cases[k].by};
+        const move dx_onto = {-1, 0, cases[k].by, 0}, dy_onto = {-1, 0, 0, cases[k].by};
+        set_points(1, 0, cases[k].from, 0);
+        CHECK(join_refusal(dx) == cases[k].number);
+        check_joined(dx_onto, HIGLAUPTH_ROW_SIZE, 1, 1, 0);
+        set_points(1, 0, 0, cases[k].from);
+        CHECK(join_refusal(dy) == cases[k].number);
+        check_joined(dy_onto, HIGLAUPTH_ROW_SIZE, 1, 1, 0);
+    }
+}
+
+/* Null pointers of length 0. */
+static void check_null_halves(void) {
+    const uint64_t none = (uint64_t)1 << 32;
+    const size_t length = write_points(100, NULL, 0);
+    CHECK(higlaupth_join(NULL, 0, NULL, 0, 0, 0, 0, 0, NULL, 0) == HIGLAUPTH_MISFRAMED);
+    CHECK(higlaupth_join(file, length, NULL, 0, 0, 0, 0, 0, NULL, 0) == HIGLAUPTH_MISFRAMED);
+    CHECK(higlaupth_join(NULL, 0, file, length, 0, 0, 0, 0, NULL, 0) == HIGLAUPTH_MISFRAMED);
+    memset(after, PAINT, sizeof after);
+    CHECK(higlaupth_join(file, length, NULL, 0, 0, 0, 0, 0, after, 10) == HIGLAUPTH_MISFRAMED);
+    CHECK(painted(0, 10));
+    CHECK(higlaupth_join(file, length, file, length, 0, 0, 0, 0, NULL, 0) == none);
+}
+
+/* Halves in one block: the same bytes, and a right file that is the end of the left one, namely the
+   last ten bytes of its last point. */
+static void check_shared_halves(void) {
+    const point last[] = {{0, 0, 1, 0, 0}, {3, 3, 0x04010203, 32, number_with(0x00000341)}};
+    const size_t rows_len = 4 * HIGLAUPTH_ROW_SIZE, length = write_points(100, last, 2), end = 10;
+    uint8_t *bytes = (uint8_t *)malloc(length), *rows = (uint8_t *)malloc(rows_len);
+    if (!bytes || !rows) abort();
+    memcpy(bytes, file, length);
+    for (int shared = 0; shared < 2; shared++) {
+        const size_t from = shared ? length - end : 0;
+        const move by = {2, 0, 200, 0};
+        set_half(LEFT, length);
+        memcpy(halves[RIGHT], file + from, length - from);
+        half_lens[RIGHT] = length - from;
+        memset(rows, PAINT, rows_len);
+        const uint64_t returned =
+            higlaupth_join(bytes, length, bytes + from, length - from, by.du, by.dv, by.dx, by.dy,
+                           rows, rows_len);
+        CHECK(!higlaupth_refused(returned) && higlaupth_points(returned) == (shared ? 2u : 4u));
+        CHECK(join(by, rows_len) == returned);
+        CHECK(memcmp(after, rows, rows_len) == 0 && memcmp(bytes, file, length) == 0);
+    }
+    free(bytes);
+    free(rows);
+}
+
+static void check_join(void) {
+    CHECK(HIGLAUPTH_HIGH_INDEX == 15 && HIGLAUPTH_BAD_MOVE == 16 && HIGLAUPTH_UNLIKE_HALVES == 17);
+    CHECK(higlaupth_refused(HIGLAUPTH_UNLIKE_HALVES));
+    check_board();
+    check_worked_out();
+    check_zero();
+    check_joined_index();
+    check_own_numbers();
+    check_high_index();
+    check_moves();
+    check_unlike();
+    check_most_joined();
+    check_moved_cells();
+    check_moved_positions();
+    check_null_halves();
+    check_shared_halves();
+}
+
 int main(int argc, char **argv) {
     if (argc != 4) return 2;
     check_numbers(argv[1]);
@@ -1263,5 +1760,6 @@ int main(int argc, char **argv) {
     check_root_numbers();
     check_given_roots();
     check_roots();
+    check_join();
     return failed;
 }

@@ -1,31 +1,37 @@
-//! Prints what the library finds for each point of a sheet file, or with `--fills` the positions
-//! that it finds for the dropped points, or with `--map` the sheet's map, or with `--run` a line for
-//! each sheet of a run and then the record of the run; or with `--root` the root of a number in whole
-//! numbers, then R, which is the number times a power of two, beside S * S and their difference,
-//! which is to be the remainder, then the root as f32.
+//! Prints what the library finds for each point of a sheet file, or with `--join` for each point of
+//! two halves of a sheet, joined, or with `--fills` the positions that it finds for the dropped
+//! points, or with `--map` the sheet's map, or with `--run` a line for each sheet of a run and then
+//! the record of the run; or with `--root` the root of a number in whole numbers, then R, which is
+//! the number times a power of two, beside S * S and their difference, which is to be the remainder,
+//! then the root as f32.
 //!
 //!     ./install PREFIX
 //!     rustc --edition 2021 -O -L PREFIX/lib -l static=higlaupth examples/rust/main.rs -o keep
 //!     ./keep [--fills | --map] [FILE]
+//!     ./keep --join [LEFT RIGHT DU DV DX DY]
 //!     ./keep --run [FILE..]
 //!     ./keep --root [NUMBER | DX DY]
 //!
 //! Without FILE it judges a sheet of five points, for `--fills` one of ten; a run is then one that
 //! started under the old count and goes on with four sheets, of which the last is refused. With
-//! FILEs a run starts now. Each argument of `--root` is the eight hexadecimal digits of an f32, as a
+//! FILEs a run starts now. Of `--join`, DU and DV are whole numbers and DX and DY decimal ones: what
+//! is added to the cells and to the positions of the right file. Without arguments it joins two
+//! halves of six points. Each argument of `--root` is the eight hexadecimal digits of an f32, as a
 //! listing has them. DX and DY are how far a point lies from its prediction: the number is the sum
 //! of their squares, and the root the residual. Without arguments they are 1 and 2.
 //! Exit status: 0 if the sheet is accepted, 1 if it is refused, 2 if a file cannot be read or the
 //! answer cannot be written; 0 if the record of a run is printed, whether or not sheets were
 //! refused, since they add nothing to it and their lines say so; of `--root` 0 if there is a root, 1
-//! if there is neither root nor remainder or the difference is another, 2 if the arguments are
-//! wrong. The numbers, the texts, the forms of a row, a fill, a record and a root and the rules for
+//! if there is neither root nor remainder or the difference is another; 2 if the arguments of
+//! `--join` or `--root` are wrong. The numbers, the texts, the forms of a row, a fill, a record and a root and the rules for
 //! callers are those of higlaupth.h.
 
+use std::collections::BTreeSet;
 use std::fs::File;
 use std::io::{Read, Write};
 use std::mem::MaybeUninit;
 use std::process::ExitCode;
+use std::str::FromStr;
 
 const MOST_POINTS: usize = 2304;
 const ROW_SIZE: usize = 28;
@@ -36,8 +42,8 @@ const MAP_SIZE: usize = 4_860;
 const READ_SIZE: u64 = 3 + 21 + 3 + 17 + 3 + 20 * (65_535 / 20) + 3 + 65_535 + 1;
 
 /// The texts of the header's refusals by their numbers, from 1 on; the tenth is of `higlaupth_map`
-/// alone, the eleventh of `higlaupth_keep_in_run`.
-const REFUSALS: [&str; 14] = [
+/// alone, the eleventh of `higlaupth_keep_in_run`, the last three of `higlaupth_join`.
+const REFUSALS: [&str; 17] = [
     "the fields, their order, their lengths or the end of the file are wrong",
     "there are more than 2,304 points",
     "the result buffer is shorter than 28 bytes per point for rows, 20 for fills",
@@ -52,6 +58,9 @@ const REFUSALS: [&str; 14] = [
     "tag 4 is not 4 bytes plus 4 per point",
     "a number of tag 4 is not finite or exceeds 16,384 in magnitude",
     "one index has strengths with different bits",
+    "an index of one of the two files is 2^31 or more",
+    "du or dv exceeds 16,000 in magnitude, or dx or dy is not finite or exceeds 16,384",
+    "only one of the two files has a tag 4",
 ];
 /// Mark and word of each filter, in the header's order.
 const FILTERS: [(u8, &str); 5] = [
@@ -103,6 +112,15 @@ struct Run {
     new_sums: NewSums,
 }
 
+/// What is added to the cells and to the positions of a right half.
+#[derive(Clone, Copy)]
+struct Move {
+    du: i32,
+    dv: i32,
+    dx: f32,
+    dy: f32,
+}
+
 /// The root of a number in whole numbers.
 #[repr(C)]
 struct WholeRoot {
@@ -113,6 +131,18 @@ struct WholeRoot {
 
 extern "C" {
     fn higlaupth_keep(file: *const u8, file_len: usize, rows: *mut u8, rows_len: usize) -> u64;
+    fn higlaupth_join(
+        left: *const u8,
+        left_len: usize,
+        right: *const u8,
+        right_len: usize,
+        du: i32,
+        dv: i32,
+        dx: f32,
+        dy: f32,
+        rows: *mut u8,
+        rows_len: usize,
+    ) -> u64;
     fn higlaupth_fills(file: *const u8, file_len: usize, fills: *mut u8, fills_len: usize) -> u64;
     fn higlaupth_map(file: *const u8, file_len: usize, text: *mut u8, text_len: usize) -> u64;
     fn higlaupth_run_new(run: *mut Run);
@@ -151,8 +181,8 @@ fn part(returned: u64, first: u32) -> usize {
     (returned >> first & 0xFFFF) as usize
 }
 
-/// What `higlaupth_keep` or `higlaupth_keep_in_run` returned: the counts of an accepted sheet, or
-/// the number of a refusal.
+/// What `higlaupth_keep`, `higlaupth_join` or `higlaupth_keep_in_run` returned: the counts of an
+/// accepted sheet, or the number of a refusal.
 fn answer(returned: u64) -> Result<Counts, usize> {
     match returned >> 32 {
         0 => Err(part(returned, 0)),
@@ -169,6 +199,20 @@ fn keep(file: &[u8], rows: &mut [u8]) -> Result<Counts, usize> {
     // SAFETY: both slices are valid for their lengths and do not overlap, and Rust's
     // floating-point mode is the default one.
     answer(unsafe { higlaupth_keep(file.as_ptr(), file.len(), rows.as_mut_ptr(), rows.len()) })
+}
+
+/// Joins two halves of a sheet, and writes the rows of the joined list if it is accepted.
+fn join(left: &[u8], right: &[u8], by: Move, rows: &mut [u8]) -> Result<Counts, usize> {
+    let Move { du, dv, dx, dy } = by;
+    let (rows, rows_len) = (rows.as_mut_ptr(), rows.len());
+    let (left, left_len) = (left.as_ptr(), left.len());
+    let (right, right_len) = (right.as_ptr(), right.len());
+    // SAFETY: as in `keep`: the rows overlap neither file.
+    answer(unsafe {
+        higlaupth_join(
+            left, left_len, right, right_len, du, dv, dx, dy, rows, rows_len,
+        )
+    })
 }
 
 impl Run {
@@ -328,6 +372,26 @@ const TEN_POINTS: &[Point] = &[
     (2, 2, 18, 200.0, 200.0),
     (5, 5, 19, 500.0, 500.0),
 ];
+/// Three rows of a board whose cells are 100 pixels wide, as two cameras see them: the left one sees
+/// two columns, by lines of three, ..
+const LEFT_HALF: &[Point] = &[
+    (0, 0, 10, 0.0, 0.0),
+    (1, 0, 11, 100.0, 0.0),
+    (0, 1, 12, 0.0, 100.0),
+    (1, 1, 13, 100.0, 100.0),
+    (0, 2, 14, 0.0, 200.0),
+    (1, 2, 15, 100.0, 200.0),
+];
+/// .. and the right one the second column too, as its own first one, and a third. It has the middle
+/// point of both 30 pixels off; the first of them is in the left half.
+const RIGHT_HALF: &[Point] = &[
+    (0, 0, 10, 0.0, 0.0),
+    (1, 0, 11, 100.0, 0.0),
+    (0, 1, 12, 30.0, 100.0),
+    (1, 1, 13, 130.0, 100.0),
+    (0, 2, 14, 0.0, 200.0),
+    (1, 2, 15, 100.0, 200.0),
+];
 /// One index at two cells and one position, and another index: three points, two indices.
 const TWO_CELLS: &[Point] = &[
     (0, 0, 7, 0.0, 0.0),
@@ -387,15 +451,19 @@ fn four(bytes: &[u8], at: usize) -> [u8; 4] {
     bytes[at..at + 4].try_into().unwrap()
 }
 
+/// A cell and the index of its point.
+type Cell = (i32, i32, u32);
+
 /// u, v and index of the points of an accepted file, in the order of the rows: those of tag 3, which
 /// stands after tag 1 and perhaps tag 2.
-fn points(file: &[u8], count: usize) -> Vec<(i32, i32, u32)> {
+fn points(file: &[u8]) -> Vec<Cell> {
+    let size = |field: &[u8]| usize::from(u16::from_le_bytes([field[1], field[2]]));
     let mut field = file;
     while field[0] != 3 {
-        field = &field[3 + usize::from(u16::from_le_bytes([field[1], field[2]]))..];
+        field = &field[3 + size(field)..];
     }
     let mut points = Vec::new();
-    for point in field[3..3 + 20 * count].chunks(20) {
+    for point in field[3..3 + size(field)].chunks(20) {
         points.push((
             i32::from_le_bytes(four(point, 0)),
             i32::from_le_bytes(four(point, 4)),
@@ -406,8 +474,23 @@ fn points(file: &[u8], count: usize) -> Vec<(i32, i32, u32)> {
     points
 }
 
+/// Those of the joined list of two files, in the order of the rows: the points of the left file, and
+/// those of the right one that are in no cell of a left point when they are moved.
+fn joined_points(left: &[u8], right: &[u8], by: Move) -> Vec<Cell> {
+    let mut joined = points(left);
+    let taken: BTreeSet<(i32, i32)> = joined.iter().map(|&(u, v, _)| (u, v)).collect();
+    for (u, v, index) in points(right) {
+        let (u, v) = (u + by.du, v + by.dv);
+        if !taken.contains(&(u, v)) {
+            joined.push((u, v, index + 0x8000_0000));
+        }
+    }
+    joined.sort();
+    joined
+}
+
 /// A line for a point and its row.
-fn line((u, v, index): (i32, i32, u32), row: &[u8]) -> String {
+fn line((u, v, index): Cell, row: &[u8]) -> String {
     let mut line = format!("cell {u} {v}, index {index}:");
     let (marks, reason, present) = (row[0], row[1], row[2]);
     let (degree, boundary, adjacent, valid) = (row[3], row[4], row[5], row[6]);
@@ -431,16 +514,27 @@ fn line((u, v, index): (i32, i32, u32), row: &[u8]) -> String {
     line + "\n"
 }
 
-/// A line for each point after one with the counts, or the number of a refusal.
-fn lines(file: &[u8]) -> Result<String, usize> {
-    let mut rows = vec![0; ROWS_SIZE];
-    let counts = keep(file, &mut rows)?;
+/// A line for each point after one with the counts.
+fn text_of(counts: &Counts, points: Vec<Cell>, rows: &[u8]) -> String {
     let mut text = counts.text();
-    let points = points(file, counts.points);
     for (point, row) in points.into_iter().zip(rows.chunks(ROW_SIZE)) {
         text += &line(point, row);
     }
-    Ok(text)
+    text
+}
+
+/// That text of a sheet, or the number of a refusal.
+fn lines(file: &[u8]) -> Result<String, usize> {
+    let mut rows = vec![0; ROWS_SIZE];
+    let counts = keep(file, &mut rows)?;
+    Ok(text_of(&counts, points(file), &rows))
+}
+
+/// That text of two halves, joined, or the number of a refusal.
+fn joined_lines(left: &[u8], right: &[u8], by: Move) -> Result<String, usize> {
+    let mut rows = vec![0; ROWS_SIZE];
+    let counts = join(left, right, by, &mut rows)?;
+    Ok(text_of(&counts, joined_points(left, right, by), &rows))
 }
 
 /// The line of a refusal.
@@ -497,6 +591,51 @@ fn keep_run(paths: impl Iterator<Item = String>) -> Result<u8, String> {
     }
     print(&run.text())?;
     Ok(0)
+}
+
+/// Prints a text that was found, or the line of a refusal: the exit status.
+fn print_found(found: Result<String, usize>) -> Result<u8, String> {
+    let (status, text) = match found {
+        Ok(text) => (0, text),
+        Err(number) => (1, refused(number)),
+    };
+    print(&text)?;
+    Ok(status)
+}
+
+/// The number that an argument is.
+fn parsed<N: FromStr>(argument: &str, wanted: &str) -> Result<N, String> {
+    let number = argument.parse();
+    number.map_err(|_| format!("{argument}: {wanted} is asked for"))
+}
+
+/// Joins two files, or two halves of six points if there are none: the exit status, or what failed.
+fn print_join(arguments: impl Iterator<Item = String>) -> Result<u8, String> {
+    let given: Vec<String> = arguments.collect();
+    let (whole, decimal) = ("a whole number of 32 bits", "a decimal number");
+    let (left, right, by) = match &given[..] {
+        [] => (
+            with_lines_of_three(&sheet(LEFT_HALF)),
+            sheet(RIGHT_HALF),
+            Move {
+                du: 1,
+                dv: 0,
+                dx: 100.0,
+                dy: 0.0,
+            },
+        ),
+        [left, right, du, dv, dx, dy] => {
+            let by = Move {
+                du: parsed(du, whole)?,
+                dv: parsed(dv, whole)?,
+                dx: parsed(dx, decimal)?,
+                dy: parsed(dy, decimal)?,
+            };
+            (read(left)?, read(right)?, by)
+        }
+        _ => return Err("two files and four numbers are asked for, or nothing".to_string()),
+    };
+    print_found(joined_lines(&left, &right, by))
 }
 
 /// The number of eight hexadecimal digits.
@@ -558,6 +697,9 @@ fn asked() -> Result<u8, String> {
     if arguments.next_if(|first| first == "--run").is_some() {
         return keep_run(arguments);
     }
+    if arguments.next_if(|first| first == "--join").is_some() {
+        return print_join(arguments);
+    }
     if arguments.next_if(|first| first == "--root").is_some() {
         return print_root(arguments);
     }
@@ -572,12 +714,7 @@ fn asked() -> Result<u8, String> {
         None => own,
         Some(path) => read(&path)?,
     };
-    let (status, text) = match found(&file) {
-        Ok(text) => (0, text),
-        Err(number) => (1, refused(number)),
-    };
-    print(&text)?;
-    Ok(status)
+    print_found(found(&file))
 }
 
 fn main() -> ExitCode {

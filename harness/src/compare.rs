@@ -142,7 +142,12 @@ pub fn check(case: &Case, all: &All) -> Verdict {
     if refusal != Expected::Accepted {
         return Verdict::Same;
     }
-    let Some(sheet) = Sheet::from_file(&case.file) else {
+    beside_original(&case.file, case.buffer, answer)
+}
+
+/// What the original makes of an accepted file, beside an answer.
+pub fn beside_original(file: &[u8], buffer: usize, answer: &Answer) -> Verdict {
+    let Some(sheet) = Sheet::from_file(file) else {
         return Verdict::Different("accepted, yet not well framed".into());
     };
     let mut verdict = Verdict::Same;
@@ -153,7 +158,7 @@ pub fn check(case: &Case, all: &All) -> Verdict {
         };
         let held = prepared.run();
         if let Some(text) = difference(&sheet, &held, answer) {
-            let by_acos = second::answer(&case.file, case.buffer, Fault::AnglesByAcos);
+            let by_acos = second::answer(file, buffer, Fault::AnglesByAcos);
             if difference(&sheet, &held, &by_acos).is_some() {
                 return Verdict::Different(text);
             }

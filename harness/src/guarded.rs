@@ -1,6 +1,7 @@
 //! Memory between two pages that may not be touched, and calls on a stack of a given size.
 
-use crate::library::{Call, RootCall, Run, RunCall};
+use crate::library::{Call, JoinCall, RootCall, Run, RunCall};
+use crate::second::Shift;
 use std::ffi::c_void;
 
 const PAGE: usize = 4096;
@@ -74,13 +75,32 @@ impl Area {
     }
 }
 
+/// The right file of a join, with the offset and the shift.
+#[derive(Clone, Copy)]
+pub struct Right {
+    pub file: *const u8,
+    pub length: usize,
+    pub shift: Shift,
+}
+
 /// A C function, with the record that it takes, if it does; or one that takes a number instead of a file and writes
-/// to the buffer, whose length it is not told.
+/// to the buffer, whose length it is not told; or one that takes a second file.
 #[derive(Clone, Copy)]
 pub enum Callee {
     Plain(Call),
     InRun(RunCall, *mut Run),
     Root(RootCall, u32),
+    Join(JoinCall, Right),
+}
+
+/// Where a function stands, and its parameters: those in the registers of whole numbers and of floats, and those on the
+/// stack, if there are any. A function does not look at the registers of parameters that it does not have.
+#[cfg(target_arch = "x86_64")]
+struct Parameters {
+    function: *const c_void,
+    whole: [u64; 6],
+    floats: [f32; 2],
+    stack: Option<[u64; 2]>,
 }
 
 impl Callee {
@@ -97,23 +117,52 @@ impl Callee {
             Callee::Plain(f) => f(file, file_len, buffer, buffer_len),
             Callee::InRun(f, run) => f(file, file_len, buffer, buffer_len, run),
             Callee::Root(f, bits) => u64::from(f(bits, buffer.cast()) as u32),
+            Callee::Join(f, right) => {
+                let Shift { du, dv, dx, dy } = right.shift;
+                let (other, length) = (right.file, right.length);
+                f(
+                    file, file_len, other, length, du, dv, dx, dy, buffer, buffer_len,
+                )
+            }
         }
     }
 
-    /// Where it stands, with its first three parameters and its fifth. A function does not look at the registers of
-    /// parameters that it does not have.
     #[cfg(target_arch = "x86_64")]
-    fn registers(
+    fn parameters(
         self,
         file: *const u8,
         file_len: usize,
         buffer: *mut u8,
-    ) -> (*const c_void, [u64; 4]) {
-        let (file, length, buffer) = (file as u64, file_len as u64, buffer as u64);
+        buffer_len: usize,
+    ) -> Parameters {
+        let [file, length, buffer, room] = [
+            file as u64,
+            file_len as u64,
+            buffer as u64,
+            buffer_len as u64,
+        ];
+        let plain = |function, whole: [u64; 5]| Parameters {
+            function,
+            whole: [whole[0], whole[1], whole[2], whole[3], whole[4], 0],
+            floats: [0.0; 2],
+            stack: None,
+        };
         match self {
-            Callee::Plain(f) => (f as *const c_void, [file, length, buffer, 0]),
-            Callee::InRun(f, run) => (f as *const c_void, [file, length, buffer, run as u64]),
-            Callee::Root(f, bits) => (f as *const c_void, [u64::from(bits), buffer, 0, 0]),
+            Callee::Plain(f) => plain(f as *const c_void, [file, length, buffer, room, 0]),
+            Callee::InRun(f, run) => {
+                plain(f as *const c_void, [file, length, buffer, room, run as u64])
+            }
+            Callee::Root(f, bits) => plain(f as *const c_void, [bits.into(), buffer, 0, 0, 0]),
+            Callee::Join(f, right) => {
+                let Shift { du, dv, dx, dy } = right.shift;
+                let [du, dv] = [du, dv].map(|offset| u64::from(offset as u32));
+                Parameters {
+                    function: f as *const c_void,
+                    whole: [file, length, right.file as u64, right.length as u64, du, dv],
+                    floats: [dx, dy],
+                    stack: Some([buffer, room]),
+                }
+            }
         }
     }
 }
@@ -150,8 +199,10 @@ impl Stack {
         buffer: *mut u8,
         buffer_len: usize,
     ) -> u64 {
-        let top = self.area.at(self.area.size());
-        let (f, [first, second, third, run]) = callee.registers(file, file_len, buffer);
+        let given = callee.parameters(file, file_len, buffer, buffer_len);
+        let top = self.with(given.stack);
+        let [first, second, third, fourth, fifth, sixth] = given.whole;
+        let [float, other_float] = given.floats;
         let returned: u64;
         // The stack pointer is kept in r12, which a C function hands back as it found it.
         std::arch::asm!(
@@ -160,12 +211,15 @@ impl Stack {
             "call {f}",
             "mov rsp, r12",
             top = in(reg) top,
-            f = in(reg) f,
+            f = in(reg) given.function,
             in("rdi") first,
             in("rsi") second,
             in("rdx") third,
-            in("rcx") buffer_len,
-            in("r8") run,
+            in("rcx") fourth,
+            in("r8") fifth,
+            in("r9") sixth,
+            in("xmm0") float,
+            in("xmm1") other_float,
             lateout("rax") returned,
             out("r12") _,
             clobber_abi("C"),
@@ -190,6 +244,17 @@ impl Stack {
         callee.call(file, file_len, buffer, buffer_len)
     }
 
+    /// The top of the stack with some parameters on it, which keep its place a multiple of 16.
+    #[cfg(target_arch = "x86_64")]
+    unsafe fn with(&self, parameters: Option<[u64; 2]>) -> *mut u8 {
+        let top = self.area.at(self.area.size());
+        let Some(words) = parameters else { return top };
+        // The area is ours, and longer than two words.
+        let top = top.sub(size_of_val(&words));
+        top.cast::<[u64; 2]>().write(words);
+        top
+    }
+
     /// Looks how far up the paint still stands.
     #[cfg(target_arch = "x86_64")]
     fn note(&mut self) {
@@ -201,7 +266,7 @@ impl Stack {
         self.clean = 8 * intact;
     }
 
-    /// The most bytes that a call has used, its return address included.
+    /// The most bytes that a call has used, its return address and its parameters there included.
     pub fn deepest(&self) -> usize {
         self.area.size() - self.clean
     }

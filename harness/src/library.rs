@@ -4,9 +4,10 @@
 //! names, and the functions here reach it; without it they say that there is none. The C functions,
 //! the record's layout and the meaning of what they return (include/higlaupth.h) stand here alone.
 
-use crate::generate::Start;
+use crate::generate::{Pair, Start};
 use crate::second::{
-    self, All, Answer, Fault, Fills, InRun, Record, WholeRoot, FILL, FILLS_ROOM, NUMBERS, OLD,
+    self, All, Answer, Fault, Fills, InRun, Record, Shift, WholeRoot, FILL, FILLS_ROOM, NUMBERS,
+    OLD,
 };
 use crate::sheet::Sheet;
 
@@ -21,6 +22,20 @@ pub type Root = [i32; 3];
 
 /// One that takes and hands back the record of a run beside them.
 pub type RunCall = unsafe extern "C" fn(*const u8, usize, *mut u8, usize, *mut Run) -> u64;
+
+/// One from a left and a right file, an offset and a shift to a buffer.
+pub type JoinCall = unsafe extern "C" fn(
+    *const u8,
+    usize,
+    *const u8,
+    usize,
+    i32,
+    i32,
+    f32,
+    f32,
+    *mut u8,
+    usize,
+) -> u64;
 
 /// The old sums, kept first.
 pub type OldSums = [u32; OLD];
@@ -55,7 +70,7 @@ impl From<Run> for Record {
 }
 
 /// The C functions: from a file to its rows, to its map, to its fills, to its rows in a run; the two that begin
-/// a record; and from a number to its root.
+/// a record; from a number to its root; and from two files to the rows of the joined list.
 #[derive(Clone, Copy)]
 pub struct Calls {
     pub keep: Call,
@@ -65,39 +80,70 @@ pub struct Calls {
     pub run_new: unsafe extern "C" fn(*mut Run),
     pub run_from_old_sums: unsafe extern "C" fn(*const OldSums, *mut Run),
     pub root: RootCall,
+    pub join: JoinCall,
 }
 
-/// The C functions themselves; none without the library.
+/// The C functions as the header declares them.
 #[cfg(feature = "library")]
-pub fn functions() -> Option<Calls> {
+mod linked {
+    use super::{OldSums, Root, Run};
+
     extern "C" {
-        fn higlaupth_keep(file: *const u8, file_len: usize, rows: *mut u8, rows_len: usize) -> u64;
-        fn higlaupth_map(file: *const u8, file_len: usize, text: *mut u8, text_len: usize) -> u64;
-        fn higlaupth_fills(
+        pub fn higlaupth_keep(
+            file: *const u8,
+            file_len: usize,
+            rows: *mut u8,
+            rows_len: usize,
+        ) -> u64;
+        pub fn higlaupth_map(
+            file: *const u8,
+            file_len: usize,
+            text: *mut u8,
+            text_len: usize,
+        ) -> u64;
+        pub fn higlaupth_fills(
             file: *const u8,
             file_len: usize,
             fills: *mut u8,
             fills_len: usize,
         ) -> u64;
-        fn higlaupth_keep_in_run(
+        pub fn higlaupth_keep_in_run(
             file: *const u8,
             file_len: usize,
             rows: *mut u8,
             rows_len: usize,
             run: *mut Run,
         ) -> u64;
-        fn higlaupth_run_new(run: *mut Run);
-        fn higlaupth_run_from_old_sums(old_sums: *const OldSums, run: *mut Run);
-        fn higlaupth_root(bits: u32, root: *mut Root) -> i32;
+        pub fn higlaupth_run_new(run: *mut Run);
+        pub fn higlaupth_run_from_old_sums(old_sums: *const OldSums, run: *mut Run);
+        pub fn higlaupth_root(bits: u32, root: *mut Root) -> i32;
+        pub fn higlaupth_join(
+            left: *const u8,
+            left_len: usize,
+            right: *const u8,
+            right_len: usize,
+            du: i32,
+            dv: i32,
+            dx: f32,
+            dy: f32,
+            rows: *mut u8,
+            rows_len: usize,
+        ) -> u64;
     }
+}
+
+/// The C functions themselves; none without the library.
+#[cfg(feature = "library")]
+pub fn functions() -> Option<Calls> {
     Some(Calls {
-        keep: higlaupth_keep,
-        map: higlaupth_map,
-        fills: higlaupth_fills,
-        keep_in_run: higlaupth_keep_in_run,
-        run_new: higlaupth_run_new,
-        run_from_old_sums: higlaupth_run_from_old_sums,
-        root: higlaupth_root,
+        keep: linked::higlaupth_keep,
+        map: linked::higlaupth_map,
+        fills: linked::higlaupth_fills,
+        keep_in_run: linked::higlaupth_keep_in_run,
+        run_new: linked::higlaupth_run_new,
+        run_from_old_sums: linked::higlaupth_run_from_old_sums,
+        root: linked::higlaupth_root,
+        join: linked::higlaupth_join,
     })
 }
 
@@ -117,10 +163,28 @@ fn on_run(call: RunCall, file: &[u8], buffer: &mut [u8], run: &mut Run) -> u64 {
     unsafe { call(file.as_ptr(), file.len(), rows, length, run) }
 }
 
+fn on_two(call: JoinCall, [left, right]: [&[u8]; 2], shift: &Shift, rows: &mut [u8]) -> u64 {
+    let Shift { du, dv, dx, dy } = *shift;
+    let [(left, left_len), (right, right_len)] =
+        [left, right].map(|file| (file.as_ptr(), file.len()));
+    let (rows, rows_len) = (rows.as_mut_ptr(), rows.len());
+    // The library reads both files and writes within `rows`, which overlaps neither.
+    unsafe {
+        call(
+            left, left_len, right, right_len, du, dv, dx, dy, rows, rows_len,
+        )
+    }
+}
+
 /// What the library returned for rows: a refusal number of 1 to 9 or 12 to 14, or 2^48 * rounds + 2^32 +
 /// 2^16 * points + components; none without the library.
 pub fn call(file: &[u8], rows: &mut [u8]) -> Option<u64> {
     functions().map(|calls| on(calls.keep, file, rows))
+}
+
+/// What it returned for the rows of two files' joined list: the same, or 15 to 17; none without the library.
+pub fn call_join(files: [&[u8]; 2], shift: &Shift, rows: &mut [u8]) -> Option<u64> {
+    functions().map(|calls| on_two(calls.join, files, shift, rows))
 }
 
 /// What it returned for rows in a run: the same, or 11; none without the library.
@@ -260,6 +324,18 @@ pub fn difference(file: &[u8], buffer: usize, answer: &Answer) -> Option<String>
     let call = functions()?.keep;
     let text = differs(|rows| on(call, file, rows), buffer, expected(answer))?;
     Some(format!("library: {text}"))
+}
+
+/// The first place where the library's rows of two files' joined list differ from an answer, or where it changes a file.
+pub fn join_difference(pair: &Pair, answer: &Answer) -> Option<String> {
+    let call = functions()?.join;
+    let files = [&pair.left, &pair.right].map(|file| file.as_slice());
+    let before = files.map(<[u8]>::to_vec);
+    let call = |rows: &mut [u8]| on_two(call, files, &pair.shift, rows);
+    let text = differs(call, pair.buffer, expected(answer));
+    let changed = before != files;
+    let text = text.or_else(|| changed.then(|| "changed a file".into()))?;
+    Some(format!("library's join: {text}"))
 }
 
 /// The lengths of buffer that a map's text of some length is asked for with.

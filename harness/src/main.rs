@@ -10,6 +10,8 @@ mod floats;
 mod generate;
 mod guarded;
 mod header;
+mod joined;
+mod joins;
 mod library;
 mod limits;
 mod listing;
@@ -38,7 +40,7 @@ mod text;
 mod vectors;
 mod worst;
 
-use generate::Kind;
+use generate::{JoinKind, Kind};
 use second::Fault;
 use sheet::Sheet;
 use std::ffi::OsString;
@@ -60,26 +62,37 @@ harness compare --worst [--step N] [--cells N] [--sheets N] [--seed S]
                                       the sheets that take longest, --step: of every N-th number of
                                       points too; sheets beside these; the bound on the rounds on
                                       all sheets of blocks of N cells
+harness compare --joins [--sheets N] [--seed S]
+                                      pairs of files to be joined, N of them: library, second
+                                      program, and the original on the joined list
 harness compare --minimum [--sheets N] [--seed S]
                                       sheets with short settings, the same with the line minimum 4
                                       spelled out, and with 3: how many listings 3 changes
-harness mutants [--sheets N] [--seed S] [--maps | --runs | --peels | --fills | --roots | --worst]
+harness mutants [--sheets N] [--seed S]
+                [--maps | --runs | --peels | --fills | --roots | --worst | --joins]
                                       how many sheets show each deliberate fault of the answers,
                                       or of the maps, or how many runs each of the run, or how
                                       many sheets with strengths each of what is made of these, or
                                       how many with dropped points each of the fills, or how many
                                       sheets and numbers each of the roots, or how many arguments
-                                      each of the sheet that takes longest
+                                      each of the sheet that takes longest, or how many pairs each
+                                      of the join
 harness acos [COSINE ..]              what the Rust's acos makes of 30 degrees and of least cosines
 harness generate KIND SEED            a sheet file to standard output
-harness kinds                         the kinds of generated sheets
+harness kinds                         the kinds of generated sheets, and of pairs to be joined
+harness generate-pair KIND SEED FOLDER
+                                      a pair of files to be joined into a folder, left.bin and
+                                      right.bin; prints the arguments of `join` for it
 harness second [BUFFER]               listing of the sheet file on standard input
 harness map                           map of the sheet file on standard input
+harness join LEFT RIGHT DU DV DX DY [BUFFER]
+                                      listing of the sheet that two files make: names of files,
+                                      whole numbers, floats in eight hexadecimal digits
 harness worst N                       the sheet file that takes longest, of N points; nothing for
                                       anything else
 harness original                      rows and fills of the original for the sheet file on standard
                                       input
-harness vectors float|sheet_file|run FOLDER
+harness vectors float|sheet_file|run|join FOLDER
 harness vectors sheet FOLDER [--sheets N] [--seed S] [--most BYTES] [--full N] [--maps N]
                 [--full-lines N] [--peels N] [--fills N] [--roots N]
                                       the recorded files of a vector crate, stdin and stdout
@@ -94,6 +107,7 @@ harness load faults                   whether the load notices deliberate faults
 harness bench [--runs N] [--rounds N] [--into FILE]
                                       microseconds a call, in tables
 harness bench --peels [--runs N]      those of sheets with strengths alone
+harness bench --joins [--runs N]      that of joins alone
 harness dearest [--tries N] [--seed S]
                                       looks for the dearest call
 harness text to-file | from-file      lines of text to a sheet file and back
@@ -184,8 +198,19 @@ fn compare_minimum(args: &[String]) -> bool {
     report.failed == 0
 }
 
+/// Pairs of files to be joined.
+fn compare_joins(args: &[String]) -> bool {
+    let pairs = option(args, "--sheets", 2700) as usize;
+    let report = joins::run(pairs, option(args, "--seed", 0));
+    report.print();
+    report.failed == 0
+}
+
 fn compare(args: &[String]) -> bool {
     say_left_out();
+    if has(args, "--joins") {
+        return compare_joins(args);
+    }
     if has(args, "--runs") {
         return compare_runs(args);
     }
@@ -247,6 +272,8 @@ fn mutants(args: &[String]) -> bool {
     } else if has(args, "--worst") {
         let bytes = shown(&mutants::worst(), sheets, seed);
         shown(&mutants::worst_rounds(), sheets, seed) && bytes
+    } else if has(args, "--joins") {
+        shown(&mutants::joins(), sheets, seed)
     } else {
         shown(&mutants::answers(), sheets, seed)
     }
@@ -322,12 +349,30 @@ fn generated(kind: &str, seed: &str) -> Vec<u8> {
     }
 }
 
+/// A generated pair of files into a folder.
+fn generated_pair(kind: &str, seed: &str, folder: &str) {
+    let (Some(kind), Ok(seed)) = (JoinKind::from_name(kind), seed.parse()) else {
+        fail("generate-pair takes a kind, a seed and a folder")
+    };
+    let pair = generate::pair(kind, seed);
+    let [left, right] = ["left", "right"].map(|name| format!("{folder}/{name}.bin"));
+    save(&left, &pair.left);
+    save(&right, &pair.right);
+    let second::Shift { du, dv, dx, dy } = pair.shift;
+    let [dx, dy] = [dx, dy].map(f32::to_bits);
+    println!("{left} {right} {du} {dv} {dx:08X} {dy:08X} {}", pair.buffer);
+}
+
 /// The files of a vector crate into its folder.
 fn vectors(crate_of: &str, folder: &str, args: &[String]) {
     let made = match crate_of {
         "float" => vectors::float(),
         "sheet_file" => vectors::sheet_file(),
         "run" => vectors::run(),
+        "join" => {
+            say_without_original();
+            vectors::join()
+        }
         "sheet" => {
             say_without_original();
             let recorded = vectors::Choice::RECORDED;
@@ -343,10 +388,34 @@ fn vectors(crate_of: &str, folder: &str, args: &[String]) {
                 roots: option(args, "--roots", recorded.roots as u64) as usize,
             })
         }
-        _ => fail("vectors takes float, sheet_file, sheet or run, and a folder"),
+        _ => fail("vectors takes float, sheet_file, sheet, run or join, and a folder"),
     };
     save(&format!("{folder}/stdin"), &made.stdin);
     save(&format!("{folder}/stdout"), &made.stdout);
+}
+
+/// A float from its eight hexadecimal digits.
+fn float_of_bits(digits: &str) -> f32 {
+    match u32::from_str_radix(digits, 16) {
+        Ok(bits) if digits.len() == 8 => f32::from_bits(bits),
+        _ => fail("DX and DY are floats in eight hexadecimal digits"),
+    }
+}
+
+/// The listing of the sheet that two files make.
+fn joined_listing([left, right, du, dv, dx, dy]: [&str; 6], buffer: usize) -> String {
+    let file = |name: &str| std::fs::read(name).unwrap_or_else(|e| fail(&format!("{name}: {e}")));
+    let whole = |word: &str| {
+        word.parse()
+            .unwrap_or_else(|_| fail("DU and DV are whole numbers"))
+    };
+    let shift = second::Shift {
+        du: whole(du),
+        dv: whole(dv),
+        dx: float_of_bits(dx),
+        dy: float_of_bits(dy),
+    };
+    second::join(&file(left), &file(right), &shift, buffer, Fault::None).listing()
 }
 
 /// What the program `worst` writes for arguments of any bytes.
@@ -377,9 +446,17 @@ fn main() -> ExitCode {
         ["mutants", ..] => holds = mutants(&args),
         ["acos", cosines @ ..] => acos(cosines),
         ["generate", kind, seed] => output(&generated(kind, seed)),
-        ["kinds"] => Kind::ALL
-            .iter()
-            .for_each(|(kind, text)| println!("{kind:?}: {text}")),
+        ["kinds"] => {
+            let of_sheets = Kind::ALL
+                .iter()
+                .map(|(kind, text)| format!("{kind:?}: {text}"));
+            let of_pairs = JoinKind::ALL.iter();
+            let of_pairs = of_pairs.map(|(kind, text)| format!("pair {kind:?}: {text}"));
+            of_sheets
+                .chain(of_pairs)
+                .for_each(|line| println!("{line}"));
+        }
+        ["generate-pair", kind, seed, folder] => generated_pair(kind, seed, folder),
         ["second", buffer @ ..] => {
             let buffer = buffer.first();
             let buffer = buffer.map_or(second::ROOM, |b| b.parse().unwrap_or(0));
@@ -393,6 +470,12 @@ fn main() -> ExitCode {
             let map = second::map(&input(), Fault::None);
             output(second::map_text(&map).as_bytes());
         }
+        ["join", left, right, du, dv, dx, dy, buffer @ ..] => {
+            let buffer = buffer.first();
+            let buffer = buffer.map_or(second::ROOM, |b| b.parse().unwrap_or(0));
+            let listing = joined_listing([left, right, du, dv, dx, dy], buffer);
+            output(listing.as_bytes());
+        }
         ["original"] => original_rows(),
         ["vectors", crate_of, folder, ..] => vectors(crate_of, folder, &args),
         ["float-check"] => holds = floats::check(false),
@@ -405,6 +488,9 @@ fn main() -> ExitCode {
                 fail("bench --peels prints its tables and takes no --into");
             }
             bench::peels(option(&args, "--runs", 60) as usize);
+        }
+        ["bench", ..] if has(&args, "--joins") => {
+            bench::joins(option(&args, "--runs", 60) as usize);
         }
         ["bench", rest @ ..] => {
             let into = rest.iter().position(|a| *a == "--into");

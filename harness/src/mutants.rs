@@ -1,6 +1,7 @@
-//! Deliberate faults of the second program, and how many sheets or runs show each.
+//! Deliberate faults of the second program, and how many sheets, runs or pairs show each.
 
-use crate::generate::{self, Case, Kind, Run};
+use crate::generate::{self, Case, Kind, Pair, Run};
+use crate::joins;
 use crate::random::Random;
 use crate::second::{self, Answer, Fault, Fills, InRun, Map, WholeRoot, ROOM};
 
@@ -149,6 +150,19 @@ pub fn runs() -> Part<Run, Vec<InRun>> {
         nth: |seed, i| generate::run(seed + i as u64, generate::RUN_OF),
         name: |run| run.seed.to_string(),
         outcome: Run::through,
+        hidden: &[],
+    }
+}
+
+/// The answer to two files.
+pub fn joins() -> Part<Pair, Answer> {
+    Part {
+        faults: Fault::JOIN,
+        case: "pair",
+        cases: "pairs",
+        nth: joins::nth,
+        name: Pair::name,
+        outcome: Pair::answer,
         hidden: &[],
     }
 }

@@ -2,6 +2,7 @@
 
 use crate::compare::{self, Report};
 use crate::generate::{self, Kind};
+use crate::joins;
 use crate::minimum;
 use crate::mutants::{self, Part};
 use crate::properties;
@@ -109,6 +110,20 @@ fn runs() -> Vec<(String, bool)> {
         format!("the book notices every wrong run: {unnoticed:?}"),
         unnoticed.is_none() && noticed > 0,
     ));
+    checks
+}
+
+/// Pairs of files to be joined, which must meet each limit of a join and every two numbers that can meet.
+fn joined() -> Vec<(String, bool)> {
+    let report = joins::run(1620, 1);
+    report.print();
+    let name = "joins: the file of the joined list, another listing, the original";
+    let mut checks = vec![(name.to_string(), report.failed == 0)];
+    checks.extend(
+        report
+            .each()
+            .map(|(name, pairs)| (format!("a pair with {name}"), pairs > 0)),
+    );
     checks
 }
 
@@ -266,6 +281,7 @@ fn recorded() -> Vec<(String, bool)> {
     if cfg!(original_at_hand) {
         let made = vectors::sheet(&Choice::RECORDED);
         checks.push(check("sheet_vectors", made));
+        checks.push(check("join_vectors", vectors::join()));
     }
     checks
 }
@@ -277,6 +293,7 @@ pub fn run() -> bool {
     checks.extend(longest());
     checks.extend(short_settings());
     checks.extend(runs());
+    checks.extend(joined());
     checks.extend(faults(&mutants::answers()));
     checks.extend(faults(&mutants::maps()));
     checks.extend(faults(&mutants::runs()));
@@ -286,6 +303,7 @@ pub fn run() -> bool {
     checks.extend(faults(&mutants::numbers()));
     checks.extend(faults(&mutants::worst()));
     checks.extend(faults(&mutants::worst_rounds()));
+    checks.extend(faults(&mutants::joins()));
     checks.extend(properties());
     checks.push(("text and back".into(), text_and_back()));
     checks.extend(roots());

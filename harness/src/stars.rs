@@ -1,9 +1,11 @@
 //! The sheets that document 01 names, with what it says of them, one on which the Rust's acos
 //! differs, maps, tallies and calls in a run written out from document 02, A.1 and A.2, sheets
 //! about A.4's limit of points, sheets with A.5's strengths, A.6's sheets that take longest, A.7's
-//! positions for dropped points, A.8's roots with their remainders, and A.9's lines of four.
+//! positions for dropped points, A.8's roots with their remainders, A.9's lines of four, and A.10's
+//! joins.
 
 mod fills;
+mod joins;
 mod lines;
 mod peels;
 mod points;
@@ -250,6 +252,11 @@ pub fn lined_files() -> Vec<Vec<u8>> {
     lines::files()
 }
 
+/// Pairs of files to be joined.
+pub fn joined_pairs() -> Vec<crate::generate::Pair> {
+    joins::pairs()
+}
+
 /// The files of the sheets about roots.
 pub fn rooted_files() -> Vec<Vec<u8>> {
     roots::files()
@@ -279,6 +286,7 @@ pub fn checks() -> Vec<(String, bool)> {
     out.extend(peels::checks());
     out.extend(worst::checks());
     out.extend(fills::checks());
+    out.extend(joins::checks());
     out.extend(lines::checks());
     out.extend(roots::checks());
     out.extend(runs::tallies());

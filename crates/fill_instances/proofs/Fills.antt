@@ -19,6 +19,8 @@ use Rattle.sheet_file.specs.Refusals.{settings_in, gate_in}
 use Rattle.sheet_file.specs.declared.Settings.{Settings}
 use Rattle.ruling.specs.Ruling.{accepted, ruling_of}
 use Rattle.ruling.specs.Order.{records_in, Relisted}
+use Rattle.ruling.specs.Accepted.{AcceptedSheet}
+use Rattle.ruling.proofs.Accepted.{of-file}
 use Rattle.ruling.proofs.Weights.{bytes-by, headed-by}
 use Rattle.predict.specs.Predict.{Prediction}
 use Rattle.std.specs.Prelude.{Some, None, Ok, Err}
@@ -26,9 +28,9 @@ use Rattle.sheet_fills.specs.Answer.{fill_answer_of, fills_after}
 use Rattle.promises.specs.Fills.{fill_in, dropped_rank, predicted_in, PairAt, Fills, KeptAlike}
 use Rattle.promises.proofs.Fills.{fills, two-pairs, finite-fills, kept-alone, fills-another-order}
 use Rattle.stars.specs.Stars.{rules-compute, settings}
-use Rattle.stars.specs.Listed.{file, file-computes}
+use Rattle.stars.specs.Listed.{file-computes}
 use Rattle.instances.specs.Files.{five, marks_of}
-use Rattle.instances.proofs.KeptPatch.{file-bytes, file-accepted, fifth_marked, five-marks}
+use Rattle.instances.proofs.KeptPatch.{five-sheet, fifth_marked, five-marks}
 use Rattle.fill_instances.specs.Sheets.{fills-compute, filled, row_settings, row, row_file, row_turned, other_settings, other, other_file, plus_settings, plus, plus_file}
 use Rattle.fill_instances.proofs.Computed.{fill_by, fill-by, dropped-by, alike-by}
 
@@ -40,6 +42,9 @@ row-bytes = bytes-by row_file refl
 pub row-accepted : ruling_of row_file 84 ≡ accepted row_settings row
 unfolding file-computes rules-compute settings_in gate_in
 row-accepted = refl
+
+pub row-sheet : AcceptedSheet row_settings row
+row-sheet = of-file row_file 84 row_settings row row-bytes row-accepted
 
 abbrev pub middle_marked : List ℕ
 middle_marked = 0 ∷ 1 ∷ 0 ∷ []
@@ -62,7 +67,7 @@ middle-dropped = dropped-by row_settings row middle_marked row-marks 1 (omega ar
 
 -- what the promise says of it: the rule on cells finds that, from two kept points; and a kept point has no fill
 pub row-promised : Fills row_settings row
-row-promised = fills row_file 84 row_settings row row-bytes row-accepted
+row-promised = fills row_settings row row-sheet
 
 pub middle-by-rule : predicted_in row_settings row (cell_of (get_or row 1 nowhere)) ≡ filled 1 0x4120_0000 0
 middle-by-rule = sym (row-promised.by-cells 1 middle-dropped) ∙ middle-filled
@@ -82,7 +87,7 @@ middle-pair = row-promised.some_pair 1 _ middle-filled
 
 -- and it is finite
 pub middle-finite : T (finite (f32 0x4120_0000)) × T (finite (f32 0))
-middle-finite = finite-fills row_file 84 row_settings row row-bytes row-accepted 1 _ middle-filled
+middle-finite = finite-fills row_settings row row-sheet 1 _ middle-filled
 
 -- ---- five points in the shape of a plus: two pairs, which is the most
 
@@ -92,6 +97,9 @@ plus-bytes = bytes-by plus_file refl
 pub plus-accepted : ruling_of plus_file 140 ≡ accepted plus_settings plus
 unfolding file-computes rules-compute settings_in
 plus-accepted = refl
+
+pub plus-sheet : AcceptedSheet plus_settings plus
+plus-sheet = of-file plus_file 140 plus_settings plus plus-bytes plus-accepted
 
 abbrev pub centre_marked : List ℕ
 centre_marked = 0 ∷ 0 ∷ 1 ∷ 0 ∷ 0 ∷ []
@@ -108,7 +116,7 @@ pub centre-filled : fill_in plus_settings plus 2 ≡ filled 2 0x4144_0000 0x4114
 centre-filled = fill-by plus_settings plus centre_marked plus-marks 2 ∙ plus-computed
 
 pub two-at-most : 2 ≤ 2
-two-at-most = two-pairs plus_file 140 plus_settings plus plus-bytes plus-accepted 2 _ centre-filled
+two-at-most = two-pairs plus_settings plus plus-sheet 2 _ centre-filled
 
 -- ---- the sheet of five points: (5, 5) has no pair
 
@@ -121,7 +129,7 @@ fifth-filled = fill-by settings five fifth_marked five-marks 4 ∙ five-computed
 
 -- what the promise says of it: no two kept points are at opposite neighbours
 pub fifth-alone : (i j m : ℕ) → PairAt settings five 4 i j m → ⊥
-fifth-alone = (fills file 140 settings five file-bytes file-accepted).none_only 4 (dropped-by settings five fifth_marked five-marks 4 (omega arith) refl) fifth-filled
+fifth-alone = (fills settings five five-sheet).none_only 4 (dropped-by settings five fifth_marked five-marks 4 (omega arith) refl) fifth-filled
 
 -- ---- the same kept points with another middle, other indices, another order and other settings: the same fill
 
@@ -142,7 +150,7 @@ other-alike = alike-by (λ (c : Cell). c) row_settings other_settings row other 
 
 pub other-filled : fill_in other_settings other 1 ≡ filled 1 0x4120_0000 0
 other-filled =
-    kept-alone row_file other_file 84 84 row_settings other_settings row other row-bytes other-bytes row-accepted other-accepted refl other-alike 1 1 middle-dropped
+    kept-alone row_settings other_settings row other row-sheet (of-file other_file 84 other_settings other other-bytes other-accepted) refl other-alike 1 1 middle-dropped
     (dropped-by other_settings other middle_marked other-marks 1 (omega arith) refl) refl
     ∙ middle-filled
 

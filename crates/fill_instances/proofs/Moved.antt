@@ -15,6 +15,7 @@ use Rattle.sheet_file.specs.Refusals.{settings_in, gate_in}
 use Rattle.sheet_file.specs.declared.Settings.{Settings}
 use Rattle.ruling.specs.Ruling.{Ruling, accepted, ruling_of}
 use Rattle.ruling.specs.Offset.{MovedAlong, moved_file, StaysInRange}
+use Rattle.ruling.proofs.Accepted.{of-file}
 use Rattle.ruling.proofs.MovedFile.{moved-bytes}
 use Rattle.predict.specs.Predict.{Prediction}
 use Rattle.std.specs.Prelude.{None}
@@ -30,7 +31,7 @@ use Rattle.instances.specs.Files.{marks_of}
 use Rattle.instances.proofs.Computed.{in-range-by, kept-is}
 use Rattle.fill_instances.specs.Sheets.{fills-compute, filled, row_settings, row, row_file, row_moved, plus_settings, plus, plus_file, plus_moved}
 use Rattle.fill_instances.proofs.Computed.{fill_by, fill-by, dropped-by, alike-by}
-use Rattle.fill_instances.proofs.Fills.{row-bytes, row-accepted, middle_marked, row-marks, middle-filled, middle-dropped, plus-bytes, plus-accepted, centre_marked, plus-marks, centre-filled}
+use Rattle.fill_instances.proofs.Fills.{row-bytes, row-accepted, row-sheet, middle_marked, row-marks, middle-filled, middle-dropped, plus-bytes, plus-accepted, centre_marked, plus-marks, centre-filled}
 
 -- the points of which the promise speaks are those that the moved file's ruling names
 points-are : {x : Ruling} {a b : ℤ} {s : Settings} {ps qs : List Point} (p : MovedAlong x a b s ps) → x ≡ accepted s qs → p.points ≡ qs
@@ -51,7 +52,7 @@ unfolding fills-compute
 row-moved-marks = refl
 
 -- what the promise says of it: the kept patch has moved along, and so have the fills
-pub row-moved : MovedFills (moved_file row_file (negsuc 5) (pos 7)) 84 (negsuc 5) (pos 7) row_settings row
+pub row-moved : MovedFills (ruling_of (moved_file row_file (negsuc 5) (pos 7)) 84) (negsuc 5) (pos 7) row_settings row
 row-moved = moved-file-fills row_file (negsuc 5) (pos 7) row-bytes 84 row_settings row row-accepted row-in-range
 
 row-along : (k : ℕ) → kept_rank row_settings row_moved k ≡ kept_rank row_settings row k
@@ -72,7 +73,7 @@ row-alike = alike-by (moved (negsuc 5) (pos 7)) row_settings row_settings row ro
 
 pub middle-carried : fill_in row_settings row_moved 1 ≡ fill_in row_settings row 1
 middle-carried =
-    kept-moved row_file (moved_file row_file (negsuc 5) (pos 7)) 84 84 row_settings row_settings row row_moved row-bytes (moved-bytes row_file (negsuc 5) (pos 7) row-bytes) row-accepted row-moved-accepted refl (negsuc 5) (pos 7)
+    kept-moved row_settings row_settings row row_moved row-sheet (of-file (moved_file row_file (negsuc 5) (pos 7)) 84 row_settings row_moved (moved-bytes row_file (negsuc 5) (pos 7) row-bytes) row-moved-accepted) refl (negsuc 5) (pos 7)
     row-alike 1 1 middle-dropped (dropped-by row_settings row_moved middle_marked row-moved-marks 1 (omega arith) refl) refl
 
 -- ---- five points, moved by (0, −1): index 3 gets the validate mark by rounding, and the fill of the middle has one pair in place of two
@@ -104,7 +105,7 @@ differ e = let z : ◌≡◌ {A = ℕ} 1 2 = ap pairs_in (sym centre-moved ∙ e
 
 -- so the promise needs that the kept patch has moved along
 pub along-needed : ((file : List ℕ) (a b : ℤ) → Bytes file → (room : ℕ) (s : Settings) (ps : List Point) → ruling_of file room ≡ accepted s ps → StaysInRange a b ps
-    → (p : MovedFills (moved_file file a b) room a b s ps) → fills_for s p.along.points ≡ fills_for s ps) → ⊥
+    → (p : MovedFills (ruling_of (moved_file file a b) room) a b s ps) → fills_for s p.along.points ≡ fills_for s ps) → ⊥
 along-needed f =
     let p = moved-file-fills plus_file (pos 0) (negsuc 0) plus-bytes 140 plus_settings plus plus-accepted plus-in-range in
     differ
@@ -112,7 +113,7 @@ along-needed f =
     (subst (λ (qs : List Point). fills_for plus_settings qs ≡ fills_for plus_settings plus) (points-are p.along plus-moved-accepted)
     (f plus_file (pos 0) (negsuc 0) plus-bytes 140 plus_settings plus plus-accepted plus-in-range p)))
 
--- and two sheets have one fill at a cell only where their kept points are alike
+-- and two sheets, of files too, have one fill at a cell only where their kept points are alike
 pub alike-needed : ((file other : List ℕ) (room size : ℕ) (s t : Settings) (ps qs : List Point) → Bytes file → Bytes other → ruling_of file room ≡ accepted s ps → ruling_of other size ≡ accepted t qs
     → sides_of s ≡ sides_of t → (a b : ℤ) (k m : ℕ) → dropped_rank s ps k ≡ true → dropped_rank t qs m ≡ true → cell_of (get_or qs m nowhere) ≡ moved a b (cell_of (get_or ps k nowhere)) → fill_in t qs m ≡ fill_in s ps k) → ⊥
 alike-needed f =

@@ -9,9 +9,10 @@ use Prim.{Dec, yes, no}
 use Prim.Native.Nat.{ℕ, ◌+◌, ◌-◌, ◌*◌, ◌/◌, ◌%◌, ◌^◌, ◌≤◌, ◌<◌}
 use native.Mathlib.Decide.{dec_lt}
 use native.Mathlib.Omega.{arith}
-use borrow.Author.Tests.{le-leb, lt-leb}
-use lib.Dec.{eqb}
+use borrow.Author.Tests.{leb-true, le-leb, lt-leb}
+use lib.Dec.{eqb, leb}
 use lib.ListN.{length}
+use Rattle.refusals.proofs.Laws.{each-listed}
 use Rattle.sheet_file.specs.Bytes.{Bytes}
 use Rattle.ruling.specs.Ruling.{sheet_numbers}
 use Rattle.ruling.proofs.Given.{sheet-number}
@@ -20,6 +21,11 @@ use Rattle.runs.specs.declared.Run.{Run}
 use Rattle.kept.specs.Answer.{Answer, answer_of}
 use Rattle.kept.specs.declared.Counts.{Counts}
 use Rattle.kept.proofs.Bounds.{counts-bounded, refusal-listed}
+use Rattle.joined.specs.Joined.{join_numbers}
+use Rattle.joined.specs.declared.moves.Move.{Move}
+use Rattle.joined.proofs.Given.{join-listed}
+use Rattle.kept_joined.specs.Answer.{joined_answer_of}
+use Rattle.kept_joined.proofs.Bounds.{refused-join, join-bounded}
 use Rattle.kept_in_run.specs.InRun.{answer_in_run}
 use Rattle.map_lines.specs.Map.{map_size}
 use Rattle.sheet_map.specs.Text.{map_text_of}
@@ -27,7 +33,7 @@ use Rattle.sheet_map.proofs.Whole.{text-fits}
 use Rattle.sheet_fills.specs.Answer.{FillAnswer, fill_answer_of}
 use Rattle.sheet_fills.specs.declared.FillCounts.{FillCounts}
 use Rattle.sheet_fills.proofs.Bounds.{fills-bounded, fills-listed}
-use Rattle.higlaupth.specs.Number.{number_of, SheetCounts, Countable, Returned, refusal, counts, InRunReturned, run-full, as-sheet, text_number, MapReturned, fill_number_of, FillsOfSheet, FewFills, FillsReturned, no-fills, fill-counts}
+use Rattle.higlaupth.specs.Number.{number_of, SheetCounts, Countable, Returned, refusal, counts, JoinReturned, join-refusal, join-counts, InRunReturned, run-full, as-sheet, text_number, MapReturned, fill_number_of, FillsOfSheet, FewFills, FillsReturned, no-fills, fill-counts}
 
 -- ---- of higlaupth_keep
 
@@ -70,6 +76,30 @@ counts-apart p c r h = record {
 -- 2,304 points in one patch, of which a chain has lost one a round but for the last
 pub full-chain : number_of (Ok (record { points = 2304; components = 1; rounds = 2303 })) ≡ 648236875810603009
 full-chain = refl
+
+-- ---- of higlaupth_join
+
+module _ (left right : List ℕ) (m : Move) (room : ℕ) (bl : Bytes left) (br : Bytes right) where
+  few-joined : {c : Counts} → joined_answer_of left right m room ≡ Ok c → SheetCounts c.points c.components c.rounds
+  few-joined e = let r = join-bounded left right m room bl br e in record { few-components = r.components; few-rounds = r.rounds; few-points = r.points }
+
+  pub countable-join : Countable (joined_answer_of left right m room)
+  countable-join = go (joined_answer_of left right m room) refl
+    where
+      go : (a : Answer) → joined_answer_of left right m room ≡ a → Countable a
+      go (Err k) e = tt
+      go (Ok c) e = few-joined e
+
+  pub join-returned : JoinReturned (number_of (joined_answer_of left right m room))
+  join-returned = go (joined_answer_of left right m room) refl
+    where
+      go : (a : Answer) → joined_answer_of left right m room ≡ a → JoinReturned (number_of a)
+      go (Err k) e = join-refusal k (join-listed left right m room k (refused-join left right m room e))
+      go (Ok c) e = join-counts c.points c.components c.rounds (few-joined e)
+
+-- taken apart as a number of higlaupth_keep: a refusal has 0 above the low 32 bits
+pub join-refusal-apart : (number : ℕ) → list_any (eqb number) join_numbers ≡ true → number / 2 ^ 32 ≡ 0
+join-refusal-apart k h = omega (arith, leb-true k 17 (each-listed (λ (n : ℕ). leb n 17) join_numbers k refl h))
 
 -- ---- of higlaupth_keep_in_run
 

@@ -3,6 +3,7 @@ use Rattle.std.specs.List.{list_any}
 use Rattle.std.specs.Prelude.{◌≡◌, true, cond, ◌⊎◌, ℕ, ◌+◌, ◌-◌, ◌*◌, ◌^◌, ◌≤◌, ◌<◌, eqb, leb, Ok, Err}
 use Rattle.view.specs.View.{max_points}
 use Rattle.ruling.specs.Ruling.{sheet_numbers}
+use Rattle.joined.specs.Joined.{join_numbers}
 use Rattle.kept.specs.Answer.{Answer}
 use Rattle.map_lines.specs.Map.{map_size}
 use Rattle.sheet_fills.specs.Answer.{FillAnswer}
@@ -28,7 +29,12 @@ pub data Returned : ℕ → Type 0 where
   refusal : (number : ℕ) → list_any (eqb number) sheet_numbers ≡ true → Returned number
   counts : (points components rounds : ℕ) → SheetCounts points components rounds → Returned (2 ^ 48 * rounds + 2 ^ 32 + 2 ^ 16 * points + components)
 
--- what the number that higlaupth_keep_in_run returns is: the same, or 11
+-- what the number that higlaupth_join returns is: that of a refusal of a join, or the same of the joined sheet
+pub data JoinReturned : ℕ → Type 0 where
+  join-refusal : (number : ℕ) → list_any (eqb number) join_numbers ≡ true → JoinReturned number
+  join-counts : (points components rounds : ℕ) → SheetCounts points components rounds → JoinReturned (2 ^ 48 * rounds + 2 ^ 32 + 2 ^ 16 * points + components)
+
+-- what the number that higlaupth_keep_in_run returns is: the same as of higlaupth_keep, or 11
 pub data InRunReturned : ℕ → Type 0 where
   run-full : InRunReturned 11
   as-sheet : {number : ℕ} → Returned number → InRunReturned number

@@ -1,5 +1,5 @@
-// The calls for C and Rust programs: over `kept::keep`, over `kept_in_run::keep_in_run` with the two ways in which a run starts, over
-// `sheet_map::draw_sheet`, over `sheet_fills::fill_sheet`, and over `float::store_whole_root`.
+// The calls for C and Rust programs: over `kept::keep`, over `kept_joined::keep_joined`, over `kept_in_run::keep_in_run` with the two ways in
+// which a run starts, over `sheet_map::draw_sheet`, over `sheet_fills::fill_sheet`, and over `float::store_whole_root`.
 #![tactic(auto)]
 
 ghost use Rattle.std.specs.Prelude.{◌≡◌, ◌+◌, ◌*◌, ◌^◌, ◌++◌, length, take, drop};
@@ -10,12 +10,14 @@ ghost use Rattle.float.specs.Words.{found_number, root_words};
 ghost use Rattle.refusals.specs.Number.{numbered};
 ghost use Rattle.runs.specs.Run.{new_run, run_from};
 ghost use Rattle.kept.specs.Answer.{answer_of, rows_after};
+ghost use Rattle.kept_joined.specs.Answer.{joined_answer_of, joined_rows_after};
 ghost use Rattle.kept_in_run.specs.InRun.{answer_in_run, rows_in_run};
 ghost use Rattle.sheet_map.specs.Text.{map_text_of};
 ghost use Rattle.sheet_fills.specs.Answer.{fill_answer_of, fills_after};
 ghost use Rattle.higlaupth.specs.Number.{number_of, SheetCounts, Countable, text_number, fill_number_of, FewFills};
 ghost use Rattle.higlaupth.specs.Words.{words_of, run_in, words_after};
 
+use joined::Move;
 use kept::Counts;
 use refusals::Refusal;
 use runs::{NEW_SUMS, OLD_SUMS, Run};
@@ -48,6 +50,26 @@ pub extern "C" fn higlaupth_keep(file: &[u8], rows: &mut [u8]) -> u64
     ensures rows { rows.new ≡ rows_after file.now rows.old }
 {
     number_of(kept::keep(file, rows))
+}
+
+// ---- two halves
+
+// 1 to 9 or 12 to 17 for a refusal; else as higlaupth_keep, of the joined sheet.
+#[unsafe(no_mangle)]
+pub extern "C" fn higlaupth_join(
+    left: &[u8],
+    right: &[u8],
+    du: i32,
+    dv: i32,
+    dx: f32,
+    dy: f32,
+    rows: &mut [u8],
+) -> u64
+    ensures number { result ≡ number_of (joined_answer_of left.now right.now (record { du = du; dv = dv; dx = dx; dy = dy }) (length rows.old)) }
+    ensures rows { rows.new ≡ joined_rows_after left.now right.now (record { du = du; dv = dv; dx = dx; dy = dy }) rows.old }
+{
+    let m = Move { du, dv, dx, dy };
+    number_of(kept_joined::keep_joined(left, right, m, rows))
 }
 
 // ---- a run

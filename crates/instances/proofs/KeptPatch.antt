@@ -1,4 +1,5 @@
 -- Demand 3 (a), the kept patch, of small files; and of files without its conditions. Assumes nothing.
+use Rattle.std.specs.Prelude.{Ok}
 use mathlib.Core.Path.{◌≡◌, refl, sym, ap, ◌∙◌}
 use mathlib.Core.Bool.{Bool, true, false, not, ◌&&◌, true≢false, false≢true}
 use mathlib.Core.List.{List, [], ◌∷◌}
@@ -17,11 +18,15 @@ use Rattle.sheet_file.specs.declared.Settings.{Settings}
 use Rattle.sheet_file.specs.Refusals.{defaults_for, settings_in}
 use Rattle.ruling.specs.Ruling.{accepted, ruling_of}
 use Rattle.ruling.specs.Switches.{switched}
+use Rattle.ruling.specs.Accepted.{AcceptedSheet}
+use Rattle.ruling.proofs.Accepted.{of-file}
 use Rattle.ruling.proofs.Weights.{bytes-by}
 use Rattle.patches.specs.Reach.{here, step}
 use Rattle.components.specs.WholePatches.{WholePatch, Smallest}
 use Rattle.promises.specs.Words.{DistinctIndices, other_mark, survivor, joined, kept_rank}
 use Rattle.promises.specs.Promises.{LargestPatch, PatchCount}
+use Rattle.promises.specs.OfFile.{OfFile}
+use Rattle.promises.proofs.OfFile.{of-accepted-file}
 use Rattle.promises.proofs.Theorems.{kept-patch, component-count}
 use Rattle.stars.specs.Stars.{rules-compute, settings, of_three}
 use Rattle.stars.specs.Listed.{file, file-computes, answered}
@@ -52,9 +57,16 @@ switch-on : settings.apply_largest_component ≡ true
 unfolding defaults_for
 switch-on = refl
 
+-- the file is one use of what is promised of every accepted sheet
+pub five-given : OfFile file 140 settings five
+five-given = of-accepted-file file 140 settings five file-accepted
+
+pub five-sheet : AcceptedSheet settings five
+five-sheet = five-given.sheet file-bytes
+
 -- what the promise says of it
 pub five-largest : LargestPatch settings five
-five-largest = kept-patch file 140 settings five file-bytes file-accepted five-distinct switch-on
+five-largest = kept-patch settings five five-sheet five-distinct switch-on
 
 -- the kept patch is the first four points
 pub four-kept : list_of 5 (kept_rank settings five) ≡ true ∷ true ∷ true ∷ true ∷ false ∷ []
@@ -87,11 +99,11 @@ unfolding tally
 lone-point = refl
 
 -- "the component count is how many whole patches there are": two
-pub five-counted : PatchCount file 140 settings five
-five-counted = component-count file 140 settings five file-bytes file-accepted switch-on
+pub five-counted : PatchCount settings five
+five-counted = component-count settings five five-sheet switch-on
 
 pub two-patches : tally five-counted.first 5 ≡ 2
-two-patches = ap answered_components (sym five-counted.answer ∙ answered)
+two-patches = ap answered_components (sym (five-given.answer ∙ ap Ok five-counted.counts) ∙ answered)
 
 -- ---- two points far apart: a tie
 
@@ -115,7 +127,7 @@ unfolding rules-compute
 apart_marks = refl
 
 pub apart-largest : LargestPatch settings apart
-apart-largest = kept-patch apart_file 56 settings apart (bytes-by apart_file refl) apart-accepted apart_distinct switch-on
+apart-largest = kept-patch settings apart (of-file apart_file 56 settings apart (bytes-by apart_file refl) apart-accepted) apart_distinct switch-on
 
 -- the second point is a whole patch with as many points as the kept one, and the kept one's smallest cell comes first
 abbrev second : ℕ → Bool
@@ -170,7 +182,7 @@ off-not-largest : LargestPatch switch_off apart → ⊥
 unfolding some
 off-not-largest p = off-no-patch (p.largest.whole 0 (ap (λ (A : ℕ → Bool). A 0) (alive-is switch_off apart (0 ∷ 0 ∷ []) off-marks)))
 
--- so the promise needs its condition on the switch
+-- so the promise needs its condition on the switch, of files too
 pub switch-needed : ((file : List ℕ) (room : ℕ) (s : Settings) (ps : List Point) → Bytes file → ruling_of file room ≡ accepted s ps
     → DistinctIndices ps → LargestPatch s ps) → ⊥
 switch-needed f = off-not-largest (f off_file 56 switch_off apart (bytes-by off_file refl) off-accepted apart_distinct)
@@ -203,7 +215,7 @@ twice-not-largest p = true≢false (sym (p.empty-only none 0 (omega arith)) ∙ 
     none : (k : ℕ) → kept_rank zero_size twice k ≡ false
     none k = ap (λ (K : ℕ → Bool). K k) (kept-is zero_size twice (8 ∷ 8 ∷ []) twice-marks) ∙ go k
 
--- so the promise needs its condition on the indices
+-- so the promise needs its condition on the indices, of files too
 pub distinct-needed : ((file : List ℕ) (room : ℕ) (s : Settings) (ps : List Point) → Bytes file → ruling_of file room ≡ accepted s ps
     → s.apply_largest_component ≡ true → LargestPatch s ps) → ⊥
 unfolding defaults_for

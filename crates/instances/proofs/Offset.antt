@@ -15,7 +15,7 @@ use Rattle.grid.specs.Views.{view_of}
 use Rattle.sheet_file.specs.Bytes.{Bytes}
 use Rattle.sheet_file.specs.Refusals.{settings_in}
 use Rattle.sheet_file.specs.declared.Settings.{Settings}
-use Rattle.ruling.specs.Ruling.{refused, accepted, ruling_of}
+use Rattle.ruling.specs.Ruling.{Ruling, refused, accepted, ruling_of}
 use Rattle.ruling.specs.Offset.{moved_file, StaysInRange}
 use Rattle.ruling.proofs.Weights.{bytes-by}
 use Rattle.marks.specs.Filters.{validate}
@@ -31,9 +31,8 @@ use Rattle.instances.specs.Files.{point, short_file, long_file, five, marks_of}
 use Rattle.instances.proofs.Computed.{in-range-by, marks-are, kept-is}
 use Rattle.instances.proofs.KeptPatch.{file-bytes, file-accepted, fifth_marked, five-marks}
 
--- the points of which the promise speaks are those that the moved file's ruling names
-pub points-are : {other : List ℕ} {room : ℕ} {a b : ℤ} {s : Settings} {ps qs : List Point} (p : MovedMarks other room a b s ps)
-    → ruling_of other room ≡ accepted s qs → p.along.points ≡ qs
+-- the points of which the promise speaks are those that the ruling on what was moved names
+pub points-are : {x : Ruling} {a b : ℤ} {s : Settings} {ps qs : List Point} (p : MovedMarks x a b s ps) → x ≡ accepted s qs → p.along.points ≡ qs
 points-are {s = s} {qs = qs} p e = let q : accepted s p.along.points ≡ accepted s qs = sym p.along.ruling ∙ e in cc
 
 -- two sheets of as many points without a validate mark have the same validate marks
@@ -71,7 +70,7 @@ unfolding every
 in-range = in-range-by (negsuc 5) (pos 7) five refl
 
 -- what the promise says of it
-pub five-moved : MovedMarks (moved_file file (negsuc 5) (pos 7)) 140 (negsuc 5) (pos 7) settings five
+pub five-moved : MovedMarks (ruling_of (moved_file file (negsuc 5) (pos 7)) 140) (negsuc 5) (pos 7) settings five
 five-moved = moved-file file (negsuc 5) (pos 7) file-bytes 140 settings five file-accepted in-range
 
 by_bytes : ruling_of shifted 140 ≡ accepted settings six_less
@@ -153,7 +152,7 @@ not-along f =
 
 -- so "the kept patch has moved along" needs the condition
 pub validate-needed : ((file : List ℕ) (a b : ℤ) → Bytes file → (room : ℕ) (s : Settings) (ps : List Point) → ruling_of file room ≡ accepted s ps
-    → StaysInRange a b ps → (p : MovedMarks (moved_file file a b) room a b s ps) → (k : ℕ) → kept_rank s p.along.points k ≡ kept_rank s ps k) → ⊥
+    → StaysInRange a b ps → (p : MovedMarks (ruling_of (moved_file file a b) room) a b s ps) → (k : ℕ) → kept_rank s p.along.points k ≡ kept_rank s ps k) → ⊥
 unfolding every
 validate-needed f =
     let r = in-range-by (pos 1) (pos 0) given refl in
@@ -168,15 +167,15 @@ pub too_far : ruling_of (moved_file file (pos 7996) (pos 0)) 140 ≡ refused 6
 unfolding file-computes moved_file rules-compute
 too_far = refl
 
-not-accepted : MovedMarks (moved_file file (pos 7996) (pos 0)) 140 (pos 7996) (pos 0) settings five → ⊥
+not-accepted : MovedMarks (ruling_of (moved_file file (pos 7996) (pos 0)) 140) (pos 7996) (pos 0) settings five → ⊥
 not-accepted p = let q : refused 6 ≡ accepted settings p.along.points = sym too_far ∙ p.along.ruling in let z : ◌≡◌ {A = ℕ} 0 1 = cc in omega arith
 
 -- so the promise needs its condition on the range
 pub range-needed : ((file : List ℕ) (a b : ℤ) → Bytes file → (room : ℕ) (s : Settings) (ps : List Point) → ruling_of file room ≡ accepted s ps
-    → MovedMarks (moved_file file a b) room a b s ps) → ⊥
+    → MovedMarks (ruling_of (moved_file file a b) room) a b s ps) → ⊥
 range-needed f = not-accepted (f file (pos 7996) (pos 0) file-bytes 140 settings five file-accepted)
 
 -- one less is in range
-pub far-enough : MovedMarks (moved_file file (pos 7995) (pos 0)) 140 (pos 7995) (pos 0) settings five
+pub far-enough : MovedMarks (ruling_of (moved_file file (pos 7995) (pos 0)) 140) (pos 7995) (pos 0) settings five
 unfolding every
 far-enough = moved-file file (pos 7995) (pos 0) file-bytes 140 settings five file-accepted (in-range-by (pos 7995) (pos 0) five refl)

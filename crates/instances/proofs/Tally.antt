@@ -15,21 +15,31 @@ use Rattle.marks.specs.Tally.{is_under}
 use Rattle.judging.specs.Judging.{judged_for}
 use Rattle.kept.specs.Answer.{tally_of}
 use Rattle.promises.specs.Words.{marks_in}
-use Rattle.promises.specs.Tally.{different, total, points_under, point_counts, any_point, index_in, FileTally}
+use Rattle.promises.specs.Tally.{different, total, points_under, point_counts, any_point, index_in, CountsIndices}
 use Rattle.promises.proofs.Theorems.{tally-by-index}
 use Rattle.stars.specs.Stars.{rules-compute, settings}
 use Rattle.stars.specs.Listed.{file, file-computes}
 use Rattle.instances.specs.Files.{point, short_file, five, zero_size, doubled, doubled_file}
-use Rattle.instances.proofs.KeptPatch.{file-accepted}
+use Rattle.instances.proofs.KeptPatch.{five-given}
 
 -- ---- five points with five indices: four are kept, one has the component mark
 
-five-tally : FileTally file 140 settings five
-five-tally = tally-by-index file 140 settings five file-accepted
+-- what the numbers of a tally add up to, if there is one
+abbrev total_of : option.Option (List ℕ) → ℕ
+total_of option.none = 0
+total_of (option.some t) = total t
+
+five-tally : CountsIndices settings five
+five-tally = tally-by-index settings five
 
 pub five-counted : tally_of file 140 ≡ option.some (0 ∷ 0 ∷ 0 ∷ 0 ∷ 1 ∷ 4 ∷ [])
 unfolding tally_of file-computes rules-compute
 five-counted = refl
+
+-- the file's tally is that of its settings and points, of which the promise speaks
+pub five-indices : different any_point (index_in five) 5 ≡ 5
+unfolding total
+five-indices = sym five-tally.sum ∙ ap total_of (sym five-given.tally ∙ five-counted)
 
 -- ---- an index at two cells: it is kept, and counted once
 
@@ -40,8 +50,8 @@ pub doubled-accepted : ruling_of doubled_file 56 ≡ accepted zero_size doubled
 unfolding file-computes rules-compute
 doubled-accepted = refl
 
-pub doubled-tally : FileTally doubled_file 56 zero_size doubled
-doubled-tally = tally-by-index doubled_file 56 zero_size doubled doubled-accepted
+pub doubled-tally : CountsIndices zero_size doubled
+doubled-tally = tally-by-index zero_size doubled
 
 pub doubled-counted : tally_of doubled_file 56 ≡ option.some (0 ∷ 0 ∷ 0 ∷ 0 ∷ 0 ∷ 1 ∷ [])
 unfolding tally_of file-computes rules-compute
@@ -53,14 +63,14 @@ counts-of-doubled = refl
 
 -- what the promise says of it: both cells have the same marks, one index is kept, and there is one in all
 pub doubled-shared : marks_in zero_size doubled 0 ≡ marks_in zero_size doubled 1
-doubled-shared = doubled-tally.counts.shared 0 1 (omega arith) (omega arith) refl
+doubled-shared = doubled-tally.shared 0 1 (omega arith) (omega arith) refl
 
 pub kept-once : different (λ (k : ℕ). is_under filter_count (marks_in zero_size doubled k)) (index_in doubled) 2 ≡ 1
-kept-once = sym (doubled-tally.counts.once filter_count (omega arith)) ∙ ap (λ (t : List ℕ). get_or t filter_count 0) counts-of-doubled
+kept-once = sym (doubled-tally.once filter_count (omega arith)) ∙ ap (λ (t : List ℕ). get_or t filter_count 0) counts-of-doubled
 
 pub one-in-all : different any_point (index_in doubled) 2 ≡ 1
 unfolding total
-one-in-all = sym doubled-tally.counts.sum ∙ ap total counts-of-doubled
+one-in-all = sym doubled-tally.sum ∙ ap total counts-of-doubled
 
 -- ---- the old count has two
 
@@ -68,7 +78,7 @@ points-of-doubled : point_counts 2 (judged_for zero_size doubled).marks ≡ 0 �
 unfolding point_counts points_under rules-compute
 points-of-doubled = refl
 
--- so the promise that nothing changes needs its condition that no index repeats
+-- so the promise that nothing changes needs its condition that no index repeats, of files too
 pub distinct-needed-for-tally : ((file : List ℕ) (room : ℕ) (s : Settings) (ps : List Point) → Bytes file → ruling_of file room ≡ accepted s ps
     → (judged_for s ps).tally ≡ point_counts (length ps) (judged_for s ps).marks) → ⊥
 distinct-needed-for-tally f =

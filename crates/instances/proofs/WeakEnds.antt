@@ -27,6 +27,8 @@ use Rattle.ruling.specs.Offset.{moved_file, StaysInRange}
 use Rattle.ruling.specs.Order.{records_in, Relisted}
 use Rattle.ruling.specs.Ruling.{accepted, ruling_of}
 use Rattle.ruling.specs.Switches.{Switched, switched}
+use Rattle.ruling.specs.Accepted.{AcceptedSheet}
+use Rattle.ruling.proofs.Accepted.{of-file}
 use Rattle.ruling.proofs.Weights.{bytes-by, headed-by, without_strengths}
 use Rattle.marks.specs.Filters.{validate, leaf, component, filter_count}
 use Rattle.marks.specs.Byte.{has_mark}
@@ -46,7 +48,7 @@ use Rattle.written_file.specs.File.{weights}
 use Rattle.instances.specs.Files.{long_file, five, one, two, with_strength, short_weighed, answered_rounds, marks_of}
 use Rattle.instances.proofs.AnotherOrder.{near}
 use Rattle.instances.proofs.Computed.{distinct-by, in-range-by, marks-are, alive-is, kept-is}
-use Rattle.instances.proofs.KeptPatch.{file-bytes, file-accepted}
+use Rattle.instances.proofs.KeptPatch.{five-given, five-sheet}
 use Rattle.instances.proofs.Offset.{points-are, none-marked, given, one_more}
 use Rattle.instances.proofs.Switches.{switched-by}
 use Rattle.std.proofs.lemmas.Bool.{and_parts, not-true}
@@ -83,6 +85,9 @@ row-bytes = bytes-by row_file refl
 pub row-accepted : ruling_of row_file 84 ≡ accepted row_settings row
 unfolding file-computes rules-compute
 row-accepted = refl
+
+pub row-sheet : AcceptedSheet row_settings row
+row-sheet = of-file row_file 84 row_settings row row-bytes row-accepted
 
 -- the first goes, then the second, which it leaves as an end
 abbrev pub ends_marked : List ℕ
@@ -172,7 +177,7 @@ unfolding every
 row-in-range = in-range-by (negsuc 5) (pos 7) row refl
 
 -- what the promise says of it
-pub row-moved : MovedMarks moved_row 84 (negsuc 5) (pos 7) row_settings row
+pub row-moved : MovedMarks (ruling_of moved_row 84) (negsuc 5) (pos 7) row_settings row
 row-moved = moved-file row_file (negsuc 5) (pos 7) row-bytes 84 row_settings row row-accepted row-in-range
 
 -- the condition: neither sheet has a validate mark
@@ -243,7 +248,7 @@ weak-bent-moved-marks = refl
 
 -- so "A whole move keeps L" needs the condition
 pub earlier-needed : ((file : List ℕ) (a b : ℤ) → Bytes file → (room : ℕ) (s : Settings) (ps : List Point) → ruling_of file room ≡ accepted s ps → StaysInRange a b ps
-    → (p : MovedMarks (moved_file file a b) room a b s ps) → (k : ℕ) → has_mark leaf (marks_in s p.along.points k) ≡ has_mark leaf (marks_in s ps k)) → ⊥
+    → (p : MovedMarks (ruling_of (moved_file file a b) room) a b s ps) → (k : ℕ) → has_mark leaf (marks_in s p.along.points k) ≡ has_mark leaf (marks_in s ps k)) → ⊥
 unfolding every
 earlier-needed f =
     let ps : List Point = with_strength one given in
@@ -293,7 +298,7 @@ four-on = refl
 
 -- what the promise says of it
 pub four-largest : LargestPatch four_settings four
-four-largest = kept-patch (four_file 1) 112 four_settings four four_bytes four-accepted four-distinct four-on
+four-largest = kept-patch four_settings four (of-file (four_file 1) 112 four_settings four four_bytes four-accepted) four-distinct four-on
 
 -- the kept patch is two points; without tag 4 it is three
 pub two-kept : tally (kept_rank four_settings four) 4 ≡ 2
@@ -363,11 +368,11 @@ pub near-off-marks : marks_of (switched fraction_two 0 1) (with_strength one nea
 unfolding rules-compute
 near-off-marks = refl
 
--- ---- what is left and what was removed, of every accepted file
+-- ---- what is left and what was removed, of every accepted sheet
 
 -- what the promise says of the row: its second point has the L mark, so it is weak and has no C mark
 pub row_ends : WeakEnds row_settings row
-row_ends = weak-ends row_file 84 row_settings row row-bytes row-accepted
+row_ends = weak-ends row_settings row row-sheet
 
 second-has-leaf : has_mark leaf (marks_in row_settings row 1) ≡ true
 second-has-leaf = ap (has_mark leaf) (marks-are row_settings row ends_marked row-marked 1 (omega arith))
@@ -405,7 +410,7 @@ unfolding rules-compute
 first-weak = refl
 
 pub first_two : 2 ≤ live_neighbours fraction_two square 0
-first_two = (weak-ends square_file 112 fraction_two square (bytes-by square_file refl) square-accepted).left-two 0 first-left first-weak
+first_two = (weak-ends fraction_two square (of-file square_file 112 fraction_two square (bytes-by square_file refl) square-accepted)).left-two 0 first-left first-weak
 
 -- the five points of the kept patch, without tag 4
 five-unweighed : is_some (layout_of file).weights ≡ false
@@ -413,4 +418,4 @@ unfolding file-computes
 five-unweighed = refl
 
 pub five-no-leaves : NoLeaves settings five
-five-no-leaves = unweighed file 140 settings five file-bytes file-accepted five-unweighed
+five-no-leaves = unweighed settings five five-sheet (five-given.unweighed five-unweighed)

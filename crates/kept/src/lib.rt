@@ -1,11 +1,15 @@
 // The call on a sheet file: its rows and counts, or a refusal.
 #![tactic(auto)]
 
-ghost use Rattle.std.specs.Prelude.{◌≡◌, length, Ok};
+ghost use Rattle.std.specs.Prelude.{◌≡◌, List, ◌*◌, ◌≤◌, length, Ok};
 ghost use Rattle.refusals.specs.Number.{numbered};
-ghost use Rattle.ruling.specs.Ruling.{ruling_of};
-ghost use Rattle.ruling.specs.Sheet.{Ruled};
-ghost use Rattle.kept.specs.Answer.{answer_of, kept_of, rows_after};
+ghost use Rattle.cells.specs.Points.{Point};
+ghost use Rattle.sheet_file.specs.declared.Settings.{Settings};
+ghost use Rattle.ruling.specs.Ruling.{accepted};
+ghost use Rattle.ruling.specs.Accepted.{AcceptedSheet};
+ghost use Rattle.ruling.specs.Sheet.{SheetOf};
+ghost use Rattle.rows.specs.Rows.{row_size};
+ghost use Rattle.kept.specs.Answer.{answer_of, rows_by, kept_by, kept_of, rows_after};
 
 use edge_shape::NO_FIGURES;
 use judging::Columns;
@@ -28,12 +32,12 @@ pub struct Kept {
     pub tally: Tally,
 }
 
-// Writes the rows of a sheet that was read of a file, and gives the counts and the tally.
+// Writes the rows of an accepted sheet's points, 28 bytes each, in cell order, and gives the counts and the tally.
 #[inline(never)]
-fn keep_sheet(file: &[u8], sheet: &Sheet, rows: &mut [u8]) -> Kept
-    requires { Ruled (ruling_of file.now (length rows.old)) (Ok sheet.now) }
-    ensures kept { Ok result ≡ kept_of file.now (length rows.old) }
-    ensures rows { rows.new ≡ rows_after file.now rows.old }
+pub fn keep_sheet(sheet: &Sheet, rows: &mut [u8]) -> Kept
+    requires { row_size * sheet.now.count ≤ length rows.old }
+    ensures kept { (s : Settings) (ps : List Point) → SheetOf s ps sheet.now → AcceptedSheet s ps → Ok result ≡ kept_by (accepted s ps) }
+    ensures rows { (s : Settings) (ps : List Point) → SheetOf s ps sheet.now → AcceptedSheet s ps → rows.new ≡ rows_by rows.old (accepted s ps) }
 {
     let mut figures = [NO_FIGURES; MAX_POINTS];
     let j = judging::judge(&Columns::of(sheet), &mut figures);
@@ -54,7 +58,7 @@ pub fn keep_counted(file: &[u8], rows: &mut [u8]) -> Result<Kept, Refusal>
     ensures rows { rows.new ≡ rows_after file.now rows.old }
 {
     let sheet = ruling::read(file, rows.len())?;
-    Ok(keep_sheet(file, &sheet, rows))
+    Ok(keep_sheet(&sheet, rows))
 }
 
 // The call.

@@ -12,6 +12,7 @@ use Rattle.cells.specs.Points.{Point}
 use Rattle.sheet_file.specs.Bytes.{Bytes}
 use Rattle.sheet_file.specs.declared.Settings.{Settings}
 use Rattle.ruling.specs.Ruling.{accepted, ruling_of}
+use Rattle.ruling.proofs.Accepted.{of-file}
 use Rattle.ruling.proofs.Weights.{bytes-by}
 use Rattle.marks.specs.Filters.{validate, orientation, wrong}
 use Rattle.marks.specs.Byte.{has_mark}
@@ -20,10 +21,10 @@ use Rattle.promises.specs.Tally.{different, any_point, index_in}
 use Rattle.promises.specs.Longest.{beforehand, left_before, Longest}
 use Rattle.promises.proofs.Longest.{longest, fewer-rounds}
 use Rattle.stars.specs.Stars.{rules-compute}
-use Rattle.stars.specs.Listed.{file-computes, row_file}
+use Rattle.stars.specs.Listed.{file-computes}
 use Rattle.instances.specs.Files.{marks_of}
 use Rattle.instances.proofs.Computed.{distinct-by, marks-are}
-use Rattle.instances.proofs.WeakEnds.{row, row_settings, row-bytes, row-accepted, ends_marked, row-marked, row-rounds}
+use Rattle.instances.proofs.WeakEnds.{row, row_settings, row-sheet, ends_marked, row-marked, row-rounds}
 use Rattle.longest_instances.specs.Sheets.{weak_file, weak_settings, seven, hundred, single, two_ends, two_close}
 
 -- a byte of marks with that of an earlier filter
@@ -39,7 +40,7 @@ none_before s ps m e none k h = ap earlier (marks-are s ps m e k h) ∙ some-fai
 
 -- what the promise says of it
 pub row-longest : Longest row_settings row
-row-longest = longest row_file 84 row_settings row row-bytes row-accepted
+row-longest = longest row_settings row row-sheet
 
 pub row-bound : rounds_of row_settings row + 1 ≤ 3
 row-bound = row-longest.bound (omega arith)
@@ -54,7 +55,7 @@ unfolding some
 row-undropped = none_before row_settings row ends_marked row-marked refl
 
 pub row-fewer : rounds_of row_settings row ≤ 2
-row-fewer = fewer-rounds row_file 84 row_settings row row-bytes row-accepted row-distinct row-undropped (omega arith)
+row-fewer = fewer-rounds row_settings row row-sheet row-distinct row-undropped (omega arith)
 
 -- it takes as long as a row of three can
 pub row-reaches : rounds_of row_settings row + 1 ≡ length row
@@ -108,7 +109,7 @@ distinct-needed f =
 
 -- and the bound by points does not
 pub ends-bound : rounds_of (weak_settings 0) two_ends + 1 ≤ 3
-ends-bound = (longest (weak_file 0 two_ends) 84 (weak_settings 0) two_ends (bytes-by (weak_file 0 two_ends) refl) ends-accepted).bound (omega arith)
+ends-bound = (longest (weak_settings 0) two_ends (of-file (weak_file 0 two_ends) 84 (weak_settings 0) two_ends (bytes-by (weak_file 0 two_ends) refl) ends-accepted)).bound (omega arith)
 
 -- ---- two points too close, and one apart: the two were dropped beforehand, and the one goes
 
@@ -141,4 +142,4 @@ two-left-needed f =
 
 -- and the bound by points does not
 pub close-bound : rounds_of (weak_settings hundred) two_close + 1 ≤ 3
-close-bound = (longest (weak_file hundred two_close) 84 (weak_settings hundred) two_close (bytes-by (weak_file hundred two_close) refl) close-accepted).bound (omega arith)
+close-bound = (longest (weak_settings hundred) two_close (of-file (weak_file hundred two_close) 84 (weak_settings hundred) two_close (bytes-by (weak_file hundred two_close) refl) close-accepted)).bound (omega arith)

@@ -16,12 +16,12 @@ use Rattle.cells.specs.Points.{Point, nowhere, keys_of, indices_of}
 use Rattle.grid.specs.InOrder.{CellOrder}
 use Rattle.grid.specs.Views.{view_of}
 use Rattle.grid.proofs.Views.{view-is, ranks-ranked}
-use Rattle.sheet_file.specs.Bytes.{Bytes}
 use Rattle.sheet_file.specs.declared.EdgeShapeParams.{EdgeShapeParams}
 use Rattle.sheet_file.specs.declared.Settings.{Settings}
 use Rattle.points.specs.Refusals.{off_limit}
-use Rattle.ruling.specs.Ruling.{Ruling, accepted, ruling_of}
-use Rattle.ruling.proofs.Standing.{sound}
+use Rattle.ruling.specs.Ruling.{accepted}
+use Rattle.ruling.specs.Accepted.{AcceptedSheet}
+use Rattle.ruling.proofs.Accepted.{sound-sheet}
 use Rattle.edge_shape.specs.declared.Figures.{Figures}
 use Rattle.edge_shape.specs.Figures.{reason_number, figures_at, index_figures, no_figures}
 use Rattle.edge_shape.specs.Continuations.{reason_at}
@@ -32,7 +32,7 @@ use Rattle.judged.specs.Shown.{shown_at}
 use Rattle.judging.specs.Judging.{judged_for}
 use Rattle.rows.specs.Rows.{row_of, row_size}
 use Rattle.rows.proofs.Theorems.{byte-shown}
-use Rattle.kept.specs.Answer.{rows_by, rows_after}
+use Rattle.kept.specs.Answer.{rows_by}
 use Rattle.std.proofs.lemmas.Bool.{or_parts}
 
 -- ---- the positions
@@ -49,9 +49,8 @@ unfolding view_of
 count-is ps = refl
 
 -- of every rank of an accepted sheet, with any gate
-pub cosines-are-numbers : (file : List ℕ) (room : ℕ) (s : Settings) (ps : List Point) → Bytes file → ruling_of file room ≡ accepted s ps
-    → (g : EdgeShapeParams) (k : ℕ) → k < length ps → Cosines g (view_of ps) k
-cosines-are-numbers file room s ps b e g k h = cosines (view_of ps) (inside ps (sound file room s ps b e).limits) g k (rw (count-is ps) h)
+pub cosines-are-numbers : (s : Settings) (ps : List Point) → AcceptedSheet s ps → (g : EdgeShapeParams) (k : ℕ) → k < length ps → Cosines g (view_of ps) k
+cosines-are-numbers s ps a g k h = cosines (view_of ps) (inside ps (sound-sheet s ps a).limits) g k (rw (count-is ps) h)
 
 -- ---- the rows
 
@@ -72,15 +71,12 @@ pub place-below : (ps : List Point) → CellOrder ps → (k : ℕ) → k < lengt
 place-below ps o k h = rw (← ap (λ (w : View). w.by_idx k) (view-is ps o)) ((ranks-ranked (length ps) (keys_of ps) (indices_of ps) o.few).indices k h)
 
 -- "Byte 1: reason", with the gate of tag 2: the reason by each continuation, of the entry that is held under the point's index
-pub reason-by-each : (file buffer : List ℕ) (s : Settings) (ps : List Point) → Bytes file → ruling_of file (length buffer) ≡ accepted s ps
-    → (g : EdgeShapeParams) → s.edge_shape ≡ Some g → (k : ℕ) → k < length ps
-    → get_or (rows_after file buffer) (row_size * k + 1) 0 ≡ reason_number (reason_at g (view_of ps) ((view_of ps).by_idx k))
-unfolding rows_after
-reason-by-each file buffer s ps b e g on k h =
+pub reason-by-each : (buffer : List ℕ) (s : Settings) (ps : List Point) → AcceptedSheet s ps → (g : EdgeShapeParams) → s.edge_shape ≡ Some g → (k : ℕ) → k < length ps
+    → get_or (rows_by buffer (accepted s ps)) (row_size * k + 1) 0 ≡ reason_number (reason_at g (view_of ps) ((view_of ps).by_idx k))
+reason-by-each buffer s ps a g on k h =
     let w = view_of ps in
-    ap (λ (r : Ruling). get_or (rows_by buffer r) (row_size * k + 1) 0) e
-    ∙ byte-shown (shown_at (judged_for s ps)) (length ps) buffer k 1 h (omega arith)
+    byte-shown (shown_at (judged_for s ps)) (length ps) buffer k 1 h (omega arith)
     ∙ second-byte s ps k
     ∙ ap (λ (f : List Figures). reason_number (get_or f k no_figures).reason) (figures-are s ps ∙ ap (λ (gate : Option EdgeShapeParams). gate_figures gate w) on)
     ∙ ap (λ (f : Figures). reason_number f.reason) (entry-is g w k (rw (count-is ps) h))
-    ∙ ap reason_number (cosines-are-numbers file (length buffer) s ps b e g (w.by_idx k) (place-below ps (sound file (length buffer) s ps b e).order k h)).reason
+    ∙ ap reason_number (cosines-are-numbers s ps a g (w.by_idx k) (place-below ps (sound-sheet s ps a).order k h)).reason

@@ -8,7 +8,7 @@ use Prim.Native.Nat.{ℕ, ◌+◌, ◌≤◌, ◌<◌}
 use native.Mathlib.Decide.{dec_lt}
 use native.Mathlib.Omega.{arith}
 use lib.Dec.{eqb, ltb}
-use lib.IntN.{+ℤ_idr}
+use lib.IntN.{ℤ, +ℤ_idr}
 use lib.Ieee.{Float, nan}
 use lib.ListN.{length, get_or}
 use borrow.Author.Tests.{ltb-true, lt-ltb, not-true}
@@ -41,17 +41,18 @@ use Rattle.std.specs.Prelude.{None, Some}
 use Rattle.predict.proofs.Theorems.{near-opposite, square-opposed, half-of-offsets, no-pair-exactly, with-pairs, depends-on-kept}
 use Rattle.predict.proofs.Finite.{prediction-finite}
 use Rattle.predict.proofs.ByRank.{fill-past, fill-kept, fill-dropped, fills_same}
+use Rattle.ruling.specs.Ruling.{ruling_of}
 use Rattle.ruling.specs.Offset.{moved_file}
 use Rattle.ruling.proofs.Order.{same-ruling}
-use Rattle.ruling.proofs.Standing.{sound, accepted-order}
+use Rattle.ruling.proofs.Accepted.{sound-sheet}
 use Rattle.ruling.proofs.MovedFile.{moved-bytes, moved-offset, moved-in-range}
 use Rattle.edge_shape.proofs.Cosines.{within-limit}
 use Rattle.drop_set.specs.Filters.{sides_of}
 use Rattle.judging.specs.Judging.{judged_for, fills_for}
 use Rattle.promises.specs.Words.{marks_in, kept_rank}
-use Rattle.promises.specs.Fills.{fill_in, dropped_rank, kept_in, kept_there, kept_x, kept_y, predicted_in, PairAt, Fills, FillsPromise, TwoPairsPromise, FiniteFillsPromise, KeptAlike, SameFills, KeptAlonePromise, KeptMovedPromise, FillsOrderPromise, OffsetFillsPromise, MovedFileFillsPromise}
+use Rattle.promises.specs.Fills.{fill_in, dropped_rank, kept_in, kept_there, kept_x, kept_y, predicted_in, PairAt, Fills, FillsPromise, TwoPairsPromise, FiniteFillsPromise, KeptAlike, SameFills, KeptAlonePromise, KeptMovedPromise, FillsOrderPromise, MovedFillsPromise, OffsetFillsPromise, MovedFileFillsPromise}
 use Rattle.promises.proofs.OnMap.{cells-apart}
-use Rattle.promises.proofs.Theorems.{moved-sheet}
+use Rattle.promises.proofs.Theorems.{moved-marks, moved-sheet}
 use Rattle.std.proofs.lemmas.Bool.{and_from, and_parts, false_from_ne_true as never_true, or_parts}
 use Rattle.std.specs.Cmp.{both_ways}
 
@@ -262,21 +263,21 @@ module _ (s : Settings) (ps : List Point) where
     }
 
 pub fills : FillsPromise
-fills file room s ps b e = all-fills s ps (accepted-order file room s ps b e)
+fills s ps a = all-fills s ps (sound-sheet s ps a).order
 
 pub two-pairs : TwoPairsPromise
-two-pairs file room s ps b e k p f = omega (arith, (fills file room s ps b e).few-pairs k p f)
+two-pairs s ps a k p f = omega (arith, (fills s ps a).few-pairs k p f)
 
 pub finite-fills : FiniteFillsPromise
-finite-fills file room s ps b e k p f =
-    let order = accepted-order file room s ps b e in
+finite-fills s ps a k p f =
+    let order = (sound-sheet s ps a).order in
     let d = pairs-dropped s ps k p f in
     prediction-finite (sides_of s) (there s ps order k d) (omega arith) (λ (o : Offset). kept_x s ps (to s ps order k d o)) (λ (o : Offset). kept_y s ps (to s ps order k d o)) p (λ o m t. limited (to s ps order k d o) (there-kept s ps order (to s ps order k d o) t).0) (sym (by-cell s ps order k d) ∙ f)
   where
     limited : (c : Cell) → kept_rank s ps (kept_in s ps c) ≡ true → Within 14 (kept_x s ps c) × Within 14 (kept_y s ps c)
     limited c h =
         let j = kept_in s ps c in
-        let l = or_parts (outside (kept_x s ps c)) (outside (kept_y s ps c)) ((sound file room s ps b e).limits j (kept-below s ps j h)) in
+        let l = or_parts (outside (kept_x s ps c)) (outside (kept_y s ps c)) ((sound-sheet s ps a).limits j (kept-below s ps j h)) in
         (within-limit (kept_x s ps c) l.0, within-limit (kept_y s ps c) l.1)
 
 -- ---- kept points alike
@@ -333,14 +334,15 @@ module _ (move : Cell → Cell) (apart : (c e : Cell) → move c ≡ move e → 
       by-cell t qs order' m e ∙ ap (predicted_in t qs) q ∙ predicted-alike s t ps qs order order' alike same (cell_of (get_or ps k nowhere)) ∙ sym (by-cell s ps order k d)
 
 pub kept-alone : KeptAlonePromise
-kept-alone file other room size s t ps qs b c e f same = same-fills (λ (c : Cell). c) (λ c d q. q) (λ o c. refl) s t ps qs (accepted-order file room s ps b e) (accepted-order other size t qs c f) same
+kept-alone s t ps qs a b same = same-fills (λ (c : Cell). c) (λ c d q. q) (λ o c. refl) s t ps qs (sound-sheet s ps a).order (sound-sheet t qs b).order same
+
+-- cells that are one when both are moved were one
+moved-apart : (i j : ℤ) (c d : Cell) → moved i j c ≡ moved i j d → c ≡ d
+moved-apart i j c d q = coincide-true c d (sym (rw (agree-moved c.u d.u i, agree-moved c.v d.v j)) ∙ coincide-same (moved i j c) (moved i j d) q)
 
 pub kept-moved : KeptMovedPromise
-kept-moved file other room size s t ps qs b c e f same i j = same-fills (moved i j) apart step s t ps qs (accepted-order file room s ps b e) (accepted-order other size t qs c f) same
+kept-moved s t ps qs a b same i j = same-fills (moved i j) (moved-apart i j) step s t ps qs (sound-sheet s ps a).order (sound-sheet t qs b).order same
   where
-    apart : (c d : Cell) → moved i j c ≡ moved i j d → c ≡ d
-    apart c d q = coincide-true c d (sym (rw (agree-moved c.u d.u i, agree-moved c.v d.v j)) ∙ coincide-same (moved i j c) (moved i j d) q)
-
     step : (o : Offset) (c : Cell) → offset_by o (moved i j c) ≡ moved i j (offset_by o c)
     step o c = let d = offset_by o c in sym (coincide-true (moved i j d) (offset_by o (moved i j c)) (offset-moved i j o c d ∙ coincide-same d d refl))
 
@@ -357,12 +359,15 @@ fills-stay s ps qs size view same =
     marked : (k : ℕ) → k < length ps → eqb (marks_in s qs k) 0 ≡ eqb (marks_in s ps k) 0
     marked k h = rw (lt-ltb k (length qs) (omega arith), lt-ltb k (length ps) h) at (same k)
 
+pub moved-along-fills : MovedFillsPromise
+moved-along-fills x a b s ps m =
+    let r = moved-marks x a b s ps m in
+    let n = r.along in
+    let stay = fills-stay s ps n.points n.size (view-moved a b ps n.points n.size n.along) in
+    record { along = n; kept = stay; same = λ h. stay (r.kept h) }
+
 pub moved-fills : OffsetFillsPromise
-moved-fills file other a b bf bo o room in-range s ps e =
-    let r = moved-sheet file other a b bf bo o room in-range s ps e in
-    let m = r.along in
-    let stay = fills-stay s ps m.points m.size (view-moved a b ps m.points m.size m.along) in
-    record { along = m; kept = stay; same = λ h. stay (r.kept h) }
+moved-fills file other a b bf bo o room in-range s ps e = moved-along-fills (ruling_of other room) a b s ps (moved-sheet file other a b bf bo o room in-range s ps e).along
 
 pub moved-file-fills : MovedFileFillsPromise
 moved-file-fills file a b bytes room s ps e in-range =

@@ -1,5 +1,5 @@
 -- Weak ends, of every accepted sheet: what is left, what was removed, and the rounds. Assumes nothing.
-use Rattle.std.specs.Prelude.{is_some}
+use Rattle.std.specs.List.{list_any}
 use mathlib.Core.Path.{◌≡◌, refl, sym, ap, ◌∙◌}
 use mathlib.Core.Bool.{Bool, true, false, not, ◌&&◌, true≢false}
 use mathlib.Core.List.{List, [], ◌∷◌}
@@ -30,16 +30,15 @@ use Rattle.grid.specs.InOrder.{CellOrder}
 use Rattle.grid.specs.Views.{view_of}
 use Rattle.grid.proofs.Alike.{one_index}
 use Rattle.grid.proofs.InOrder.{near-means, near-found}
-use Rattle.sheet_file.specs.Frame.{layout_of}
-use Rattle.sheet_file.specs.Refusals.{fraction_of}
 use Rattle.sheet_file.specs.declared.Fraction.{Fraction}
 use Rattle.sheet_file.specs.declared.Fraction.TheVariants.{Missing, Outside, Given}
-use Rattle.sheet_file.specs.declared.Layout.{Layout}
 use Rattle.sheet_file.specs.declared.Settings.{Settings}
-use Rattle.points.specs.Refusals.{two_strengths, comes_before}
-use Rattle.ruling.specs.Ruling.{accepted, ruling_of, points_of, applies}
-use Rattle.ruling.proofs.Given.{none-applies, own-fraction}
-use Rattle.ruling.proofs.Standing.{accepted-file, accepted-order}
+use Rattle.points.specs.Refusals.{point_refusals, two_strengths, cell_order, comes_before}
+use Rattle.refusals.proofs.Laws.{holds, none-applies-in}
+use Rattle.ruling.specs.Ruling.{accepted}
+use Rattle.ruling.specs.Accepted.{AcceptedSheet}
+use Rattle.ruling.proofs.Accepted.{listed, sound-sheet}
+use Rattle.ruling.proofs.Given.{for-accepted}
 use Rattle.marks.specs.Filters.{validate, orientation, wrong, leaf, component}
 use Rattle.marks.specs.Marks.{is_set}
 use Rattle.marks.specs.Byte.{has_mark}
@@ -251,20 +250,26 @@ module _ (s : Settings) (ps : List Point) where
     unfolding view_of
     unrounded e k h = marked-is k h ∙ rounds-none view (places (sides_of s)) drops weak placed (sym rounds-are ∙ e) k h
 
--- ---- of an accepted file
+-- ---- of an accepted sheet
 
 -- "one index with different strength bits" is refused
-one-strength : (file : List ℕ) (room : ℕ) (s : Settings) (ps : List Point) → ruling_of file room ≡ accepted s ps → OneStrength ps
-unfolding applies
-one-strength file room s ps e j k a b q = go (dec_lt j k) (dec_lt k j)
+one-strength : (s : Settings) (ps : List Point) → AcceptedSheet s ps → OneStrength ps
+unfolding point_refusals
+one-strength s ps a j k below-j below-k q = go (dec_lt j k) (dec_lt k j)
   where
     at : ℕ → Point
     at i = get_or ps i nowhere
 
+    passed : (list_any holds (point_refusals s.score_frac a.points) ≡ false) × (accepted s (cell_order a.points) ≡ accepted s ps)
+    passed = for-accepted s s a.points ps (listed a.room s s a.points ps a.ruled-so).ruled-so
+
+    sorted : ps ≡ cell_order a.points
+    sorted = cc passed.1
+
     none : pair_in two_strengths (list_of (length ps) at) ≡ false
     none =
-        ap (pair_in two_strengths) (sym (is-list nowhere (length ps) at ps refl (λ k h. refl)) ∙ (accepted-file file room s ps e).points-are)
-        ∙ sym (pair-order two_strengths strength-either-way (sort-perm comes_before (points_of file))) ∙ none-applies file room e 14
+        ap (pair_in two_strengths) (sym (is-list nowhere (length ps) at ps refl (λ k h. refl)) ∙ sorted)
+        ∙ sym (pair-order two_strengths strength-either-way (sort-perm comes_before a.points)) ∙ none-applies-in (point_refusals s.score_frac a.points) passed.0 14
 
     differ : (i m : ℕ) → i < m → m < length ps → (at i).index ≡ (at m).index → (at i).strength ≡ (at m).strength
     differ i m l h q =
@@ -274,16 +279,16 @@ one-strength file room s ps e j k a b q = go (dec_lt j k) (dec_lt k j)
         (λ t. true≢false (sym (pair-yes at (length ps) two_strengths i m l h (and_from (eqb (at i).index (at m).index) (not (eqb (at i).strength (at m).strength)) (eq-eqb (at i).index (at m).index q) t)) ∙ none))))
 
     go : Dec (j < k) → Dec (k < j) → (at j).strength ≡ (at k).strength
-    go (yes l) d = differ j k l b q
-    go (no l) (yes m) = sym (differ k j m a (sym q))
+    go (yes l) d = differ j k l below-k q
+    go (no l) (yes m) = sym (differ k j m below-j (sym q))
     go (no l) (no m) = let i : j ≡ k = omega (arith, l, m) in ap (λ (i : ℕ). (at i).strength) i
 
 pub weak-ends : WeakEndsPromise
-weak-ends file room s ps b e =
-    let o = accepted-order file room s ps b e in
+weak-ends s ps a =
+    let o = (sound-sheet s ps a).order in
     record {
       left-two = two-left s ps o;
-      removed-weak = was-weak s ps o (one-strength file room s ps e);
+      removed-weak = was-weak s ps o (one-strength s ps a);
       not-validate = no-validate s ps o;
       not-orientation = no-orientation s ps o;
       not-wrong = no-wrong s ps o;
@@ -293,11 +298,7 @@ weak-ends file room s ps b e =
       few-rounds = few-rounds s ps;
     }
 
--- without tag 4 there is no fraction, and no point is weak
-no_fraction : (file : List ℕ) (f : Layout) → is_some f.weights ≡ false → fraction_of file f ≡ Missing
-unfolding fraction_of
-no_fraction file f w = rw w
-
+-- without a fraction no point is weak
 no-leaves : (s : Settings) (ps : List Point) → s.score_frac ≡ Missing → length ps ≤ max_points → NoLeaves s ps
 unfolding view_of
 no-leaves s ps x few =
@@ -308,7 +309,4 @@ no-leaves s ps x few =
     }
 
 pub unweighed : UnweighedPromise
-unweighed file room s ps b e w =
-    let k = accepted-file file room s ps e in
-    let x : s.score_frac ≡ Missing = ap (λ (t : Settings). t.score_frac) k.settings-are ∙ own-fraction file (layout_of file) ∙ no_fraction file (layout_of file) w in
-    no-leaves s ps x (accepted-order file room s ps b e).few
+unweighed s ps a x = no-leaves s ps x (sound-sheet s ps a).order.few

@@ -5,6 +5,7 @@ pub mod Tallied
 pub mod Running
 pub mod Patch
 pub mod RowMarks
+pub mod OfFile
 pub mod Moving
 pub mod MovingMap
 pub mod OnMap
@@ -18,3 +19,4 @@ pub mod Worst
 pub mod Fills
 pub mod FillCall
 pub mod Short
+pub mod Joined

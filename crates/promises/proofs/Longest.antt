@@ -21,7 +21,7 @@ use Rattle.grid.specs.InOrder.{CellOrder}
 use Rattle.grid.specs.Views.{view_of}
 use Rattle.grid.proofs.InOrder.{near-means, mirrored}
 use Rattle.sheet_file.specs.declared.Settings.{Settings}
-use Rattle.ruling.proofs.Standing.{accepted-order}
+use Rattle.ruling.proofs.Accepted.{sound-sheet}
 use Rattle.marks.proofs.Byte.{zero_is}
 use Rattle.validate.specs.Validate.{validate_mark}
 use Rattle.orientation.specs.Orientation.{orientation_mark}
@@ -106,9 +106,9 @@ module _ (s : Settings) (ps : List Point) where
     indices one h = rw (different-all any_point (index_in ps) (length ps) one) (omega (arith, bound h, tally-all (length ps)))
 
 pub longest : LongestPromise
-longest file room s ps b e =
-    let o = accepted-order file room s ps b e in
+longest s ps a =
+    let o = (sound-sheet s ps a).order in
     record { bound = bound s ps o; left = left s ps o; few = few s ps o; indices = indices s ps o }
 
 pub fewer-rounds : FewerRoundsThanPoints
-fewer-rounds file room s ps b e one none two = omega (arith, (longest file room s ps b e).bound two)
+fewer-rounds s ps a one none two = omega (arith, (longest s ps a).bound two)

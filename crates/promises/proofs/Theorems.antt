@@ -1,6 +1,5 @@
 -- The promises hold. Assumes nothing.
 use Rattle.std.specs.List.{list_any}
-use Rattle.std.specs.Prelude.{Ok}
 use mathlib.Core.Path.{◌≡◌, sym, ap, ◌∙◌}
 use mathlib.Core.Logic.{inl, inr}
 use mathlib.Core.List.{List}
@@ -21,9 +20,10 @@ use Rattle.sheet_file.specs.declared.Layout.{Layout}
 use Rattle.sheet_file.specs.declared.Settings.{Settings}
 use Rattle.points.specs.Records.{points_in}
 use Rattle.points.specs.Refusals.{off_range}
-use Rattle.ruling.specs.Ruling.{Ruling, accepted, ruling_of, applies, rows_size}
+use Rattle.ruling.specs.Ruling.{Ruling, ruling_of, applies, rows_size}
 use Rattle.ruling.proofs.Header.{frame_same}
 use Rattle.ruling.proofs.Standing.{accepted-file, accepted-order}
+use Rattle.ruling.proofs.Accepted.{sound-sheet}
 use Rattle.ruling.proofs.Order.{same-ruling}
 use Rattle.ruling.specs.Switches.{switched}
 use Rattle.ruling.proofs.Switches.{switches}
@@ -34,7 +34,7 @@ use Rattle.components.proofs.Whole.{smallest}
 use Rattle.marks.specs.Filters.{validate, orientation, wrong, leaf}
 use Rattle.marks.specs.Byte.{has_mark}
 use Rattle.judging.specs.Judging.{judged_for}
-use Rattle.kept.specs.Answer.{answer_by, rows_by, tally_by, answer_of, rows_after, tally_of}
+use Rattle.kept.specs.Answer.{counts_for, answer_by, rows_by, tally_by, answer_of, rows_after, tally_of}
 use Rattle.sheet_listing.specs.Text.{text_by, text_of}
 use Rattle.map_lines.specs.Map.{point_character, line_characters, map_of}
 use Rattle.map_lines.proofs.Characters.{first-character, no-full-stop}
@@ -56,51 +56,47 @@ use Rattle.promises.proofs.MovingMap.{ten-moved, ten-before, map-stays}
 use Rattle.promises.proofs.OnMap.{cells-apart, kept-shown, only-kept-shown}
 use Rattle.promises.specs.Tally.{TallyPromise}
 use Rattle.promises.specs.Map.{on_map, MapLinesPromise, MapPointsPromise, MapSizePromise, MapNumbersPromise, MapTextsPromise, TenAlonePromise, OffsetMapPromise, MovedFileMapPromise}
-use Rattle.promises.specs.Promises.{RanksAreCells, KeptByRows, KeptPatchPromise, ComponentCountPromise, NoCountPromise, SameResult, AnotherOrderPromise, OffsetPromise, OffsetRowsPromise, MovedFilePromise, MovedFileRowsPromise, SwitchesPromise, SwitchedRowsPromise}
+use Rattle.promises.specs.Promises.{RanksAreCells, KeptByRows, KeptPatchPromise, ComponentCountPromise, NoCountPromise, SameResult, AnotherOrderPromise, MovedMarksPromise, OffsetPromise, OffsetRowsPromise, MovedFilePromise, MovedFileRowsPromise, SwitchesPromise, SwitchedRowsPromise}
 use Rattle.std.proofs.lemmas.Bool.{and_parts}
 
 pub ranks-are-cells : RanksAreCells
-ranks-are-cells file room s ps b e i j ij jn = (accepted-order file room s ps b e).rising i j ij jn
+ranks-are-cells s ps a i j ij jn = (sound-sheet s ps a).order.rising i j ij jn
 
 pub kept-by-rows : KeptByRows
 kept-by-rows = kept-rows
 
 pub kept-patch : KeptPatchPromise
-kept-patch file room s ps b e one on =
-    let most = largest-kept s ps (accepted-order file room s ps b e) one on in
+kept-patch s ps a one on =
+    let most = largest-kept s ps (sound-sheet s ps a).order one on in
     record {
       empty = none_kept s ps;
       empty-only = all-marked s ps most;
       largest = most;
       later = λ W p t. elim (most.tie W p t) [
         | inl q ↦ inl q
-        | inr q ↦ inr (λ x y f g. ranks-are-cells file room s ps b e y x (q x y f g) (reached-below s ps (p.inner x f.member)))
+        | inr q ↦ inr (λ x y f g. ranks-are-cells s ps a y x (q x y f g) (reached-below s ps (p.inner x f.member)))
       ];
       has-smallest = λ W p. smallest (length ps) p (λ k h. reached-below s ps (p.inner k h));
     }
 
-pub answer-is : (file : List ℕ) (room : ℕ) (s : Settings) (ps : List Point) → ruling_of file room ≡ accepted s ps → answer_of file room ≡ Ok (record { points = length ps; components = (judged_for s ps).components; rounds = rounds_of s ps })
-unfolding answer_of
-answer-is file room s ps e = ap answer_by e
+-- the counts, by how many components there are
+counted : (s : Settings) (ps : List Point) {n : ℕ} → (judged_for s ps).components ≡ n → counts_for s ps ≡ record { points = length ps; components = n; rounds = rounds_of s ps }
+counted s ps e = ap (λ (c : ℕ). record { points = length ps; components = c; rounds = rounds_of s ps }) e
 
 pub component-count : ComponentCountPromise
-component-count file room s ps b e on =
-    let o = accepted-order file room s ps b e in
-    record {
-      first = roots s ps o;
-      patch = patch_of s ps o;
-      answer = answer-is file room s ps e ∙ ap (λ (c : ℕ). Ok (record { points = length ps; components = c; rounds = rounds_of s ps })) (count-on s ps o on);
-      each = all-counted s ps o;
-    }
+component-count s ps a on =
+    let o = (sound-sheet s ps a).order in
+    record { first = roots s ps o; patch = patch_of s ps o; counts = counted s ps (count-on s ps o on); each = all-counted s ps o }
 
 pub no-count : NoCountPromise
-no-count file room s ps e off = answer-is file room s ps e ∙ ap (λ (c : ℕ). Ok (record { points = length ps; components = c; rounds = rounds_of s ps })) (count-off s ps off)
+no-count s ps off = counted s ps (count-off s ps off)
 
 -- ---- the tally
 
 pub tally-by-index : TallyPromise
-unfolding tally_of
-tally-by-index file room s ps e = record { tally = ap tally_by e; counts = counts-indices s ps }
+tally-by-index = counts-indices
+
+-- ---- another order
 
 -- files that are ruled the same with every buffer have the same result
 pub same-results : (file other : List ℕ) → ((room : ℕ) → ruling_of other room ≡ ruling_of file room) → SameResult file other
@@ -118,12 +114,10 @@ same-results file other e = record {
 pub another-order : AnotherOrderPromise
 another-order file other f b e r = same-results file other (λ room. sym (same-ruling file other f b e r room))
 
-pub moved-sheet : OffsetPromise
-unfolding applies
-moved-sheet file other a b bf bo o room in-range s ps e =
-    let framed = (accepted-file file room s ps e).framed in
-    let same : layout_of file ≡ layout_of other = sym (ap layout_in (frame_same file other (layout_of file) framed (record { size = o.size; head = o.head; after = λ k l m. o.after k l }))) in
-    let m = offset file other a b bf bo o (ap (λ (f : Layout). list_any off_range (points_in other f)) same ∙ in-range) room s ps e in
+-- ---- an offset
+
+pub moved-marks : MovedMarksPromise
+moved-marks x a b s ps m =
     let v = view-moved a b ps m.points m.size m.along in
     let t = strengths-moved a b ps m.points m.size m.along in
     record {
@@ -135,6 +129,13 @@ moved-sheet file other a b bf bo o room in-range s ps e =
       rounds = λ h. (counts-stay s ps m.points m.size v t h).1;
       kept = kept-stays s ps m.points m.size v t;
     }
+
+pub moved-sheet : OffsetPromise
+unfolding applies
+moved-sheet file other a b bf bo o room in-range s ps e =
+    let framed = (accepted-file file room s ps e).framed in
+    let same : layout_of file ≡ layout_of other = sym (ap layout_in (frame_same file other (layout_of file) framed (record { size = o.size; head = o.head; after = λ k l m. o.after k l }))) in
+    moved-marks (ruling_of other room) a b s ps (offset file other a b bf bo o (ap (λ (f : Layout). list_any off_range (points_in other f)) same ∙ in-range) room s ps e)
 
 pub moved-rows : OffsetRowsPromise
 moved-rows file other buffer a b bf bo o in-range s ps e =
@@ -158,6 +159,8 @@ pub moved-file-rows : MovedFileRowsPromise
 moved-file-rows file buffer a b bytes s ps e in-range =
     let o = moved-offset file a b (length buffer) s ps e in-range in
     moved-rows file (moved_file file a b) buffer a b bytes (moved-bytes file a b bytes) o (moved-in-range file a b (length buffer) s ps e in-range) s ps e
+
+-- ---- the switches
 
 pub switched-sheet : SwitchesPromise
 switched-sheet file other b w full room s ps e =

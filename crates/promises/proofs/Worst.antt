@@ -23,6 +23,8 @@ use Rattle.marks.specs.Filters.{validate, orientation, wrong, leaf}
 use Rattle.marks.specs.Byte.{has_mark}
 use Rattle.drop_set.specs.Filters.{weak_by, point_marks}
 use Rattle.peel.specs.Peel.{peeled_of}
+use Rattle.ruling.specs.Accepted.{AcceptedSheet}
+use Rattle.ruling.proofs.Accepted.{of-file}
 use Rattle.peel_rounds.proofs.Row.{row-rounds}
 use Rattle.straight_row.proofs.Unmarked.{unmarked}
 use Rattle.worst_sheet.specs.Worst.{worst_points, worst_file}
@@ -37,7 +39,7 @@ use Rattle.promises.specs.Longest.{beforehand}
 use Rattle.promises.specs.Worst.{WorstPromise, NothingElse}
 use Rattle.promises.proofs.Leaves.{rounds-are, weak-ends}
 use Rattle.promises.proofs.Longest.{zero-before, longest}
-use Rattle.promises.proofs.Theorems.{answer-is}
+use Rattle.promises.proofs.OfFile.{answer-is}
 use Rattle.worst_sheet.proofs.Asked.{written-for, nothing-else}
 use Rattle.std.proofs.Math.Bool.{and-false}
 use Rattle.std.proofs.lemmas.Bool.{not-true}
@@ -98,8 +100,11 @@ one-neighbour survives = omega (arith, tally-four (beside survives), bit_le (bes
 pair_small : 2 ≤ max_points
 pair_small = omega arith
 
+pair_sheet : AcceptedSheet worst_settings pair
+pair_sheet = of-file (worst_file 2) 56 worst_settings pair (worst-bytes 2 pair_small) (worst-accepted 2 pair_small 56 (omega arith))
+
 pair_ends : WeakEnds worst_settings pair
-pair_ends = weak-ends (worst_file 2) 56 worst_settings pair (worst-bytes 2 pair_small) (worst-accepted 2 pair_small 56 (omega arith))
+pair_ends = weak-ends worst_settings pair pair_sheet
 
 -- without a mark of the first four filters it survives
 unmarked-survives : (m : ℕ) → has_mark validate m || (has_mark orientation m || has_mark wrong m) ≡ false → has_mark leaf m ≡ false → other_mark m ≡ false
@@ -121,7 +126,7 @@ some-round e =
 
 two-rounds : rounds_of worst_settings pair ≡ 1
 two-rounds =
-    let b = (longest (worst_file 2) 56 worst_settings pair (worst-bytes 2 pair_small) (worst-accepted 2 pair_small 56 (omega arith))).bound (omega (arith, point-count 2 pair_small)) in
+    let b = (longest worst_settings pair pair_sheet).bound (omega (arith, point-count 2 pair_small)) in
     ⊎_elim (λ (d : 0 ≡ rounds_of worst_settings pair). absurd (some-round (sym d))) (λ (l : 0 < rounds_of worst_settings pair). omega (arith, b, point-count 2 pair_small)) (eq-or-lt_of_le zero-le)
 
 -- ---- every n

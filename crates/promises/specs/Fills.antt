@@ -16,7 +16,8 @@ use Rattle.predict.specs.Predict.{opposite, side_at, prediction}
 use Rattle.predict.specs.declared.PredictedPosition.{PredictedPosition}
 use Rattle.predict.specs.Predict.{Prediction}
 use Rattle.std.specs.Prelude.{◌≡◌, Bool, true, false, not, ◌&&◌, List, ◌++◌, ℕ, ◌+◌, ◌*◌, ◌≤◌, ◌<◌, T, eqb, ltb, ℤ, Float, length, get_or, drop, Some, None, Ok, Err}
-use Rattle.ruling.specs.Ruling.{refused, accepted, ruling_of, applies}
+use Rattle.ruling.specs.Ruling.{Ruling, refused, accepted, ruling_of, applies}
+use Rattle.ruling.specs.Accepted.{AcceptedSheet}
 use Rattle.ruling.specs.Order.{Relisted}
 use Rattle.ruling.specs.Offset.{FileDisplaced, MovedAlong, moved_file, StaysInRange}
 use Rattle.drop_set.specs.Filters.{sides_of}
@@ -78,17 +79,17 @@ module _ (s : Settings) (ps : List Point) where
     -- and a position comes of such two
     pub some_pair : (k : ℕ) (p : PredictedPosition) → fill_in k ≡ Some p → (i : ℕ) × (j : ℕ) × (m : ℕ) × PairAt k i j m
 
--- of every accepted file
+-- of every accepted sheet
 abbrev pub FillsPromise : Type 0
-FillsPromise = (file : List ℕ) (room : ℕ) (s : Settings) (ps : List Point) → Bytes file → ruling_of file room ≡ accepted s ps → Fills s ps
+FillsPromise = (s : Settings) (ps : List Point) → AcceptedSheet s ps → Fills s ps
 
 -- "so at most 2"
 abbrev pub TwoPairsPromise : Type 0
-TwoPairsPromise = (file : List ℕ) (room : ℕ) (s : Settings) (ps : List Point) → Bytes file → ruling_of file room ≡ accepted s ps → (k : ℕ) (p : PredictedPosition) → fill_in s ps k ≡ Some p → p.n_axis_pairs ≤ 2
+TwoPairsPromise = (s : Settings) (ps : List Point) → AcceptedSheet s ps → (k : ℕ) (p : PredictedPosition) → fill_in s ps k ≡ Some p → p.n_axis_pairs ≤ 2
 
 -- "No fill is NaN or infinite."
 abbrev pub FiniteFillsPromise : Type 0
-FiniteFillsPromise = (file : List ℕ) (room : ℕ) (s : Settings) (ps : List Point) → Bytes file → ruling_of file room ≡ accepted s ps → (k : ℕ) (p : PredictedPosition) → fill_in s ps k ≡ Some p
+FiniteFillsPromise = (s : Settings) (ps : List Point) → AcceptedSheet s ps → (k : ℕ) (p : PredictedPosition) → fill_in s ps k ≡ Some p
     → T (finite p.x) × T (finite p.y)
 
 -- ---- what a fill depends on
@@ -110,14 +111,14 @@ abbrev pub SameFills : (Cell → Cell) → Settings → List Point → Settings 
 SameFills move s ps t qs = KeptAlike move s ps t qs
     → (k m : ℕ) → dropped_rank s ps k ≡ true → dropped_rank t qs m ≡ true → cell_of (get_or qs m nowhere) ≡ move (cell_of (get_or ps k nowhere)) → fill_in t qs m ≡ fill_in s ps k
 
--- "A fill depends on its cell, the cells of the kept points and their positions alone": of two accepted files on one lattice
+-- "A fill depends on its cell, the cells of the kept points and their positions alone": of two accepted sheets on one lattice
 abbrev pub KeptAlonePromise : Type 0
-KeptAlonePromise = (file other : List ℕ) (room size : ℕ) (s t : Settings) (ps qs : List Point) → Bytes file → Bytes other → ruling_of file room ≡ accepted s ps → ruling_of other size ≡ accepted t qs
+KeptAlonePromise = (s t : Settings) (ps qs : List Point) → AcceptedSheet s ps → AcceptedSheet t qs
     → sides_of s ≡ sides_of t → SameFills (λ (c : Cell). c) s ps t qs
 
 -- and under a whole move of the kept points
 abbrev pub KeptMovedPromise : Type 0
-KeptMovedPromise = (file other : List ℕ) (room size : ℕ) (s t : Settings) (ps qs : List Point) → Bytes file → Bytes other → ruling_of file room ≡ accepted s ps → ruling_of other size ≡ accepted t qs
+KeptMovedPromise = (s t : Settings) (ps qs : List Point) → AcceptedSheet s ps → AcceptedSheet t qs
     → sides_of s ≡ sides_of t → (a b : ℤ) → SameFills (moved a b) s ps t qs
 
 -- what the call leaves in the buffer of an accepted sheet's fills, `count` of them
@@ -154,16 +155,21 @@ FillCallPromise = (file buffer : List ℕ) → Bytes file → FillCall file buff
 -- ---- an offset
 
 -- "Under an offset as in 14.3 every point has the fill that it had, if the kept patch has moved along, as it does if the validate marks stay"
-pub record MovedFills (file : List ℕ) (room : ℕ) (a b : ℤ) (s : Settings) (ps : List Point) : Type 0 where
-  pub along : MovedAlong (ruling_of file room) a b s ps
+pub record MovedFills (x : Ruling) (a b : ℤ) (s : Settings) (ps : List Point) : Type 0 where
+  pub along : MovedAlong x a b s ps
   pub kept : ((k : ℕ) → kept_rank s along.points k ≡ kept_rank s ps k) → fills_for s along.points ≡ fills_for s ps
   pub same : ((k : ℕ) → k < length ps → has_mark validate (marks_in s along.points k) ≡ has_mark validate (marks_in s ps k)) → fills_for s along.points ≡ fills_for s ps
 
+-- of every ruling that accepts the moved points, whatever it is of
+abbrev pub MovedFillsPromise : Type 0
+MovedFillsPromise = (x : Ruling) (a b : ℤ) (s : Settings) (ps : List Point) → MovedAlong x a b s ps → MovedFills x a b s ps
+
+-- of a moved file
 abbrev pub OffsetFillsPromise : Type 0
 OffsetFillsPromise = (file other : List ℕ) (a b : ℤ) → Bytes file → Bytes other → FileDisplaced file other (layout_of file) a b
-    → (room : ℕ) → applies other room 6 ≡ false → (s : Settings) (ps : List Point) → ruling_of file room ≡ accepted s ps → MovedFills other room a b s ps
+    → (room : ℕ) → applies other room 6 ≡ false → (s : Settings) (ps : List Point) → ruling_of file room ≡ accepted s ps → MovedFills (ruling_of other room) a b s ps
 
 -- the same of the moved file itself
 abbrev pub MovedFileFillsPromise : Type 0
 MovedFileFillsPromise = (file : List ℕ) (a b : ℤ) → Bytes file → (room : ℕ) (s : Settings) (ps : List Point) → ruling_of file room ≡ accepted s ps → StaysInRange a b ps
-    → MovedFills (moved_file file a b) room a b s ps
+    → MovedFills (ruling_of (moved_file file a b) room) a b s ps

@@ -1,17 +1,16 @@
 -- What document 02, A.5, promises of weak ends, of points ps in cell order with settings s. Assumes nothing.
-use Rattle.std.specs.Prelude.{◌≡◌, Bool, true, false, ◌&&◌, List, ℕ, ◌≤◌, ◌<◌, length, get_or, is_some}
+use Rattle.std.specs.Prelude.{◌≡◌, Bool, true, false, ◌&&◌, List, ℕ, ◌≤◌, ◌<◌, length, get_or}
 use Rattle.folds.specs.Below.{some, tally}
 use Rattle.offsets.specs.Offsets.{own}
 use Rattle.cells.specs.Points.{Point, nowhere, strengths_of}
 use Rattle.cells.specs.Cell.{cell_of, coincide, offset_by}
-use Rattle.sheet_file.specs.Bytes.{Bytes}
-use Rattle.sheet_file.specs.Frame.{layout_of}
+use Rattle.sheet_file.specs.declared.Fraction.TheVariants.{Missing}
 use Rattle.sheet_file.specs.declared.Settings.{Settings}
 use Rattle.marks.specs.Filters.{validate, orientation, wrong, leaf, component}
 use Rattle.marks.specs.Marks.{is_set}
 use Rattle.marks.specs.Byte.{has_mark}
 use Rattle.drop_set.specs.Filters.{sides_of, weak_by}
-use Rattle.ruling.specs.Ruling.{accepted, ruling_of}
+use Rattle.ruling.specs.Accepted.{AcceptedSheet}
 use Rattle.promises.specs.Words.{marks_in, rounds_of, survivor}
 
 module _ (s : Settings) (ps : List Point) where
@@ -41,14 +40,15 @@ module _ (s : Settings) (ps : List Point) where
     pub none-removed : rounds_of s ps ≡ 0 → (k : ℕ) → k < length ps → has_mark leaf (marks_in s ps k) ≡ false
     pub few-rounds : rounds_of s ps ≤ length ps
 
--- of every accepted file
+-- of every accepted sheet
 abbrev pub WeakEndsPromise : Type 0
-WeakEndsPromise = (file : List ℕ) (room : ℕ) (s : Settings) (ps : List Point) → Bytes file → ruling_of file room ≡ accepted s ps → WeakEnds s ps
+WeakEndsPromise = (s : Settings) (ps : List Point) → AcceptedSheet s ps → WeakEnds s ps
 
 -- "Without tag 4 there are no such marks and zero rounds."
 pub record NoLeaves (s : Settings) (ps : List Point) : Type 0 where
   pub marks : (k : ℕ) → k < length ps → has_mark leaf (marks_in s ps k) ≡ false
   pub rounds : rounds_of s ps ≡ 0
 
+-- of every accepted sheet without a fraction, as a file without tag 4 has none (specs/OfFile.antt)
 abbrev pub UnweighedPromise : Type 0
-UnweighedPromise = (file : List ℕ) (room : ℕ) (s : Settings) (ps : List Point) → Bytes file → ruling_of file room ≡ accepted s ps → is_some (layout_of file).weights ≡ false → NoLeaves s ps
+UnweighedPromise = (s : Settings) (ps : List Point) → AcceptedSheet s ps → s.score_frac ≡ Missing → NoLeaves s ps

@@ -1,4 +1,5 @@
 pub mod Words
+pub mod OfFile
 pub mod Promises
 pub mod Map
 pub mod Tally
@@ -9,3 +10,4 @@ pub mod Longest
 pub mod Worst
 pub mod Fills
 pub mod Short
+pub mod Joined

@@ -2,11 +2,10 @@
 use Rattle.std.specs.Prelude.{◌≡◌, Bool, false, not, ◌||◌, List, ℕ, ◌+◌, ◌-◌, ◌≤◌, ◌<◌, length}
 use Rattle.folds.specs.Below.{tally}
 use Rattle.cells.specs.Points.{Point}
-use Rattle.sheet_file.specs.Bytes.{Bytes}
 use Rattle.sheet_file.specs.declared.Settings.{Settings}
 use Rattle.marks.specs.Filters.{validate, orientation, wrong}
 use Rattle.marks.specs.Byte.{has_mark}
-use Rattle.ruling.specs.Ruling.{accepted, ruling_of}
+use Rattle.ruling.specs.Accepted.{AcceptedSheet}
 use Rattle.promises.specs.Words.{DistinctIndices, marks_in, rounds_of}
 use Rattle.promises.specs.Tally.{different, any_point, index_in}
 
@@ -28,11 +27,10 @@ module _ (s : Settings) (ps : List Point) where
     -- of the different indices, where none repeats
     pub indices : DistinctIndices ps → 2 ≤ length ps → rounds_of s ps + 1 ≤ different any_point (index_in ps) (length ps)
 
--- of every accepted file
+-- of every accepted sheet
 abbrev pub LongestPromise : Type 0
-LongestPromise = (file : List ℕ) (room : ℕ) (s : Settings) (ps : List Point) → Bytes file → ruling_of file room ≡ accepted s ps → Longest s ps
+LongestPromise = (s : Settings) (ps : List Point) → AcceptedSheet s ps → Longest s ps
 
 -- "Among sheets without repeated indices where nothing was dropped beforehand, the removing rounds number at most n − 1", with n from 2
 abbrev pub FewerRoundsThanPoints : Type 0
-FewerRoundsThanPoints = (file : List ℕ) (room : ℕ) (s : Settings) (ps : List Point) → Bytes file → ruling_of file room ≡ accepted s ps
-    → DistinctIndices ps → ((k : ℕ) → k < length ps → beforehand s ps k ≡ false) → 2 ≤ length ps → rounds_of s ps ≤ length ps - 1
+FewerRoundsThanPoints = (s : Settings) (ps : List Point) → AcceptedSheet s ps → DistinctIndices ps → ((k : ℕ) → k < length ps → beforehand s ps k ≡ false) → 2 ≤ length ps → rounds_of s ps ≤ length ps - 1

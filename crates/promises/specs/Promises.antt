@@ -1,6 +1,7 @@
 -- Demand 3: what documents 01 and 02 promise of an accepted, rearranged, moved or switched sheet. Each promise is a type; proofs/Theorems.antt proves
--- them of the definitions that the call is proved equal to. Assumes nothing.
-use Rattle.std.specs.Prelude.{◌≡◌, Bool, true, false, ◌&&◌, ◌⊎◌, List, ℕ, ◌<◌, eqb, ltb, ℤ, length, get_or, Some, Ok}
+-- them of the definitions that the call is proved equal to. What is promised of points and settings is promised of every accepted sheet, whatever
+-- it was read or made of; specs/OfFile.antt says what makes a file's sheet one. Assumes nothing.
+use Rattle.std.specs.Prelude.{◌≡◌, Bool, true, false, ◌&&◌, ◌⊎◌, List, ℕ, ◌<◌, eqb, ltb, ℤ, length, get_or, Some}
 use Rattle.folds.specs.Below.{tally}
 use Rattle.cells.specs.Points.{Point, nowhere}
 use Rattle.cells.specs.Cell.{cell_of, before}
@@ -9,28 +10,29 @@ use Rattle.sheet_file.specs.Frame.{framing_of, layout_of}
 use Rattle.sheet_file.specs.declared.Layout.{Layout}
 use Rattle.sheet_file.specs.declared.Settings.{Settings}
 use Rattle.components.specs.WholePatches.{WholePatch, Smallest, KeptPatch, PatchesCounted}
-use Rattle.ruling.specs.Ruling.{accepted, ruling_of, applies}
+use Rattle.ruling.specs.Ruling.{Ruling, accepted, ruling_of, applies}
+use Rattle.ruling.specs.Accepted.{AcceptedSheet}
 use Rattle.ruling.specs.Order.{Relisted}
 use Rattle.ruling.specs.Switches.{Switched}
 use Rattle.ruling.specs.Offset.{FileDisplaced, MovedAlong, moved_file, StaysInRange}
 use Rattle.marks.specs.Filters.{validate, orientation, wrong, leaf}
 use Rattle.marks.specs.Byte.{has_mark}
-use Rattle.kept.specs.Answer.{answer_of, rows_after, tally_of}
+use Rattle.kept.specs.Answer.{counts_for, answer_of, rows_by, rows_after, tally_of}
 use Rattle.sheet_listing.specs.Text.{text_of}
 use Rattle.sheet_map.specs.Text.{map_text_of}
 use Rattle.sheet_fills.specs.Answer.{fill_answer_of, fills_after}
-use Rattle.promises.specs.Words.{DistinctIndices, marks_in, rounds_of, has_other, survivor, joined, kept_rank, marks_byte}
+use Rattle.promises.specs.Words.{DistinctIndices, marks_in, rounds_of, has_other, survivor, joined, kept_rank, marks_shown, marks_byte}
 
 -- ---- ranks, and the rows
 
 -- "Cells are ordered as the rows are": a smaller rank is an earlier cell
 abbrev pub RanksAreCells : Type 0
-RanksAreCells = (file : List ℕ) (room : ℕ) (s : Settings) (ps : List Point) → Bytes file → ruling_of file room ≡ accepted s ps → (i j : ℕ) → i < j → j < length ps
+RanksAreCells = (s : Settings) (ps : List Point) → AcceptedSheet s ps → (i j : ℕ) → i < j → j < length ps
     → before (cell_of (get_or ps i nowhere)) (cell_of (get_or ps j nowhere)) ≡ true
 
--- "On any accepted sheet the kept patch is the points whose row has no mark": the ranks with 0 in the first byte of the row
+-- "On any accepted sheet the kept patch is the points whose row has no mark": the ranks with 0 in the first byte of the row, in any buffer
 abbrev pub KeptByRows : Type 0
-KeptByRows = (file buffer : List ℕ) (s : Settings) (ps : List Point) → ruling_of file (length buffer) ≡ accepted s ps → (k : ℕ) → kept_rank s ps k ≡ ltb k (length ps) && eqb (marks_byte file buffer k) 0
+KeptByRows = (buffer : List ℕ) (s : Settings) (ps : List Point) (k : ℕ) → kept_rank s ps k ≡ ltb k (length ps) && eqb (marks_shown (rows_by buffer (accepted s ps)) k) 0
 
 -- ---- (a) the kept patch
 
@@ -46,21 +48,21 @@ pub record LargestPatch (s : Settings) (ps : List Point) : Type 0 where
   pub has-smallest : (W : ℕ → Bool) → WholePatch (survivor s ps) (joined s ps) W → (x : ℕ) × Smallest W x
 
 abbrev pub KeptPatchPromise : Type 0
-KeptPatchPromise = (file : List ℕ) (room : ℕ) (s : Settings) (ps : List Point) → Bytes file → ruling_of file room ≡ accepted s ps → DistinctIndices ps → s.apply_largest_component ≡ true → LargestPatch s ps
+KeptPatchPromise = (s : Settings) (ps : List Point) → AcceptedSheet s ps → DistinctIndices ps → s.apply_largest_component ≡ true → LargestPatch s ps
 
 -- "with the switch on, the component count is how many whole patches there are": one for each rank that `first` picks, whose patch is `patch`
-pub record PatchCount (file : List ℕ) (room : ℕ) (s : Settings) (ps : List Point) : Type 0 where
+pub record PatchCount (s : Settings) (ps : List Point) : Type 0 where
   pub first : ℕ → Bool
   pub patch : ℕ → ℕ → Bool
-  pub answer : answer_of file room ≡ Ok (record { points = length ps; components = tally first (length ps); rounds = rounds_of s ps })
+  pub counts : counts_for s ps ≡ record { points = length ps; components = tally first (length ps); rounds = rounds_of s ps }
   pub each : PatchesCounted (survivor s ps) (joined s ps) (length ps) first patch
 
 abbrev pub ComponentCountPromise : Type 0
-ComponentCountPromise = (file : List ℕ) (room : ℕ) (s : Settings) (ps : List Point) → Bytes file → ruling_of file room ≡ accepted s ps → s.apply_largest_component ≡ true → PatchCount file room s ps
+ComponentCountPromise = (s : Settings) (ps : List Point) → AcceptedSheet s ps → s.apply_largest_component ≡ true → PatchCount s ps
 
 -- "With the switch off the count is 0."
 abbrev pub NoCountPromise : Type 0
-NoCountPromise = (file : List ℕ) (room : ℕ) (s : Settings) (ps : List Point) → ruling_of file room ≡ accepted s ps → s.apply_largest_component ≡ false → answer_of file room ≡ Ok (record { points = length ps; components = 0; rounds = rounds_of s ps })
+NoCountPromise = (s : Settings) (ps : List Point) → s.apply_largest_component ≡ false → counts_for s ps ≡ record { points = length ps; components = 0; rounds = rounds_of s ps }
 
 -- ---- (b) another order
 
@@ -84,11 +86,11 @@ AnotherOrderPromise = (file other : List ℕ) (f : Layout) → Bytes file → fr
 
 -- ---- (c) an offset
 
--- The moved file is accepted, its points are the old ones at their moved cells and no others, and each has the same orientation and
--- wrong-label marks; if each has the same validate mark too, each has the same marks, "A whole move keeps L if the earlier marks hold", with as
--- many rounds, and "the kept patch has moved along".
-pub record MovedMarks (file : List ℕ) (room : ℕ) (a b : ℤ) (s : Settings) (ps : List Point) : Type 0 where
-  pub along : MovedAlong (ruling_of file room) a b s ps
+-- This ruling accepts, its points are the old ones at their moved cells and no others, and each has the same orientation and wrong-label marks;
+-- if each has the same validate mark too, each has the same marks, "A whole move keeps L if the earlier marks hold", with as many rounds, and
+-- "the kept patch has moved along".
+pub record MovedMarks (x : Ruling) (a b : ℤ) (s : Settings) (ps : List Point) : Type 0 where
+  pub along : MovedAlong x a b s ps
   pub orientation : (k : ℕ) → k < length ps → has_mark orientation (marks_in s along.points k) ≡ has_mark orientation (marks_in s ps k)
   pub wrong : (k : ℕ) → k < length ps → has_mark wrong (marks_in s along.points k) ≡ has_mark wrong (marks_in s ps k)
   pub same : ((k : ℕ) → k < length ps → has_mark validate (marks_in s along.points k) ≡ has_mark validate (marks_in s ps k)) → (k : ℕ) → marks_in s along.points k ≡ marks_in s ps k
@@ -96,10 +98,14 @@ pub record MovedMarks (file : List ℕ) (room : ℕ) (a b : ℤ) (s : Settings) 
   pub rounds : ((k : ℕ) → k < length ps → has_mark validate (marks_in s along.points k) ≡ has_mark validate (marks_in s ps k)) → rounds_of s along.points ≡ rounds_of s ps
   pub kept : ((k : ℕ) → k < length ps → has_mark validate (marks_in s along.points k) ≡ has_mark validate (marks_in s ps k)) → (k : ℕ) → kept_rank s along.points k ≡ kept_rank s ps k
 
--- "In range means that the condition of number 6 fails."
+-- of every ruling that accepts the moved points, whatever it is of
+abbrev pub MovedMarksPromise : Type 0
+MovedMarksPromise = (x : Ruling) (a b : ℤ) (s : Settings) (ps : List Point) → MovedAlong x a b s ps → MovedMarks x a b s ps
+
+-- of a moved file: "In range means that the condition of number 6 fails."
 abbrev pub OffsetPromise : Type 0
 OffsetPromise = (file other : List ℕ) (a b : ℤ) → Bytes file → Bytes other → FileDisplaced file other (layout_of file) a b
-    → (room : ℕ) → applies other room 6 ≡ false → (s : Settings) (ps : List Point) → ruling_of file room ≡ accepted s ps → MovedMarks other room a b s ps
+    → (room : ℕ) → applies other room 6 ≡ false → (s : Settings) (ps : List Point) → ruling_of file room ≡ accepted s ps → MovedMarks (ruling_of other room) a b s ps
 
 -- the same, of the rows in one buffer: the orientation and wrong-label marks stay; if the validate marks stay too, all marks do, and so do the
 -- counts of points, of components and of rounds
@@ -117,7 +123,7 @@ OffsetRowsPromise = (file other buffer : List ℕ) (a b : ℤ) → Bytes file �
 -- offset in range
 abbrev pub MovedFilePromise : Type 0
 MovedFilePromise = (file : List ℕ) (a b : ℤ) → Bytes file → (room : ℕ) (s : Settings) (ps : List Point) → ruling_of file room ≡ accepted s ps → StaysInRange a b ps
-    → MovedMarks (moved_file file a b) room a b s ps
+    → MovedMarks (ruling_of (moved_file file a b) room) a b s ps
 
 abbrev pub MovedFileRowsPromise : Type 0
 MovedFileRowsPromise = (file buffer : List ℕ) (a b : ℤ) → Bytes file → (s : Settings) (ps : List Point) → ruling_of file (length buffer) ≡ accepted s ps

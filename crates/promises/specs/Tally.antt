@@ -1,16 +1,13 @@
--- "One printed corner, one count": what the tally of every accepted sheet counts. Assumes nothing.
+-- "One printed corner, one count": what the tally of every sheet counts. Assumes nothing.
 use Rattle.std.specs.Prelude.{◌≡◌, Bool, true, not, ◌&&◌, List, [], ◌∷◌, ℕ, ◌+◌, ◌≤◌, ◌<◌, eqb, length, get_or}
-use Rattle.std.proofs.Math.Option as option
 use Rattle.folds.specs.Below.{some, tally}
 use Rattle.folds.specs.Lists.{list_of}
 use Rattle.cells.specs.Points.{Point, nowhere}
 use Rattle.sheet_file.specs.declared.Settings.{Settings}
-use Rattle.ruling.specs.Ruling.{accepted, ruling_of}
 use Rattle.marks.specs.Filters.{filter_count}
 use Rattle.marks.specs.Byte.{first_mark}
 use Rattle.marks.specs.Tally.{is_under}
 use Rattle.judging.specs.Judging.{judged_for}
-use Rattle.kept.specs.Answer.{tally_of}
 use Rattle.promises.specs.Words.{DistinctIndices, marks_in}
 
 -- how many different numbers f k there are, of the k below n that pass q: each is counted at the first such k that has it
@@ -51,10 +48,6 @@ pub record CountsIndices (s : Settings) (ps : List Point) : Type 0 where
   -- on a sheet without repeated indices it is the old count
   pub as_before : DistinctIndices ps → (judged_for s ps).tally ≡ point_counts (length ps) (judged_for s ps).marks
 
--- the tally of every accepted file is so, whatever the buffer
-pub record FileTally (file : List ℕ) (room : ℕ) (s : Settings) (ps : List Point) : Type 0 where
-  pub tally : tally_of file room ≡ option.some (judged_for s ps).tally
-  pub counts : CountsIndices s ps
-
+-- of every sheet
 abbrev pub TallyPromise : Type 0
-TallyPromise = (file : List ℕ) (room : ℕ) (s : Settings) (ps : List Point) → ruling_of file room ≡ accepted s ps → FileTally file room s ps
+TallyPromise = (s : Settings) (ps : List Point) → CountsIndices s ps

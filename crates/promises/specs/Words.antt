@@ -43,6 +43,10 @@ module _ (s : Settings) (ps : List Point) where
   abbrev pub kept_rank : ℕ → Bool
   kept_rank k = ltb k (length ps) && eqb (marks_in k) 0
 
--- the first of the bytes of row k: "Byte 0: marks"
+-- the first of the bytes of row k, where these are the rows: "Byte 0: marks"
+abbrev pub marks_shown : List ℕ → ℕ → ℕ
+marks_shown rows k = get_or rows (row_size * k) 0
+
+-- of the rows that the call leaves in a buffer
 abbrev pub marks_byte : List ℕ → List ℕ → ℕ → ℕ
-marks_byte file buffer k = get_or (rows_after file buffer) (row_size * k) 0
+marks_byte file buffer k = marks_shown (rows_after file buffer) k

@@ -39,7 +39,7 @@ pub struct RecordedFills {
 }
 
 // Bytes that are missing are 0.
-fn read_word<R: Read>(input: &mut R) -> u32 {
+pub fn read_word<R: Read>(input: &mut R) -> u32 {
     let mut bytes = [0u8; 4];
     let _ = input.read_exact(&mut bytes);
     u32::from_le_bytes(bytes)

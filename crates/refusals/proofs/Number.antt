@@ -9,12 +9,12 @@ use lib.ListN.{get_or}
 use Rattle.std.proofs.Common.{Result, Ok, Err}
 use Rattle.std.specs.Result.{IsErrAnd}
 use Rattle.refusals.specs.declared.Refusal.{Refusal}
-use Rattle.refusals.specs.declared.Refusal.TheVariants.{Misframed, TooManyPoints, ShortBuffer, BadSwitch, BadSetting, BadCell, BadPosition, RepeatedCell, TwoPositions, MapTooWide, RunFull, StrengthsLength, BadStrength, TwoStrengths}
+use Rattle.refusals.specs.declared.Refusal.TheVariants.{Misframed, TooManyPoints, ShortBuffer, BadSwitch, BadSetting, BadCell, BadPosition, RepeatedCell, TwoPositions, MapTooWide, RunFull, StrengthsLength, BadStrength, TwoStrengths, HighIndex, BadMove, UnlikeHalves}
 use Rattle.refusals.specs.Number.{refusal_number, numbered}
 
 -- the refusals by their numbers from 1 on
 abbrev by-number : List Refusal
-by-number = Misframed ∷ TooManyPoints ∷ ShortBuffer ∷ BadSwitch ∷ BadSetting ∷ BadCell ∷ BadPosition ∷ RepeatedCell ∷ TwoPositions ∷ MapTooWide ∷ RunFull ∷ StrengthsLength ∷ BadStrength ∷ TwoStrengths ∷ []
+by-number = Misframed ∷ TooManyPoints ∷ ShortBuffer ∷ BadSwitch ∷ BadSetting ∷ BadCell ∷ BadPosition ∷ RepeatedCell ∷ TwoPositions ∷ MapTooWide ∷ RunFull ∷ StrengthsLength ∷ BadStrength ∷ TwoStrengths ∷ HighIndex ∷ BadMove ∷ UnlikeHalves ∷ []
 
 abbrev with_number : ℕ → Refusal
 with_number zero = Misframed
@@ -35,6 +35,9 @@ back RunFull = refl
 back StrengthsLength = refl
 back BadStrength = refl
 back TwoStrengths = refl
+back HighIndex = refl
+back BadMove = refl
+back UnlikeHalves = refl
 
 -- two refusals with one number are one
 pub one-refusal : (a b : Refusal) → refusal_number a ≡ refusal_number b → a ≡ b
@@ -66,6 +69,9 @@ above-zero RunFull = refl
 above-zero StrengthsLength = refl
 above-zero BadStrength = refl
 above-zero TwoStrengths = refl
+above-zero HighIndex = refl
+above-zero BadMove = refl
+above-zero UnlikeHalves = refl
 
 -- a refusal that is handed on
 pub handed-on : {T : Type 0} (r : Result T Refusal) (e : Refusal) → IsErrAnd r (λ (d : Refusal). d ≡ e) → numbered r ≡ Err (refusal_number e)

@@ -22,6 +22,9 @@ pub enum Refusal {
     StrengthsLength = 12,
     BadStrength = 13,
     TwoStrengths = 14,
+    HighIndex = 15,
+    BadMove = 16,
+    UnlikeHalves = 17,
 }
 
 impl Refusal {

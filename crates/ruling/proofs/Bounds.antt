@@ -28,7 +28,7 @@ module _ (file : List ℕ) (room : ℕ) where
       let g = is-given file room 3 e in
       omega (arith, ltb-true room (28 * (layout_of file).count) g.holding, ltb-false max_points (layout_of file).count (g.earlier 2))
 
-bytes_cut : (file : List ℕ) (n : ℕ) → Bytes file → Bytes (take n file)
+pub bytes_cut : (file : List ℕ) (n : ℕ) → Bytes file → Bytes (take n file)
 bytes_cut file n b k = go (dec_lt k n)
   where
     go : Dec (k < n) → get_or (take n file) k 0 < 256

@@ -47,7 +47,7 @@ module _ (ps : List Point) (o : Sound ps) where
   unfolding strengths_of
   finite-strengths k h = rw (column-at max_points nan (length ps) (λ (k : ℕ). f32 (get_or ps k nowhere).strength) k h) (inside-finite _ (o.strengths k h))
 
-  arrays-ready : {n : ℕ} {t : Table} → n ≡ length ps → Tabled ps t → Arrays n t.keys t.x t.y t.strength
+  pub arrays-ready : {n : ℕ} {t : Table} → n ≡ length ps → Tabled ps t → Arrays n t.keys t.x t.y t.strength
   arrays-ready size h = record {
     keyed = rw (size, h.keys-are) (keys-ready ps o.order);
     finite-x = rw (size, h.xs-are) finite-xs;

@@ -5,6 +5,7 @@ pub mod Parts
 pub mod Numbered
 pub mod Header
 pub mod Standing
+pub mod Accepted
 pub mod Columns
 pub mod Order
 pub mod Offset

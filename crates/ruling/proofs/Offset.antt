@@ -37,7 +37,8 @@ use Rattle.ruling.specs.Offset.{Displaced, AllDisplaced, FileDisplaced, MovedAlo
 use Rattle.ruling.proofs.Given.{for-accepted, in-file}
 use Rattle.ruling.proofs.Header.{carried, strengths-alike}
 use Rattle.ruling.proofs.Numbered.{first_numbers, numbers-below, any_same, pair_same, sorted-by-number}
-use Rattle.ruling.proofs.Standing.{Words, all-in-range, none_apart, words-in, accepted-file}
+use Rattle.ruling.specs.Accepted.{Words}
+use Rattle.ruling.proofs.Standing.{all-in-range, none_apart, words-in, accepted-file}
 use Rattle.folds.proofs.Below.{ltb_as}
 
 -- ---- of a list of points

@@ -29,11 +29,12 @@ use Rattle.points.proofs.Located.{point-same}
 use Rattle.ruling.specs.Ruling.{refused, accepted, ruling_for, ruling_of}
 use Rattle.ruling.specs.Order.{bytes_at, record_of, records_in, Relisted}
 use Rattle.ruling.proofs.Header.{same-headed, frame_same, carried}
-use Rattle.ruling.proofs.Standing.{Words, cell-either-way, none_apart, one-order, words-in}
+use Rattle.ruling.specs.Accepted.{Words}
+use Rattle.ruling.proofs.Standing.{cell-either-way, none_apart, one-order, words-in}
 
 -- ---- of a list of points
 
-position-either-way : (p q : Point) → two_positions p q ≡ two_positions q p
+pub position-either-way : (p q : Point) → two_positions p q ≡ two_positions q p
 position-either-way p q = rw (eqb_swap p.index q.index, eqb_swap p.x q.x, eqb_swap p.y q.y)
 
 pub strength-either-way : (p q : Point) → two_strengths p q ≡ two_strengths q p

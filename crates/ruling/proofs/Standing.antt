@@ -37,6 +37,7 @@ use Rattle.points.specs.Refusals.{point_refusals, off_range, off_limit, off_stre
 use Rattle.points.proofs.Neighbours.{eqb_swap}
 use Rattle.points.proofs.Clashes.{Ranged, ranged, cells-by-key}
 use Rattle.points.proofs.Located.{length-points}
+use Rattle.ruling.specs.Accepted.{Words}
 use Rattle.ruling.specs.Ruling.{accepted, ruling_for, ruling_of, points_of, applies}
 use Rattle.ruling.proofs.Given.{for-accepted, none-applies, is-accepted, in-file}
 use Rattle.ruling.proofs.Numbered.{sorted-by-number}
@@ -69,15 +70,6 @@ pub cell-either-way : (p q : Point) → same_cell p q ≡ same_cell q p
 cell-either-way p q = rw (eqb_swap p.u q.u, eqb_swap p.v q.v)
 
 -- ---- of a list of points
-
--- "each point is u i32, v i32, index u32, x f32, y f32"; "one strength f32 per point": its words are patterns of 32 bits
-pub record Words (p : Point) : Type 0 where
-  pub u : p.u < 2 ^ 32
-  pub v : p.v < 2 ^ 32
-  pub index : p.index < 2 ^ 32
-  pub x : p.x < 2 ^ 32
-  pub y : p.y < 2 ^ 32
-  pub strength : p.strength < 2 ^ 32
 
 pub all-in-range : (ps : List Point) → All Words ps → list_any off_range ps ≡ false → All Ranged ps
 all-in-range [] h e = tt

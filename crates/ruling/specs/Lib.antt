@@ -1,4 +1,5 @@
 pub mod Ruling
+pub mod Accepted
 pub mod Arrays
 pub mod Sheet
 pub mod Header

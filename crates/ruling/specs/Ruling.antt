@@ -1,11 +1,11 @@
 -- The ruling on a list of points with settings, and on a file and the length of a result buffer: refused with a number, or accepted with the
 -- settings and the points in cell order. Assumes nothing.
-use Rattle.std.specs.Prelude.{Bool, List, [], ◌∷◌, ◌++◌, ℕ, ◌*◌}
+use Rattle.std.specs.Prelude.{Bool, List, [], ◌∷◌, ◌++◌, ℕ, ◌*◌, length}
 use Rattle.refusals.specs.First.{Condition, ruled, applies_in}
 use Rattle.view.specs.View.{max_points}
 use Rattle.cells.specs.Points.{Point}
 use Rattle.sheet_file.specs.Frame.{framing_of, layout_of}
-use Rattle.sheet_file.specs.Refusals.{settings_of, header_refusals}
+use Rattle.sheet_file.specs.Refusals.{settings_of, too_many, too_short, header_refusals}
 use Rattle.sheet_file.specs.declared.Settings.{Settings}
 use Rattle.points.specs.Records.{points_in}
 use Rattle.points.specs.Refusals.{point_refusals, cell_order}
@@ -18,6 +18,11 @@ pub data Ruling : Type 0 where
 unfoldable pub ruling_for : Settings → List Point → Ruling
 unfolding point_refusals
 ruling_for s ps = ruled refused (accepted s (cell_order ps)) (point_refusals s.score_frac ps)
+
+-- and with the length of a result buffer: by how many points there are, and then by the points. The numbers 1, 12, 4 and 5 are of bytes alone: where none of them applies, the ruling on a file is that on its points (`by-list`).
+unfoldable pub ruling_in : ℕ → Settings → List Point → Ruling
+unfolding ruling_for
+ruling_in room s ps = ruled refused (ruling_for s ps) ((2, too_many (length ps)) ∷ (3, too_short room (length ps)) ∷ [])
 
 -- the points of a file, as it lists them
 abbrev pub points_of : List ℕ → List Point

@@ -94,12 +94,12 @@ abbrev pub misfit : Layout → Bool
 misfit f = is_some f.weights && not (eqb (weights_of f).len (4 + 4 * f.count))
 
 -- "2. There are more than 2,048 points"; document 02, A.4, makes it 2,304
-abbrev pub too_many : Layout → Bool
-too_many f = ltb max_points f.count
+abbrev pub too_many : ℕ → Bool
+too_many count = ltb max_points count
 
 -- "3. The result buffer is shorter than 28 bytes per point."
-abbrev pub too_short : ℕ → Layout → Bool
-too_short room f = ltb room (28 * f.count)
+abbrev pub too_short : ℕ → ℕ → Bool
+too_short room count = ltb room (28 * count)
 
 -- "4. The step flag or a switch is neither 0 nor 1."
 abbrev pub no_flag : ℕ → Bool
@@ -142,8 +142,8 @@ header_refusals file room x =
     let f = layout_in x in
     (1, misframing x)
     ∷ (12, misfit f)
-    ∷ (2, too_many f)
-    ∷ (3, too_short room f)
+    ∷ (2, too_many f.count)
+    ∷ (3, too_short room f.count)
     ∷ (4, bad_flag file f)
     ∷ (5, bad_float file f)
     ∷ []

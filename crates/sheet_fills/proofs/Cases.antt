@@ -4,15 +4,18 @@ use Rattle.view.specs.View.{max_points, view_at}
 use Rattle.cells.specs.Cell.{Cell, cells_at, cells_of}
 use Rattle.grid.specs.Tables.{ranks_of}
 use Rattle.sheet_file.specs.Bytes.{Bytes}
+use Rattle.ruling.specs.Ruling.{ruling_of}
+use Rattle.ruling.specs.Accepted.{AcceptedSheet}
 use Rattle.ruling.specs.Sheet.{Ruled}
 use Rattle.ruling.specs.declared.sheet.Sheet.{Sheet}
 use Rattle.ruling.proofs.Standing.{accepted-order}
+use Rattle.ruling.proofs.Accepted.{of-file}
 use Rattle.judged.specs.Judged.{Judged}
 use Rattle.predict.specs.Fills.{fills_of}
 use Rattle.predict.specs.Predict.{Prediction}
 use Rattle.drop_set.specs.Filters.{sides_of}
 use Rattle.judging.specs.Judging.{judged_by, judged_for, fills_for}
-use Rattle.judging.proofs.Sheets.{AcceptedSheet, accepted-sheet, sheet-cells, sheet-judged, sheet-fills}
+use Rattle.judging.proofs.Sheets.{RuledSheet, ruled-sheet, sheet-cells, sheet-judged, sheet-fills}
 use Rattle.kept.proofs.Cases.{rows_fit}
 use Rattle.std.specs.Prelude.{Result, Ok}
 use Rattle.text.specs.Answer.{Shows}
@@ -37,8 +40,11 @@ module _ (file buffer : List ℕ) (bytes : Bytes file) (r : Sheet) (h : Ruled (f
   abbrev room : ℕ
   room = as_rows (length buffer)
 
-  abbrev o : AcceptedSheet file room r
-  o = accepted-sheet file room r h
+  abbrev o : RuledSheet (ruling_of file room) r
+  o = ruled-sheet (ruling_of file room) r h
+
+  abbrev standing : AcceptedSheet o.settings o.points
+  standing = of-file file room o.settings o.points bytes o.ruled
 
   -- with the table of ranks, the judged sheet and its fills
   module _ {ranks : List ℕ} (f : ranks ≡ ranks_of r.count r.table.keys r.table.idx) {j : Judged} {fills : List Prediction}
@@ -57,9 +63,9 @@ module _ (file buffer : List ℕ) (bytes : Bytes file) (r : Sheet) (h : Ruled (f
 
     same : fills_bytes (cells_at r.table.keys) j.marks fills r.count ≡ whole
     same =
-        let judged : j ≡ judged_for settings points = e ∙ sheet-judged file room r bytes o in
-        let filled : fills ≡ fills_for settings points = g ∙ sheet-fills file room r bytes o f (ap (λ (x : Judged). x.marks) judged) in
-        ap (λ (c : ℕ → Cell). fills_bytes c j.marks fills r.count) (sheet-cells file room r bytes o)
+        let judged : j ≡ judged_for settings points = e ∙ sheet-judged r settings points o.sheet standing in
+        let filled : fills ≡ fills_for settings points = g ∙ sheet-fills r settings points o.sheet standing f (ap (λ (x : Judged). x.marks) judged) in
+        ap (λ (c : ℕ → Cell). fills_bytes c j.marks fills r.count) (sheet-cells r settings points o.sheet standing)
         ∙ ap (λ (x : Judged). fills_bytes (cells_of points) x.marks fills r.count) judged
         ∙ ap (λ (l : List Prediction). fills_bytes (cells_of points) (judged_for settings points).marks l r.count) filled
         ∙ ap (fills_bytes (cells_of points) (judged_for settings points).marks (fills_for settings points)) o.sheet.count-is

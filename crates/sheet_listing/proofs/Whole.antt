@@ -1,14 +1,12 @@
 -- A buffer of listing_size bytes has room for the text of any bytes. Assumes nothing.
 use Rattle.std.proofs.Common.{Result, Ok}
-use mathlib.Core.Path.{◌≡◌, refl, ◌∙◌}
+use mathlib.Core.Path.{◌≡◌, refl}
 use mathlib.Core.List.{List}
 use Prim.{Dec, yes, no}
 use Prim.Native.Nat.{ℕ, ◌^◌, ◌≤◌, ◌<◌}
 use native.Mathlib.Decide.{dec_lt}
 use native.Mathlib.Omega.{arith}
-use lib.ListN.{length, get_or, take, drop}
-use lib.Seq.{take_all, take-append_seam}
-use borrow.Author.Tests.{le-leb}
+use lib.ListN.{length, get_or, take}
 use Rattle.folds.specs.Column.{column}
 use Rattle.folds.proofs.Column.{column-at, column-over}
 use Rattle.view.specs.View.{max_points}
@@ -19,7 +17,8 @@ use Rattle.sheet_file.specs.Bytes.{Bytes}
 use Rattle.sheet_file.specs.declared.Settings.{Settings}
 use Rattle.ruling.specs.Ruling.{Ruling, refused, accepted, ruling_of, rows_size}
 use Rattle.ruling.proofs.Given.{is-given, sheet-number}
-use Rattle.ruling.proofs.Standing.{sound, accepted-order}
+use Rattle.ruling.specs.Accepted.{AcceptedSheet}
+use Rattle.ruling.proofs.Accepted.{sound-sheet, of-file}
 use Rattle.text.specs.Answer.{Shows}
 use Rattle.text.specs.declared.NoRoom.{NoRoom}
 use Rattle.text.proofs.Stores.{refusal-length, shown-whole, shown-first}
@@ -42,13 +41,13 @@ column-small n m f z h k = go (dec_lt k n)
     go (yes l) = rw (column-at max_points 0 n f k l) (h k l)
     go (no l) = rw (column-over max_points 0 n f k (omega (arith, l))) z
 
-module _ (file : List ℕ) (b : Bytes file) (s : Settings) (ps : List Point) (e : ruling_of file rows_size ≡ accepted s ps) where
+module _ (s : Settings) (ps : List Point) (a : AcceptedSheet s ps) where
   keys-small : (k : ℕ) → get_or (keys_of ps) k 0 < 2 ^ 32
   unfolding keys_of
-  keys-small = column-small (length ps) (2 ^ 32) (λ (k : ℕ). key_of (get_or ps k nowhere)) (omega arith) (λ k h. omega (arith, key-small (get_or ps k nowhere) ((accepted-order file rows_size s ps b e).inside k h)))
+  keys-small = column-small (length ps) (2 ^ 32) (λ (k : ℕ). key_of (get_or ps k nowhere)) (omega arith) (λ k h. omega (arith, key-small (get_or ps k nowhere) ((sound-sheet s ps a).order.inside k h)))
 
   index-small : (k : ℕ) → k < length ps → (get_or ps k nowhere).index < 2 ^ 32
-  index-small k h = ((sound file rows_size s ps b e).words k h).index
+  index-small k h = ((sound-sheet s ps a).words k h).index
 
   indices-small : (k : ℕ) → get_or (indices_of ps) k 0 < 2 ^ 32
   unfolding indices_of
@@ -59,9 +58,9 @@ module _ (file : List ℕ) (b : Bytes file) (s : Settings) (ps : List Point) (e 
   unfolding fills_for
   one-digit k p q = omega (arith, fills-few (view_of ps) (sides_of s) (judged_for s ps).marks k p q)
 
-  listed-fits : length (text_by (accepted s ps)) ≤ listing_size
+  pub listed-fits : length (text_by (accepted s ps)) ≤ listing_size
   listed-fits =
-      let o = accepted-order file rows_size s ps b e in
+      let o = (sound-sheet s ps a).order in
       rw (← cells_are ps o.inside)
       (listing-fits (length ps) (keys_of ps) (indices_of ps) (judged_for s ps) (fills_for s ps) o.few (omega (arith, o.few, few-components s ps)) (omega (arith, o.few, few-rounds s ps)) (λ f. omega (arith, o.few, few-counted s ps f)) keys-small indices-small one-digit)
 
@@ -70,7 +69,7 @@ text-fits file b = rw (text-is file) (go (ruling_of file rows_size) refl)
   where
     go : (x : Ruling) → ruling_of file rows_size ≡ x → length (text_by x) ≤ listing_size
     go (refused k) e = omega (arith, refusal-length k (omega (arith, (sheet-number k (is-given file rows_size k e).listed).high)))
-    go (accepted s ps) e = listed-fits file b s ps e
+    go (accepted s ps) e = listed-fits s ps (of-file file rows_size s ps b e)
 
 -- so list_sheet, lent such a buffer, writes the text whole
 pub whole : (s before after : List ℕ) (r : Result ℕ NoRoom) → Bytes s → listing_size ≤ length before → Shows (text_of s) before after r → r ≡ Ok (length (text_of s))

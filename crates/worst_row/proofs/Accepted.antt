@@ -26,7 +26,7 @@ use Rattle.sheet_file.specs.Bytes.{Bytes}
 use Rattle.sheet_file.specs.Refusals.{defaults_with, fraction_in}
 use Rattle.points.specs.Refusals.{off_range, off_limit, off_strength, same_cell, two_positions, two_strengths, point_refusals, comes_before, cell_order}
 use Rattle.ruling.specs.Ruling.{refused, accepted, ruling_for, ruling_of}
-use Rattle.ruling.proofs.Standing.{Words}
+use Rattle.ruling.specs.Accepted.{Words}
 use Rattle.written_file.proofs.ReadBack.{ruled, spelled-bytes, bytes_back}
 use Rattle.straight_row.specs.Row.{Plain}
 use Rattle.worst_sheet.specs.Worst.{float_bits, point_at, worst_points, settings_data, worst_file}

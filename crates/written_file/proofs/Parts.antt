@@ -8,11 +8,12 @@ use lib.Seq.{get_or-append-add}
 use Rattle.folds.specs.Lists.{All}
 use Rattle.folds.proofs.Lists.{past_end}
 use Rattle.cells.specs.Points.{Point, nowhere}
-use Rattle.sheet_file.specs.Bytes.{Bytes, le32, little_endian}
-use Rattle.sheet_file.proofs.Words.{SameBytes, bytes-join, le32-same}
+use Rattle.sheet_file.specs.Bytes.{Bytes, byte_at, le32, little_endian}
+use Rattle.sheet_file.specs.Refusals.{gate_in, gate_floats}
+use Rattle.sheet_file.proofs.Words.{SameBytes, bytes-join, le32-same, same-within}
 use Rattle.points.specs.Records.{point_in}
 use Rattle.points.proofs.Located.{point-same}
-use Rattle.ruling.proofs.Standing.{Words}
+use Rattle.ruling.specs.Accepted.{Words}
 use Rattle.written_file.specs.File.{point_bytes, points_bytes, strength_bytes}
 
 -- ---- two lists
@@ -30,6 +31,19 @@ module _ (a l : List ℕ) where
 
   pub point-after : (at k w : ℕ) → at ≡ length a + k → point_in (a ++ l) at w ≡ point_in l k w
   point-after at k w e = rw e (point-same l k (a ++ l) (length a + k) w (second-part 20 k))
+
+-- tag 2 depends on its own bytes alone
+module _ (file : List ℕ) (at : ℕ) (other : List ℕ) (to : ℕ) (h : SameBytes 17 file at other to) where
+  gate-word : (j : ℕ) → j + 4 ≤ 17 → le32 other (to + j) ≡ le32 file (at + j)
+  gate-word j l = le32-same file (at + j) other (to + j) (same-within 17 file at other to h j 4 l)
+
+  pub gate-same : (gate_in other to ≡ gate_in file at) × (gate_floats other to ≡ gate_floats file at)
+  unfolding gate_in
+  gate-same =
+      let z : to + 0 ≡ to = omega arith in
+      let y : at + 0 ≡ at = omega arith in
+      let first : byte_at other to ≡ byte_at file at = rw (z, y) at (h 0 (omega arith)) in
+      rw (first, gate-word 1 (omega arith), gate-word 5 (omega arith), gate-word 9 (omega arith), gate-word 13 (omega arith)) (refl, refl)
 
 pub no_bytes : Bytes []
 no_bytes k = omega (arith, past_end {A = ℕ} 0 k)
@@ -99,6 +113,12 @@ pub strengths-there : (ps : List Point) → All Words ps → (i : ℕ) → i < l
 strengths-there [] h i b = absurd (omega arith)
 strengths-there (p ∷ ps) h zero b = word-there p.strength (strength_bytes ps) h.0.strength
 strengths-there (p ∷ ps) h (suc i) b = word_after (little_endian p.strength) (strength_bytes ps) (4 * suc i) (4 * i) (omega arith) ∙ strengths-there ps h.1 i (omega arith)
+
+-- where all are 0, each is
+pub strengths-none : (ps : List Point) → All (λ (p : Point). p.strength ≡ 0) ps → (i : ℕ) → i < length ps → (get_or ps i nowhere).strength ≡ 0
+strengths-none [] h i b = absurd (omega arith)
+strengths-none (p ∷ ps) h zero b = h.0
+strengths-none (p ∷ ps) h (suc i) b = strengths-none ps h.1 i (omega arith)
 
 pub strengths-bytes : (ps : List Point) → Bytes (strength_bytes ps)
 strengths-bytes [] = no_bytes

@@ -1,13 +1,11 @@
 -- What is read of a written file: the points and the settings that were written, and no refusal of its header. Assumes nothing.
-use Rattle.std.specs.List.{list_any}
 use Rattle.std.specs.Prelude.{None, Some}
 use mathlib.Core.Path.{◌≡◌, refl, sym, ap, ◌∙◌}
-use mathlib.Core.Bool.{false, cond}
+use mathlib.Core.Bool.{Bool, true, false, cond, true≢false}
 use mathlib.Core.Logic.{inl, inr}
 use mathlib.Core.List.{List, [], ◌∷◌, ◌++◌}
 use Prim.Native.Nat.{ℕ, zero, suc, ◌+◌, ◌*◌, ◌/◌, ◌%◌, ◌^◌, ◌≤◌, ◌<◌}
 use native.Mathlib.Omega.{arith}
-use lib.Dec.{eqb}
 use lib.ListN.{length, get_or, drop, get_or-append}
 use lib.Ieee.{Float, of_bits}
 use borrow.Author.Tests.{lt-ltb, le-ltb, eq-eqb}
@@ -15,26 +13,29 @@ use Rattle.folds.specs.Arith.{f32}
 use Rattle.folds.specs.Lists.{All}
 use Rattle.folds.proofs.Lists.{is-list}
 use Rattle.view.specs.View.{max_points}
-use Rattle.refusals.proofs.Laws.{holds, first-given, none_passes}
+use Rattle.refusals.proofs.Laws.{first-given}
 use Rattle.cells.specs.Points.{Point, nowhere}
 use Rattle.sheet_file.specs.Frame.{weights_of}
-use Rattle.sheet_file.specs.Bytes.{Bytes, byte_at, le16, le32, little_endian}
-use Rattle.sheet_file.specs.Grammar.{field}
+use Rattle.sheet_file.specs.Bytes.{Bytes, le16, le32, little_endian}
+use Rattle.sheet_file.specs.Grammar.{field, most_data}
 use Rattle.sheet_file.specs.Limit.{outside}
-use Rattle.sheet_file.specs.Refusals.{float_at, defaults_with, defaults_for, settings_in, edge_shape_of, fraction_in, fraction_of, settings_of, bad_flag, bad_float, header_refusals}
+use Rattle.sheet_file.specs.Refusals.{defaults_with, settings_in, edge_shape_of, fraction_in, fraction_of, settings_of, misfit, bad_flag, bad_float, header_refusals}
 use Rattle.sheet_file.specs.declared.Fraction.{Fraction}
+use Rattle.sheet_file.specs.declared.Fraction.TheVariants.{Missing}
 use Rattle.sheet_file.specs.declared.Layout.{Layout}
 use Rattle.sheet_file.specs.declared.Settings.{Settings}
-use Rattle.sheet_file.proofs.Words.{bytes-join, le16-same, le32-same}
-use Rattle.points.specs.Records.{point_in, ith_point, points_in}
-use Rattle.ruling.specs.Ruling.{refused, ruling_for, points_of, ruling_of}
+use Rattle.sheet_file.proofs.Words.{bytes-join}
+use Rattle.points.specs.Records.{point_in, ith_strength, ith_point, points_in}
+use Rattle.ruling.specs.Ruling.{refused, ruling_for, points_of, ruling_in, ruling_of}
 use Rattle.ruling.proofs.Given.{by-points}
+use Rattle.ruling.proofs.Accepted.{by-list}
 use Rattle.ruling.proofs.Limit.{more-refused}
-use Rattle.ruling.proofs.Standing.{Words}
+use Rattle.ruling.specs.Accepted.{Words}
 use Rattle.ruling.proofs.Weights.{bytes-by}
 use Rattle.written_file.specs.File.{points_bytes, strength_bytes, weights, spelled_out, weighed_file}
-use Rattle.written_file.proofs.Parts.{no_bytes, first_part, word_after, point-after, word-there, words-bytes, weighing, records-length, records-there, records-bytes, strengths-length, strengths-there, strengths-bytes}
-use Rattle.written_file.proofs.Framed.{SettingsSize, layout_for, written-well, framed}
+use Rattle.written_file.proofs.Parts.{no_bytes, word_after, point-after, word-there, words-bytes, weighing, records-length, records-there, records-bytes, strengths-length, strengths-there, strengths-none, strengths-bytes}
+use Rattle.written_file.proofs.Framed.{SettingsSize, Head, own-head, made, made_layout, made-well, framed}
+use Rattle.written_file.proofs.Heads.{settings_with, settings-are, Within, head-length, head-within, Begins, head-settings, head-flags, head-floats}
 
 -- the data of tag 4
 abbrev weight_data : ℕ → List Point → List ℕ
@@ -44,122 +45,91 @@ weight_data fraction ps = little_endian fraction ++ strength_bytes ps
 abbrev head_of : ℕ → List ℕ → List ℕ
 head_of tag body = tag ∷ length body % 256 ∷ length body / 256 ∷ []
 
--- the settings in the data of tag 1, with this fraction and without tag 2
-abbrev pub settings_for : List ℕ → ℕ → Settings
-settings_for settings fraction =
-    cond (eqb (length settings) 21) (settings_in (field 1 settings) None (fraction_in (f32 fraction))) (defaults_for (float_at (field 1 settings) 3) None (fraction_in (f32 fraction)))
+-- the fraction in a tag 4, if there is one
+abbrev pub fraction_for : Bool → ℕ → Fraction
+fraction_for weighed fraction = cond weighed (fraction_in (f32 fraction)) Missing
 
-module _ (settings : List ℕ) (fraction : ℕ) (ps : List Point) where
-  abbrev file : List ℕ
-  file = weighed_file settings fraction ps
+-- without tag 4 the points have no strengths
+abbrev pub Strengthless : Bool → List Point → Type 0
+Strengthless weighed ps = weighed ≡ false → All (λ (p : Point). p.strength ≡ 0) ps
 
-  abbrev f : Layout
-  f = layout_for settings ps
+module _ (head : List ℕ) (h : Head head) (fraction : ℕ) (ps : List Point) where
+  abbrev file : Bool → List ℕ
+  file weighed = made head weighed fraction ps
 
-  -- what stands after tag 1
-  abbrev rest : List ℕ
-  rest = field 3 (points_bytes ps) ++ weights fraction ps
+  abbrev f : Bool → Layout
+  f weighed = made_layout h weighed ps
+
+  -- tag 4, if there is one
+  abbrev last : Bool → List ℕ
+  last weighed = cond weighed (weights fraction ps) []
 
   -- ---- the points
 
   -- the words of tag 4
-  weight-word : (at k : ℕ) → at ≡ (weights_of f).at + k → le32 file at ≡ le32 (weight_data fraction ps) k
+  weight-word : (at k : ℕ) → at ≡ (weights_of (f true)).at + k → le32 (file true) at ≡ le32 (weight_data fraction ps) k
   weight-word at k e =
-      word_after (field 1 settings) rest at (3 + 20 * length ps + 3 + k) (omega arith)
+      word_after head (field 3 (points_bytes ps) ++ weights fraction ps) at (3 + 20 * length ps + 3 + k) (omega (arith, head-length h))
       ∙ word_after (field 3 (points_bytes ps)) (weights fraction ps) (3 + 20 * length ps + 3 + k) (3 + k) (omega (arith, records-length ps))
       ∙ word_after (head_of 4 (weight_data fraction ps)) (weight_data fraction ps) (3 + k) k refl
 
   module _ (words : All Words ps) where
-    strength-read : (i : ℕ) → i < length ps → le32 file ((weights_of f).at + 4 + 4 * i) ≡ (get_or ps i nowhere).strength
-    strength-read i h =
-        weight-word ((weights_of f).at + 4 + 4 * i) (4 + 4 * i) (omega arith)
-        ∙ word_after (little_endian fraction) (strength_bytes ps) (4 + 4 * i) (4 * i) refl ∙ strengths-there ps words i h
+    -- the strength of each point, and its record
+    strength-read : (weighed : Bool) → Strengthless weighed ps → (i : ℕ) → i < length ps → ith_strength (file weighed) (f weighed) i ≡ (get_or ps i nowhere).strength
+    strength-read true bare i l =
+        weight-word ((weights_of (f true)).at + 4 + 4 * i) (4 + 4 * i) (omega arith)
+        ∙ word_after (little_endian fraction) (strength_bytes ps) (4 + 4 * i) (4 * i) refl ∙ strengths-there ps words i l
+    strength-read false bare i l = sym (strengths-none ps (bare refl) i l)
 
-    record-read : (i w : ℕ) → i < length ps → point_in file (f.points + 20 * i) w ≡ weighing (get_or ps i nowhere) w
-    record-read i w h =
-        point-after (field 1 settings) rest (f.points + 20 * i) (3 + 20 * i) w (omega arith)
-        ∙ point-after (head_of 3 (points_bytes ps)) (points_bytes ps ++ weights fraction ps) (3 + 20 * i) (20 * i) w refl
-        ∙ records-there ps (weights fraction ps) w words i h
+    record-read : (weighed : Bool) (i w : ℕ) → i < length ps → point_in (file weighed) ((f weighed).points + 20 * i) w ≡ weighing (get_or ps i nowhere) w
+    record-read weighed i w l =
+        point-after head (field 3 (points_bytes ps) ++ last weighed) ((f weighed).points + 20 * i) (3 + 20 * i) w (omega (arith, head-length h))
+        ∙ point-after (head_of 3 (points_bytes ps)) (points_bytes ps ++ last weighed) (3 + 20 * i) (20 * i) w refl
+        ∙ records-there ps (last weighed) w words i l
 
-    pub points-back : points_in file f ≡ ps
+    -- the points of the file, as it lists them, by its fields and by its bytes
+    pub points-back : (weighed : Bool) → Strengthless weighed ps → points_in (file weighed) (f weighed) ≡ ps
     unfolding points_in
-    points-back = sym (is-list nowhere (length ps) (ith_point file f) ps refl (λ k h. sym (record-read k (le32 file ((weights_of f).at + 4 + 4 * k)) h ∙ ap (weighing (get_or ps k nowhere)) (strength-read k h))))
+    points-back weighed bare =
+        sym (is-list nowhere (length ps) (ith_point (file weighed) (f weighed)) ps refl
+        (λ k l. sym (record-read weighed k (ith_strength (file weighed) (f weighed) k) l ∙ ap (weighing (get_or ps k nowhere)) (strength-read weighed bare k l))))
 
-    -- the points of the file, as it lists them
-    pub points-read : SettingsSize settings → points_of file ≡ ps
-    points-read size = rw (framed settings fraction ps size) points-back
+    pub points-read : (weighed : Bool) → Strengthless weighed ps → points_of (file weighed) ≡ ps
+    points-read weighed bare = rw (framed head h weighed fraction ps) (points-back weighed bare)
 
-  -- ---- the settings
+  -- ---- the header
 
-  -- tag 1 of a file
-  abbrev header : List ℕ
-  header = field 1 settings
+  -- the file begins with the first bytes, and tags 1 and 2 are within them
+  begins : (weighed : Bool) → Begins (file weighed) head
+  begins weighed k l = get_or-append head (field 3 (points_bytes ps) ++ last weighed) 0 k l
 
-  header-word : (k : ℕ) → k + 4 ≤ 3 + length settings → le32 file k ≡ le32 header k
-  header-word k h = le32-same header k file k (first_part header rest 4 k (omega arith))
-
-  header-half : (k : ℕ) → k + 2 ≤ 3 + length settings → le16 file k ≡ le16 header k
-  header-half k h = le16-same header k file k (first_part header rest 2 k (omega arith))
-
-  header-byte : (k : ℕ) → k < 3 + length settings → byte_at file k ≡ byte_at header k
-  header-byte k h = get_or-append header rest 0 k (omega arith)
-
-  -- of all 21 bytes
-  full-settings : (x : Fraction) → length settings ≡ 21 → settings_in file None x ≡ settings_in header None x
-  unfolding settings_in
-  full-settings x e =
-      rw (
-        header-word 3 (omega arith),
-        header-word 7 (omega arith),
-        header-half 11 (omega arith),
-        header-word 13 (omega arith),
-        header-byte 17 (omega arith),
-        header-word 18 (omega arith),
-        header-byte 22 (omega arith),
-        header-byte 23 (omega arith),
-      )
+  within : (weighed : Bool) → Within head (f weighed)
+  within weighed = head-within h (length ps) weighed (4 + 4 * length ps)
 
   module _ (small : fraction < 2 ^ 32) where
-    fraction-read : fraction_of file f ≡ fraction_in (f32 fraction)
+    -- the fraction, and with it the settings
+    fraction-read : (weighed : Bool) → fraction_of (file weighed) (f weighed) ≡ fraction_for weighed fraction
     unfolding fraction_of
-    fraction-read = rw (weight-word (weights_of f).at 0 (omega arith) ∙ word-there fraction (strength_bytes ps) small)
+    fraction-read true = rw (weight-word (weights_of (f true)).at 0 (omega arith) ∙ word-there fraction (strength_bytes ps) small)
+    fraction-read false = refl
 
-    pub settings-read : SettingsSize settings → settings_of file f ≡ settings_for settings fraction
-    unfolding settings_of edge_shape_of
-    settings-read (inl e) = rw (fraction-read, eq-eqb (length settings) 21 e) (full-settings (fraction_in (f32 fraction)) e)
-    settings-read (inr e) = rw (fraction-read, header-word 3 (omega arith), e)
+    settings-read : (weighed : Bool) → settings_of (file weighed) (f weighed) ≡ settings_with head (f weighed) (fraction_for weighed fraction)
+    settings-read weighed = settings-are (file weighed) (f weighed) ∙ rw (fraction-read weighed) (head-settings (file weighed) head (begins weighed) (f weighed) (within weighed) (fraction_for weighed fraction))
 
-  -- ---- the refusals of the header
+    -- tag 4 is 4 bytes and 4 for each point
+    fitting : (weighed : Bool) → misfit (f weighed) ≡ false
+    fitting true = rw (eq-eqb (4 + 4 * length ps) (4 + 4 * length ps) refl)
+    fitting false = refl
 
-  flags-read : SettingsSize settings → bad_flag file f ≡ bad_flag header f
-  unfolding bad_flag
-  flags-read (inl e) = rw (header-byte 17 (omega arith), header-byte 22 (omega arith), header-byte 23 (omega arith))
-  flags-read (inr e) = rw e
-
-  floats-read : SettingsSize settings → bad_float file f ≡ bad_float header f
-  unfolding bad_float
-  floats-read (inl e) = rw (header-word 3 (omega arith), header-word 7 (omega arith), header-word 13 (omega arith), header-word 18 (omega arith))
-  floats-read (inr e) = rw (header-word 3 (omega arith), e)
-
-  module _ (room : ℕ) (few : length ps ≤ max_points) (enough : 28 * length ps ≤ room) (size : SettingsSize settings) (flags : bad_flag header f ≡ false) (floats : bad_float header f ≡ false) where
-    header-passes : list_any holds (header_refusals file room (Some f)) ≡ false
-    unfolding header_refusals
-    header-passes =
-        rw (
-          eq-eqb (4 + 4 * length ps) (4 + 4 * length ps) refl,
-          le-ltb max_points (length ps) few,
-          le-ltb room (28 * length ps) enough,
-          flags-read size,
-          flags,
-          floats-read size,
-          floats,
-        )
-
-    -- the file is ruled by the points that were written, with these settings
-    pub ruled-by-points : All Words ps → fraction < 2 ^ 32 → ruling_of file room ≡ ruling_for (settings_for settings fraction) ps
-    ruled-by-points words small =
-        by-points file room
-        ∙ rw (framed settings fraction ps size, settings-read small size, points-back words) (none_passes refused (ruling_for (settings_for settings fraction) ps) (header_refusals file room (Some f)) header-passes)
+    -- the file is ruled as the points that were written, with the settings in its first bytes
+    pub ruled-by-points : (weighed : Bool) → All Words ps → Strengthless weighed ps → bad_flag head (f weighed) ≡ false → bad_float head (f weighed) ≡ false
+        → (room : ℕ) → ruling_of (file weighed) room ≡ ruling_in room (settings_with head (f weighed) (fraction_for weighed fraction)) ps
+    ruled-by-points weighed words bare flags floats room =
+        let in-place = framed head h weighed fraction ps in
+        let flags-fine = head-flags (file weighed) head (begins weighed) (f weighed) (within weighed) ∙ flags in
+        let floats-fine = head-floats (file weighed) head (begins weighed) (f weighed) (within weighed) ∙ floats in
+        by-list (file weighed) room (rw in-place) (rw in-place (fitting weighed)) (rw in-place flags-fine) (rw in-place floats-fine)
+        ∙ rw (points-read words weighed bare, in-place, settings-read weighed)
 
 -- ---- settings spelled out
 
@@ -180,31 +150,32 @@ module _ (size minimum fraction : ℕ) (ps : List Point) (fits : size < 2 ^ 32) 
   unfolding le16
   minimum_read = omega arith
 
-  spelled-settings : settings_for settings fraction ≡ spelled
-  unfolding settings_in le32
+  spelled-settings : settings_with (field 1 settings) (made_layout (own-head settings (inl refl)) true ps) (fraction_in (f32 fraction)) ≡ spelled
+  unfolding settings_in edge_shape_of le32
   spelled-settings = rw (first_word, minimum_read) refl
 
   -- none of 1, 12, 2, 3, 4 and 5 applies
   pub ruled : (room : ℕ) → length ps ≤ max_points → All Words ps → fraction < 2 ^ 32 → 28 * length ps ≤ room → outside cell_size ≡ false → ruling_of (weighed_file settings fraction ps) room ≡ ruling_for spelled ps
-  unfolding bad_flag bad_float le32 of_bits
+  unfolding ruling_in bad_flag bad_float le32 of_bits
   ruled room few words small enough inside =
-      ruled-by-points settings fraction ps room few enough (inl refl) refl (rw (first_word, inside) refl) words small ∙ rw spelled-settings
+      ruled-by-points (field 1 settings) (own-head settings (inl refl)) fraction ps small true words (λ e. absurd (true≢false e)) refl (rw (first_word, inside) refl) room
+      ∙ rw (spelled-settings, le-ltb max_points (length ps) few, le-ltb room (28 * length ps) enough)
 
 -- ---- the limits of a list and of a result buffer
 
 -- more points than the limit are refused with 2
 pub many-refused : (settings : List ℕ) (fraction : ℕ) (ps : List Point) (room : ℕ) → SettingsSize settings → max_points < length ps → ruling_of (weighed_file settings fraction ps) room ≡ refused 2
 many-refused settings fraction ps room size h =
-    more-refused (weighed_file settings fraction ps) room (written-well settings fraction ps size) (inr (omega (arith, records-length ps, strengths-length ps))) (omega (arith, records-length ps))
+    more-refused (weighed_file settings fraction ps) room (made-well (field 1 settings) (own-head settings size) true fraction ps) (inr (omega (arith, records-length ps, strengths-length ps))) (omega (arith, records-length ps))
 
 -- and fewer in a buffer without room for their rows with 3
 pub room-refused : (settings : List ℕ) (fraction : ℕ) (ps : List Point) (room : ℕ) → SettingsSize settings → length ps ≤ max_points → room < 28 * length ps → ruling_of (weighed_file settings fraction ps) room ≡ refused 3
 unfolding header_refusals
 room-refused settings fraction ps room size few h =
     let file = weighed_file settings fraction ps in
-    let f = layout_for settings ps in
+    let f = made_layout (own-head settings size) true ps in
     by-points file room
-    ∙ rw (framed settings fraction ps size)
+    ∙ rw (framed (field 1 settings) (own-head settings size) true fraction ps)
     (first-given refused (ruling_for (settings_of file f) (points_in file f)) (header_refusals file room (Some f)) 3 (lt-ltb room (28 * length ps) h) (rw (eq-eqb (4 + 4 * length ps) (4 + 4 * length ps) refl, le-ltb max_points (length ps) few)))
 
 -- ---- bytes
@@ -226,11 +197,18 @@ spelled-bytes size minimum =
     two_bytes (suc zero) = omega arith
     two_bytes (suc (suc k)) = no_bytes k
 
+-- with these first bytes, if the length of the points stands in two bytes
+pub made-bytes : (head : List ℕ) (weighed : Bool) (fraction : ℕ) (ps : List Point) → Bytes head → 20 * length ps ≤ most_data → Bytes (made head weighed fraction ps)
+made-bytes head weighed fraction ps b few =
+    bytes-join head (field 3 (points_bytes ps) ++ cond weighed (weights fraction ps) []) b
+    (bytes-join (field 3 (points_bytes ps)) (cond weighed (weights fraction ps) []) (field-bytes 3 (points_bytes ps) (omega arith) (omega (arith, records-length ps)) (records-bytes ps)) (last weighed))
+  where
+    last : (w : Bool) → Bytes (cond w (weights fraction ps) [])
+    last true = field-bytes 4 (weight_data fraction ps) (omega arith) (omega (arith, strengths-length ps)) (words-bytes (fraction ∷ []) (strength_bytes ps) (strengths-bytes ps))
+    last false = no_bytes
+
 pub bytes_back : (settings : List ℕ) (fraction : ℕ) (ps : List Point) → SettingsSize settings → Bytes settings → length ps ≤ max_points → Bytes (weighed_file settings fraction ps)
-bytes_back settings fraction ps size b few =
-    bytes-join (field 1 settings) (field 3 (points_bytes ps) ++ weights fraction ps) (field-bytes 1 settings (omega arith) (short size) b)
-    (bytes-join (field 3 (points_bytes ps)) (weights fraction ps) (field-bytes 3 (points_bytes ps) (omega arith) (omega (arith, records-length ps)) (records-bytes ps))
-    (field-bytes 4 (weight_data fraction ps) (omega arith) (omega (arith, strengths-length ps)) (words-bytes (fraction ∷ []) (strength_bytes ps) (strengths-bytes ps))))
+bytes_back settings fraction ps size b few = made-bytes (field 1 settings) true fraction ps (field-bytes 1 settings (omega arith) (short size) b) (omega arith)
   where
     short : SettingsSize settings → length settings < 65536
     short (inl e) = omega arith

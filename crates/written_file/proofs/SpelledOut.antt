@@ -35,7 +35,7 @@ use Rattle.ruling.specs.Ruling.{Ruling, refused, ruling_for, ruling_of}
 use Rattle.ruling.proofs.Given.{by-points}
 use Rattle.written_file.specs.File.{spelled_out}
 use Rattle.written_file.specs.Spelled.{settled}
-use Rattle.written_file.proofs.Parts.{second-part, word_after, point-after}
+use Rattle.written_file.proofs.Parts.{second-part, word_after, point-after, gate-same}
 
 -- ---- after some first bytes every field stands as without them, so much later
 
@@ -130,10 +130,7 @@ module _ (p rest : List ℕ) (full : Bool) where
   points-read f = ap (list_of f.count) (fun_ext (λ (i : ℕ). point-after p rest (length p + f.points + 20 * i) (f.points + 20 * i) (ith_strength file (moved f) i) (omega arith) ∙ rw (strength-read f i)))
 
   gate-read : gate_start full ≡ length p + 3 → (gate_in file (gate_start full) ≡ gate_in rest 3) × (list_any outside (gate_floats file (gate_start full)) ≡ list_any outside (gate_floats rest 3))
-  unfolding gate_in
-  gate-read e =
-      let word : (n : ℕ) → le32 file (length p + 3 + n) ≡ le32 rest (3 + n) = λ n. word_after p rest (length p + 3 + n) (3 + n) (omega arith) in
-      rw (e, byte-after (length p + 3) 3 refl, word 1, word 5, word 9, word 13) (refl, refl)
+  gate-read e = let g = gate-same rest 3 file (length p + 3) (second-part p rest 17 3) in rw e (g.0, ap (list_any outside) g.1)
 
   -- the first bytes are tag 1, and say no more than this cell size
   record Plain (size : Float) : Type 0 where
@@ -148,7 +145,7 @@ abbrev ruled_after : Float → List ℕ → ℕ → Option Layout → Ruling
 ruled_after size rest room None = refused 1
 ruled_after size rest room (Some f) =
     ruled refused (ruling_for (defaults_for size (cond f.gated (Some (gate_in rest 3)) None) (fraction_of rest f)) (points_in rest f))
-    ((12, misfit f) ∷ (2, too_many f) ∷ (3, too_short room f) ∷ (5, outside size || f.gated && list_any outside (gate_floats rest 3)) ∷ [])
+    ((12, misfit f) ∷ (2, too_many f.count) ∷ (3, too_short room f.count) ∷ (5, outside size || f.gated && list_any outside (gate_floats rest 3)) ∷ [])
 
 plain-ruled : (p rest : List ℕ) (full : Bool) (size : Float) → Plain p rest full size → (room : ℕ) → ruling_of (p ++ rest) room ≡ ruled_after size rest room (gate_from rest 0 false)
 unfolding header_refusals settings_of edge_shape_of bad_float

@@ -2,6 +2,7 @@
 
 mod fills;
 mod hard;
+mod joins;
 mod peels;
 
 pub use hard::dearest_call;
@@ -335,6 +336,14 @@ pub fn peels(runs: usize) {
     print!("{}", out.0);
 }
 
+/// Prints the table of joins alone.
+pub fn joins(runs: usize) {
+    let rounds = Rounds::new(runs);
+    let mut out = Text(String::new());
+    joins::table(&mut out, &rounds);
+    print!("{}", out.0);
+}
+
 /// Prints all tables. With a file, they take the place of what stands there between two marks.
 pub fn run(runs: usize, count: usize, file: Option<&str>) {
     let rounds = Rounds::new(runs);
@@ -352,6 +361,7 @@ pub fn run(runs: usize, count: usize, file: Option<&str>) {
         others(&mut out, &rounds);
         fills::table(&mut out, &rounds);
         peels::tables(&mut out, &rounds);
+        joins::table(&mut out, &rounds);
     }
     print!("{}", out.0);
     let Some(file) = file else { return };

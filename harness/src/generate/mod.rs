@@ -1,9 +1,29 @@
 //! Sheet files of many kinds, the same for the same kind and seed.
 
+macro_rules! kinds {
+    ($(#[$doc:meta])* $type:ident; $($name:ident: $text:literal,)*) => {
+        $(#[$doc])*
+        #[derive(Clone, Copy, Debug, PartialEq, Eq)]
+        pub enum $type { $($name,)* }
+
+        impl $type {
+            /// Every kind with what it holds.
+            pub const ALL: &'static [($type, &'static str)] = &[$(($type::$name, $text),)*];
+
+            pub fn from_name(name: &str) -> Option<$type> {
+                let matches =
+                    |(kind, _): &&($type, &str)| format!("{kind:?}").eq_ignore_ascii_case(name);
+                $type::ALL.iter().find(matches).map(|&(kind, _)| kind)
+            }
+        }
+    };
+}
+
 mod boards;
 mod changes;
 mod damage;
 mod fills;
+mod joins;
 mod pages;
 mod peels;
 mod roots;
@@ -12,6 +32,7 @@ mod settings;
 mod small;
 mod worst;
 
+pub use joins::{numbers_that_meet, pair, Condition, JoinKind, Pair};
 pub use roots::{number, SPECIAL};
 pub use runs::{few_indices, run, start, Run, Start, Step, RUN_OF};
 pub use worst::{arguments, REFUSED};
@@ -20,19 +41,9 @@ use crate::random::Random;
 use crate::second::ROW;
 use crate::sheet::{self, Sheet};
 
-macro_rules! kinds {
-    ($($name:ident: $text:literal,)*) => {
-        #[derive(Clone, Copy, Debug, PartialEq, Eq)]
-        pub enum Kind { $($name,)* }
-
-        impl Kind {
-            /// Every kind with what it holds.
-            pub const ALL: &'static [(Kind, &'static str)] = &[$((Kind::$name, $text),)*];
-        }
-    };
-}
-
 kinds! {
+    /// What a sheet file is.
+    Kind;
     Clean: "clean perspective boards",
     Noise: "boards with noise",
     TooFar: "corners labelled one cell too far",
@@ -171,11 +182,6 @@ impl Kind {
     /// The kinds with residuals of every kind of root.
     pub fn for_roots() -> &'static [(Kind, &'static str)] {
         &Kind::ALL[BEFORE_ROOTS..]
-    }
-
-    pub fn from_name(name: &str) -> Option<Kind> {
-        let matches = |(kind, _): &&(Kind, &str)| format!("{kind:?}").eq_ignore_ascii_case(name);
-        Kind::ALL.iter().find(matches).map(|&(kind, _)| kind)
     }
 }
 

@@ -1,7 +1,8 @@
-//! Which limits of the map some sheets met, which kinds of weak ends, of fills and of residuals, and which
-//! limits of a run some calls.
+//! Which limits of the map some sheets met, which kinds of weak ends, of fills and of residuals, which limits of a run
+//! some calls, and which limits of a join some pairs of files.
 
 pub mod fills;
+pub mod join;
 pub mod map;
 pub mod peel;
 pub mod roots;

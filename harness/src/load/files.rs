@@ -245,7 +245,7 @@ fn full(r: &mut Random) -> Vec<u8> {
 }
 
 /// How many points the file claims, if its frame is right up to there.
-fn claimed(file: &[u8]) -> Option<usize> {
+pub fn claimed(file: &[u8]) -> Option<usize> {
     let mut at = 0;
     while *file.get(at)? != 3 {
         at += 3 + usize::from(u16::from_le_bytes([*file.get(at + 1)?, *file.get(at + 2)?]));

@@ -199,6 +199,22 @@ impl Origin {
         }
     }
 
+    /// The place of its buffer's length among the three, of a fixed file.
+    pub fn which_room(self) -> Option<usize> {
+        match self {
+            Origin::Fixed(place) => Some(place % ROOMS.len()),
+            _ => None,
+        }
+    }
+
+    /// The length of the buffer for the joined rows, of a fixed file, of so many points.
+    pub fn join_buffer(self, points: usize) -> Option<usize> {
+        match self {
+            Origin::Fixed(place) => Some(taken_apart(place).1.of(ROW * points.max(1))),
+            _ => None,
+        }
+    }
+
     /// The bits of numbers to take roots of: beside a fixed file the special ones.
     pub fn numbers_for_roots(self, r: &mut Random) -> Vec<u32> {
         match self {

@@ -1,10 +1,12 @@
 //! Files of all forms through the C boundary: file, buffer and record at the edge of memory that may
 //! not be touched, on a stack of the size that the header asks for. Each goes through every function that
-//! takes a file, and beside it some numbers through the one that takes a root, on a stack of one page.
+//! takes a file, and beside it some numbers through the one that takes a root, on a stack of one page, and two files,
+//! made of it and a partner, through the one that joins them.
 
 mod files;
 mod fills;
 mod fixed;
+mod joins;
 mod peels;
 mod report;
 mod runner;
@@ -57,7 +59,8 @@ impl One<'_> {
         let all = All::new(&self.load.file, self.load.buffer);
         let rows = self.rows(&all.answer);
         let (map, run) = (self.map(&all.map), self.in_run());
-        [rows, map, run, self.fills(&all), self.roots()]
+        let (fills, roots) = (self.fills(&all), self.roots());
+        [rows, map, run, fills, roots, self.join()]
     }
 
     fn rows(&mut self, answer: &Answer) -> Option<String> {
@@ -123,6 +126,17 @@ impl One<'_> {
         let (_, time, wrong) = self.runner.run(&job, &mut self.r);
         self.report.add_root(&job, self.origin, time);
         wrong.map(|text| format!("root of {bits:08X}: {text}"))
+    }
+
+    /// With a partner.
+    fn join(&mut self) -> Option<String> {
+        let pair = joins::pair(&mut self.r, self.load, self.origin);
+        let answer = pair.answer(Fault::None);
+        let (number, written) = library::expected(&answer);
+        let job = Job::join(self.load.form, &pair, number, written);
+        let (returned, time, wrong) = self.runner.run(&job, &mut self.r);
+        self.report.add_join(&job, self.origin, returned, time);
+        wrong.map(|text| format!("join: {text}"))
     }
 }
 

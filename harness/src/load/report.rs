@@ -85,6 +85,12 @@ pub struct Report {
     /// Numbers without a root, with one, and with an exact one.
     roots: [usize; 3],
     root: Times,
+    /// Pairs that were joined, their points, pairs refused by number, buffers of length 0.
+    joined: usize,
+    joined_points: usize,
+    not_joined: ByNumber,
+    empty_join_buffers: usize,
+    join: Times,
     pub failed: usize,
 }
 
@@ -156,6 +162,19 @@ impl Report {
         self.root.add(job.form, origin, time);
     }
 
+    /// Counts a call for two files.
+    pub fn add_join(&mut self, job: &Job, origin: Origin, returned: u64, time: Duration) {
+        match Returned::new(returned) {
+            Returned::Accepted { points, .. } => {
+                self.joined += 1;
+                self.joined_points += points;
+            }
+            Returned::Refused(number) => count(&mut self.not_joined, number),
+        }
+        self.empty_join_buffers += usize::from(job.buffer == 0);
+        self.join.add(job.form, origin, time);
+    }
+
     /// How many fixed files there were.
     fn print_fixed(&self) {
         let fixed = FIXED.iter().zip(self.fixed);
@@ -214,6 +233,13 @@ impl Report {
         );
         let [without, with, exact] = self.roots;
         println!("roots: none {without}, not exact {with}, exact {exact}");
+        println!(
+            "joins: {} of {} points; refused with 1 to {LAST_NUMBER}: {:?}; buffers of length 0: {}",
+            self.joined,
+            self.joined_points,
+            &self.not_joined[1..],
+            self.empty_join_buffers
+        );
     }
 
     pub fn print(&self, deepest: Option<[usize; FUNCTIONS]>, whole: Duration) {
@@ -226,6 +252,7 @@ impl Report {
             ("run", &self.run),
             ("fills", &self.fills),
             ("root", &self.root),
+            ("join", &self.join),
         ];
         for (k, (name, times)) in calls.into_iter().enumerate() {
             times.print(name, deepest.map(|deepest| (deepest[k], STACKS[k])));

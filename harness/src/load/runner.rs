@@ -3,11 +3,12 @@
 use super::files::{Form, Load, LONGEST_BUFFER, LONGEST_FILE};
 use super::LIMIT;
 use crate::clock::processor;
-use crate::guarded::{Area, Callee, Stack};
+use crate::generate::Pair;
+use crate::guarded::{Area, Callee, Right, Stack};
 use crate::header::STACK_SIZE;
 use crate::library::{Calls, Returned, Root, Run, MAP_SIZE, NO_ROOM};
 use crate::random::Random;
-use crate::second::{Record, FULL, MAX_POINTS, NUMBERS, ORDER};
+use crate::second::{Record, Shift, FULL, MAX_POINTS, NUMBERS, ORDER};
 use std::ops::Range;
 use std::time::Duration;
 
@@ -26,13 +27,18 @@ pub enum Function {
     KeepInRun,
     Fills,
     Root,
+    Join,
 }
 
 /// How many there are.
-pub const FUNCTIONS: usize = 5;
+pub const FUNCTIONS: usize = 6;
 
 /// The stack that each runs on: of the size that the header asks for, and for a root of one page.
-pub const STACKS: [usize; FUNCTIONS] = [STACK_SIZE, STACK_SIZE, STACK_SIZE, STACK_SIZE, 4096];
+pub const STACKS: [usize; FUNCTIONS] = {
+    let mut stacks = [STACK_SIZE; FUNCTIONS];
+    stacks[Function::Root as usize] = 4096;
+    stacks
+};
 
 /// A call with what it should return, write, and leave as its record.
 pub struct Job<'a> {
@@ -46,6 +52,9 @@ pub struct Job<'a> {
     pub records: [Record; 2],
     /// The number, of the call that takes one instead of a file.
     pub bits: u32,
+    /// The right file, and what goes with it, of the call that takes one.
+    pub right: &'a [u8],
+    pub shift: Shift,
 }
 
 impl<'a> Job<'a> {
@@ -66,6 +75,24 @@ impl<'a> Job<'a> {
             written,
             records,
             bits: 0,
+            right: &[],
+            shift: Shift::default(),
+        }
+    }
+
+    /// The call on two files, while a file of some form is under way.
+    pub fn join(form: Form, pair: &'a Pair, number: u64, written: &'a [u8]) -> Job<'a> {
+        Job {
+            function: Function::Join,
+            form,
+            file: &pair.left,
+            buffer: pair.buffer,
+            number,
+            written,
+            records: [Record::new(); 2],
+            bits: 0,
+            right: &pair.right,
+            shift: pair.shift,
         }
     }
 
@@ -80,6 +107,8 @@ impl<'a> Job<'a> {
             written,
             records: [Record::new(); 2],
             bits,
+            right: &[],
+            shift: Shift::default(),
         }
     }
 }
@@ -87,7 +116,7 @@ impl<'a> Job<'a> {
 /// What a call returned, its processor time, and what is wrong with it.
 pub type Outcome = (u64, Duration, Option<String>);
 
-/// Where file, buffer and record lie.
+/// Where the files, buffer and record lie.
 enum Memory {
     Guarded(Box<Guarded>),
     /// In heap blocks of exactly their lengths, for a tool that watches those.
@@ -125,6 +154,7 @@ fn possible(function: Function, returned: u64) -> bool {
         Function::KeepInRun => of_sheet || returned == u64::from(FULL),
         Function::Fills => of_sheet && returned >> 48 == 0,
         Function::Root => returned <= 1,
+        Function::Join => of_sheet || (15..=17).contains(&returned),
     }
 }
 
@@ -156,13 +186,19 @@ fn record_bytes(record: &Record) -> Vec<u8> {
     words.iter().flat_map(|word| word.to_le_bytes()).collect()
 }
 
-fn callee(calls: &Calls, job: &Job, run: *mut Run) -> Callee {
+fn callee(calls: &Calls, job: &Job, run: *mut Run, right: *const u8) -> Callee {
+    let right = Right {
+        file: right,
+        length: job.right.len(),
+        shift: job.shift,
+    };
     match job.function {
         Function::Keep => Callee::Plain(calls.keep),
         Function::Map => Callee::Plain(calls.map),
         Function::KeepInRun => Callee::InRun(calls.keep_in_run, run),
         Function::Fills => Callee::Plain(calls.fills),
         Function::Root => Callee::Root(calls.root, job.bits),
+        Function::Join => Callee::Join(calls.join, right),
     }
 }
 
@@ -202,17 +238,18 @@ impl Runner {
 
 /// A call in heap blocks of exactly the lengths.
 fn in_heap(calls: &Calls, job: &Job, paint: &[u8]) -> Outcome {
-    let file = job.file.to_vec().into_boxed_slice();
+    let [file, right] = [job.file, job.right].map(|file| file.to_vec().into_boxed_slice());
     let mut buffer = paint[..job.buffer].to_vec().into_boxed_slice();
     let mut record = Box::new(Run::from(job.records[0]));
-    let callee = callee(calls, job, &mut *record);
+    let callee = callee(calls, job, &mut *record, right.as_ptr());
     let start = processor();
     // The blocks are ours and apart.
     let returned =
         unsafe { callee.call(file.as_ptr(), file.len(), buffer.as_mut_ptr(), job.buffer) };
     let time = processor() - start;
     let bytes = wrong_bytes(&buffer, &paint[..job.buffer], 0, job.written);
-    let changed = (*file != *job.file).then_some("changed the file");
+    let changed = *file != *job.file || *right != *job.right;
+    let changed = changed.then_some("changed a file");
     let other = (*record != job.records[1].into()).then_some("another record");
     let bytes = bytes.or(changed).or(other).map(String::from);
     (returned, time, wrong_number(returned, job).or(bytes))
@@ -255,6 +292,18 @@ fn put(area: &mut Area, at: usize, bytes: &[u8]) {
     area.bytes()[at..at + bytes.len()].copy_from_slice(bytes);
 }
 
+/// Puts bytes to one end of an area; where they begin.
+fn placed(area: &mut Area, bytes: &[u8], at_end: bool) -> usize {
+    let at = area.place(bytes.len(), at_end);
+    put(area, at, bytes);
+    at
+}
+
+/// Whether bytes stand at a place of an area.
+fn stands(area: &mut Area, at: usize, bytes: &[u8]) -> bool {
+    area.bytes()[at..at + bytes.len()] == *bytes
+}
+
 /// The pointer, or null for some of length 0.
 fn or_null(at: *mut u8, length: usize, r: &mut Random) -> *mut u8 {
     if length == 0 && r.one_in(3) {
@@ -267,6 +316,7 @@ fn or_null(at: *mut u8, length: usize, r: &mut Random) -> *mut u8 {
 /// Memory beside guard pages; calls run on stacks of their own, one for each function.
 struct Guarded {
     file: Area,
+    right: Area,
     buffer: Area,
     record: Area,
     stacks: [Stack; FUNCTIONS],
@@ -278,6 +328,7 @@ impl Guarded {
     fn new() -> Guarded {
         Guarded {
             file: Area::new(LONGEST_FILE),
+            right: Area::new(LONGEST_FILE),
             buffer: Area::new(LONGEST_BUFFER),
             record: Area::new(RECORD),
             stacks: STACKS.map(Stack::new),
@@ -286,23 +337,23 @@ impl Guarded {
     }
 
     fn run(&mut self, calls: &Calls, job: &Job, paint: &[u8], r: &mut Random) -> Outcome {
-        let length = job.file.len();
-        let at = self.file.place(length, r.one_in(2));
-        put(&mut self.file, at, job.file);
+        let at = placed(&mut self.file, job.file, r.one_in(2));
         let buffer = Lent::new(&mut self.buffer, job.buffer, paint, r.one_in(2));
-        let file_at = or_null(self.file.at(at), length, r);
+        let file_at = or_null(self.file.at(at), job.file.len(), r);
         let buffer_at = or_null(self.buffer.at(buffer.begin), job.buffer, r);
         let at_end = job.function == Function::KeepInRun && r.one_in(2);
         let record = Lent::new(&mut self.record, RECORD, paint, at_end);
+        let (other, right_at) = self.right_file(job, r);
         let [before, after] = job.records.each_ref().map(record_bytes);
         let once = |places: &mut Guarded| {
             put(&mut places.record, record.begin, &before);
             let run = places.record.at(record.begin).cast();
-            let callee = callee(calls, job, run);
+            let callee = callee(calls, job, run, right_at);
             let stack = &mut places.stacks[job.function as usize];
             let start = processor();
             // The areas are ours and apart.
-            let returned = unsafe { stack.call(callee, file_at, length, buffer_at, job.buffer) };
+            let returned =
+                unsafe { stack.call(callee, file_at, job.file.len(), buffer_at, job.buffer) };
             (returned, processor() - start)
         };
         let (returned, time) = once(self);
@@ -311,14 +362,24 @@ impl Guarded {
         let mut fault = wrong_number(returned, job)
             .or(bytes.map(String::from))
             .or(record.map(|text| format!("record: {text}")));
-        if self.file.bytes()[at..at + length] != *job.file {
-            fault = Some("changed the file".into());
+        let changed = !stands(&mut self.file, at, job.file);
+        if changed || !stands(&mut self.right, other, job.right) {
+            fault = Some("changed a file".into());
         }
         let time = self.least(job, time, once);
         if time > LIMIT {
             fault = Some(format!("took {time:?}"));
         }
         (returned, time, fault)
+    }
+
+    /// Where the right file begins in its area, and the pointer to it, of the call that takes one.
+    fn right_file(&mut self, job: &Job, r: &mut Random) -> (usize, *mut u8) {
+        if job.function != Function::Join {
+            return (0, std::ptr::null_mut());
+        }
+        let at = placed(&mut self.right, job.right, r.one_in(2));
+        (at, or_null(self.right.at(at), job.right.len(), r))
     }
 
     /// The time of a call; if it is the longest so far, the least of three, since a busy machine may

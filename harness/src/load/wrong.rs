@@ -1,9 +1,9 @@
 //! The calls with a deliberate fault: the load must notice each.
 
 use crate::clock::processor;
-use crate::guarded::Callee;
+use crate::guarded::{Callee, Right};
 use crate::library::{self, Calls, Returned, Root, Run, NO_ROOM};
-use crate::second::{self, Fault, FILL, MAX_POINTS};
+use crate::second::{self, Fault, Shift, FILL, MAX_POINTS};
 use crate::sheet::MOST_RECORDS;
 use std::hint::black_box;
 use std::sync::atomic::{AtomicUsize, Ordering};
@@ -135,6 +135,30 @@ const ROOT: [&str; 18] = [
     "root: takes 10 ms more than the limit",
 ];
 
+/// Faults of the call for two files, likewise.
+const JOIN: [&str; 20] = [
+    "join: takes 400 KB more of the stack",
+    "join: reads a byte beyond the left file",
+    "join: reads a byte before the left file",
+    "join: reads a byte beyond the right file",
+    "join: reads a byte before the right file",
+    "join: writes a byte beyond the buffer",
+    "join: writes a byte before the buffer",
+    "join: writes a byte beyond the rows",
+    "join: writes on a refusal",
+    "join: changes the left file",
+    "join: changes the right file",
+    "join: changes a row",
+    "join: writes the rows of the call before",
+    "join: answers as in the call before",
+    "join: counts a component too many",
+    "join: counts a round too many",
+    "join: refuses with 10",
+    "join: returns 0",
+    "join: takes the left file for the right one",
+    "join: takes 10 ms more than the limit",
+];
+
 /// A fault of the second program with what is wrong.
 type OfSecond = (Fault, &'static str);
 
@@ -162,6 +186,17 @@ fn fills_of_second() -> impl Iterator<Item = &'static OfSecond> {
     Fault::FILL.iter().filter(move |(fault, _)| !unseen(*fault))
 }
 
+/// The faults of its join that calls on small files can show: rows do not have the indices.
+fn join_of_second() -> impl Iterator<Item = &'static OfSecond> {
+    let unseen = |fault| {
+        matches!(
+            fault,
+            Fault::JoinLeftGains | Fault::JoinMostWithGone | Fault::JoinRoomFirst
+        )
+    };
+    Fault::JOIN.iter().filter(move |(fault, _)| !unseen(*fault))
+}
+
 /// What is wrong under each fault, counted from 0.
 pub fn faults() -> impl Iterator<Item = String> {
     let text = |of: &'static str| move |(_, text): &OfSecond| format!("{of}: {text}");
@@ -172,6 +207,8 @@ pub fn faults() -> impl Iterator<Item = String> {
         .chain(fills_of_second().map(text("fills")))
         .chain(ROOT.into_iter().map(String::from))
         .chain(Fault::NUMBER.iter().map(text("root")))
+        .chain(JOIN.into_iter().map(String::from))
+        .chain(join_of_second().map(text("join")))
 }
 
 /// The fault that a call has, counted from 0.
@@ -179,6 +216,7 @@ static CHOSEN: AtomicUsize = AtomicUsize::new(0);
 static BEFORE: AtomicUsize = AtomicUsize::new(1);
 static RECORD_BEFORE: Mutex<Option<Run>> = Mutex::new(None);
 static ROOT_BEFORE: Mutex<Root> = Mutex::new([0; 3]);
+static ROWS_BEFORE: Mutex<Vec<u8>> = Mutex::new(Vec::new());
 
 /// The library's functions, one of them with a fault.
 pub fn calls(right: Calls, fault: usize) -> Calls {
@@ -186,7 +224,9 @@ pub fn calls(right: Calls, fault: usize) -> Calls {
     let of_run = of_map + MAP.len();
     let of_fills = of_run + RUN.len() + run_of_second().count();
     let of_root = of_fills + FILLS.len() + fills_of_second().count();
+    let of_join = of_root + ROOT.len() + Fault::NUMBER.len();
     let (first, wrong) = match fault {
+        _ if fault >= of_join => (of_join, Calls { join, ..right }),
         _ if fault >= of_root => (of_root, Calls { root, ..right }),
         _ if fault >= of_fills => (of_fills, Calls { fills, ..right }),
         _ if fault >= of_run => (
@@ -492,6 +532,95 @@ unsafe extern "C" fn root(bits: u32, out: *mut Root) -> i32 {
         15 if found && s > 0 => out.write([s - 1, power, remainder + 2 * s - 1]),
         16 if found => *out = std::mem::replace(&mut *ROOT_BEFORE.lock().unwrap(), out.read()),
         17 => linger(),
+        _ => {}
+    }
+    returned
+}
+
+/// The call for two files as the second program makes it with a fault of its own.
+unsafe fn join_by_second(
+    fault: Fault,
+    (left, left_len): (*const u8, usize),
+    right: &Right,
+    (rows, rows_len): (*mut u8, usize),
+) -> u64 {
+    let (left, other) = (bytes_at(left, left_len), bytes_at(right.file, right.length));
+    let answer = second::join(&left, &other, &right.shift, rows_len, fault);
+    let (number, written) = library::expected(&answer);
+    put(rows, &written[..written.len().min(rows_len)]);
+    number
+}
+
+/// Puts the rows of the call before in the place of those of this one.
+unsafe fn swap_rows(rows: *mut u8, length: usize) {
+    let now = bytes_at(rows, length);
+    let before = std::mem::replace(&mut *ROWS_BEFORE.lock().unwrap(), now);
+    put(rows, &before[..before.len().min(length)]);
+}
+
+/// The library's function for two files, with the chosen fault.
+unsafe extern "C" fn join(
+    left: *const u8,
+    left_len: usize,
+    other: *const u8,
+    length: usize,
+    du: i32,
+    dv: i32,
+    dx: f32,
+    dy: f32,
+    rows: *mut u8,
+    rows_len: usize,
+) -> u64 {
+    let right = Right {
+        file: other,
+        length,
+        shift: Shift { du, dv, dx, dy },
+    };
+    let longest = left_len.max(length);
+    if let Some(fault) = second_fault(JOIN.len(), join_of_second(), longest) {
+        return join_by_second(fault, (left, left_len), &right, (rows, rows_len));
+    }
+    let callee = Callee::Join(library::functions().unwrap().join, right);
+    match CHOSEN.load(Ordering::Relaxed) {
+        0 => deep(callee, left, left_len, rows, rows_len),
+        18 => callee.call(other, length, rows, rows_len),
+        chosen => {
+            let returned = callee.call(left, left_len, rows, rows_len);
+            join_spoilt(chosen, returned, (left, left_len), &right, (rows, rows_len))
+        }
+    }
+}
+
+/// What is made of a right call for two files, by a fault but the two that call otherwise.
+unsafe fn join_spoilt(
+    chosen: usize,
+    returned: u64,
+    (left, left_len): (*const u8, usize),
+    right: &Right,
+    (rows, rows_len): (*mut u8, usize),
+) -> u64 {
+    let (points, rounds) = Returned::new(returned).counts();
+    let accepted = returned >> 32 > 0;
+    let (other, length) = (right.file, right.length);
+    match chosen {
+        1 => look(left.wrapping_add(left_len)),
+        2 => look(left.wrapping_sub(1)),
+        3 => look(other.wrapping_add(length)),
+        4 => look(other.wrapping_sub(1)),
+        5 => flip(rows.wrapping_add(rows_len)),
+        6 => flip(rows.wrapping_sub(1)),
+        7 if accepted && rows_len > 28 * points => flip(rows.add(28 * points)),
+        8 if !accepted && rows_len > 0 => flip(rows.add(rows_len / 2)),
+        9 if left_len > 0 => flip(left.add(left_len / 2).cast_mut()),
+        10 if length > 0 => flip(other.add(length / 2).cast_mut()),
+        11 if points > 0 => flip(rows.add(28 * points - 1)),
+        12 if points > 0 => swap_rows(rows, 28 * points),
+        13 => return earlier(returned),
+        14 if points > 0 => return returned + 1,
+        15 if accepted => return with_rounds(returned, rounds + 1),
+        16 if !accepted => return 10,
+        17 => return 0,
+        19 => linger(),
         _ => {}
     }
     returned

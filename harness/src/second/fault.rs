@@ -11,7 +11,8 @@ macro_rules! faults {
         $($of_fill:ident: $filled:literal,)* ;
         $($of_root:ident: $rooted:literal,)* ;
         $($of_equal:ident: $shown:literal,)* ;
-        $($of_number:ident: $handed:literal,)*
+        $($of_number:ident: $handed:literal,)* ;
+        $($of_join:ident: $joined:literal,)*
     ) => {
         #[derive(Clone, Copy, Debug, PartialEq, Eq)]
         pub enum Fault {
@@ -29,6 +30,7 @@ macro_rules! faults {
             $($of_root,)*
             $($of_equal,)*
             $($of_number,)*
+            $($of_join,)*
         }
 
         impl Fault {
@@ -68,6 +70,9 @@ macro_rules! faults {
                 $((Fault::$of_root, $rooted),)*
                 $((Fault::$of_number, $handed),)*
             ];
+
+            /// Every deliberate fault of a join, those of its own numbers and of the joined list's last.
+            pub const JOIN: &'static [(Fault, &'static str)] = &[$((Fault::$of_join, $joined),)*];
 
             /// a above b; under the fault `wrong` also where they are equal.
             pub fn above(self, a: f32, b: f32, wrong: Fault) -> bool {
@@ -344,4 +349,48 @@ faults! {
     NegativeFound: "a negative number has the root of its magnitude",
     InfinityFound: "infinity has a root",
     NanFound: "NaN has a root",
+    // Those of a join.
+    ;
+    JoinRightWins: "where both hold a cell the right point is taken",
+    JoinIndexKept: "right indices stay as they are",
+    JoinLeftGains: "left indices gain 2^31",
+    JoinShiftHalved: "half of the shift is added twice",
+    JoinZeroNotAdded: "a shift of 0 is not added",
+    JoinShiftsLeft: "the shift is added to the left positions",
+    JoinShiftExchanged: "dx and dy are exchanged",
+    JoinMovesLeft: "the offset is added to the left cells",
+    JoinOffsetExchanged: "du and dv are exchanged",
+    JoinSettingsOfRight: "tag 1 is that of the right file",
+    JoinGateOfRight: "tag 2 is that of the right file",
+    JoinFractionOfRight: "the fraction is that of the right file",
+    JoinStrengthsLost: "right points have a strength of 0",
+    JoinStrengthsOfLeft: "right points have the strengths of the left ones, in their order",
+    JoinMedianOfLeft: "the median of strengths is of the left points alone",
+    JoinRightFirst: "the right file's own number is given before the left file's",
+    JoinRightUnsound: "tags 1 and 2 of the right file may be unsound",
+    JoinIndexBeforeRight: "15 is given before the right file's own number",
+    JoinOffsetBeforeRight: "16 is given before the right file's own number",
+    JoinOffsetFirst: "16 is given before the left file's own number",
+    JoinOffsetBeforeIndex: "16 is given before 15",
+    JoinTagsBeforeOffset: "17 is given before 16",
+    JoinTagsBeforeIndex: "17 is given before 15",
+    JoinIndexOfLeft: "15 looks at the left file alone",
+    JoinIndexOfRight: "15 looks at the right file alone",
+    JoinLargestIndex: "an index of 2^31 - 1 is refused with 15",
+    JoinIndexTaken: "an index of 2^31 is not refused with 15",
+    JoinFarthestRefused: "an offset of 16,000 is refused with 16",
+    JoinFartherTaken: "an offset of 16,001 is not refused with 16",
+    JoinOffsetOfU: "16 looks at du alone, not at dv",
+    JoinShiftRefused: "a shift of 16,384 is refused with 16",
+    JoinShiftTaken: "a shift just above 16,384 is not refused with 16",
+    JoinShiftOfX: "16 looks at dx alone, not at dy",
+    JoinNanTaken: "a shift that is NaN is not refused with 16",
+    JoinTagsOfLeft: "17 is given only where the left file has the tag 4",
+    JoinTagsOfRight: "17 is given only where the right file has the tag 4",
+    JoinMostWithGone: "points that are gone count for 2",
+    JoinRoomForGone: "points that are gone need room",
+    JoinGoneLookedAt: "points that are gone are looked at for 7",
+    JoinRoomFirst: "of the joined list 3 is given before 2",
+    JoinCellsBeforeRoom: "of the joined list 6 is given before 3",
+    JoinPositionsFirst: "of the joined list 7 is given before 6",
 }

@@ -76,7 +76,7 @@ pub struct Point {
     pub place: usize,
 }
 
-/// An accepted file, its points in cell order.
+/// What a file holds, or what two make together: a list of points in cell order, with settings.
 #[derive(Clone, Debug)]
 pub struct Sheet {
     pub settings: Settings,
@@ -241,7 +241,8 @@ pub fn framed(file: &[u8], fault: Fault) -> Option<Framed> {
     Some(Framed { sheet, misfit })
 }
 
-fn out_of_bounds(float: f32) -> bool {
+/// "not finite or .. 16,384 in magnitude"
+pub fn out_of_bounds(float: f32) -> bool {
     !float.is_finite() || float.abs() > 16384.0
 }
 
@@ -317,25 +318,24 @@ fn most_points(fault: Fault) -> usize {
     }
 }
 
-impl Framed {
-    /// Whether the condition of a number applies, of those but 1.
-    fn applies(&self, number: u8, buffer: Buffer, fault: Fault) -> bool {
+impl Sheet {
+    /// Whether the condition of a number applies, of those that do not go by the bytes of a file.
+    pub fn applies(&self, number: u8, buffer: Buffer, fault: Fault) -> bool {
         let Sheet {
             settings,
             gate,
             points,
             ..
-        } = &self.sheet;
+        } = self;
         let bad_position = |p: &Point| out_of_bounds(p.at.x) || out_of_bounds(p.at.y);
         match number {
-            12 => self.misfit,
             2 => points.len() > most_points(fault),
             3 => buffer.short(points.len(), fault),
             4 => bad_flag(settings),
             5 => bad_float(settings, gate),
             6 => points.iter().any(|p| bad_cell(p, fault)),
             7 => points.iter().any(bad_position),
-            13 => bad_strength(&self.sheet, fault),
+            13 => bad_strength(self, fault),
             8 => repeated_cell(points),
             9 => torn_index(points),
             14 => torn_strength(points, fault),
@@ -344,28 +344,42 @@ impl Framed {
     }
 }
 
-/// The largest of all numbers, those of the map and of a run too.
-pub const LAST_NUMBER: usize = 14;
+impl Framed {
+    /// The same of those but 1.
+    fn applies(&self, number: u8, buffer: Buffer, fault: Fault) -> bool {
+        match number {
+            12 => self.misfit,
+            _ => self.sheet.applies(number, buffer, fault),
+        }
+    }
+}
+
+/// The largest of all numbers, those of the map, of a run and of a join too.
+pub const LAST_NUMBER: usize = 17;
 
 /// The numbers in the order in which they are looked for, after 1: "12, right after 1", "13, right
 /// after 7", "14, right after 9".
 pub const ORDER: [u8; 11] = [12, 2, 3, 4, 5, 6, 7, 13, 8, 9, 14];
 
-/// The order with two exchanged, under a fault.
-fn order(fault: Fault) -> [u8; ORDER.len()] {
+/// The order with two exchanged.
+pub fn exchanged(one: u8, other: u8) -> [u8; ORDER.len()] {
     let mut order = ORDER;
-    let exchanged = match fault {
-        Fault::FlagsAfterFloats => (4, 5),
-        Fault::CellsBeforePositions => (7, 8),
-        Fault::MisfitAfterMost => (12, 2),
-        Fault::StrengthsBeforePositions => (7, 13),
-        Fault::StrengthsAfterCells => (13, 8),
-        Fault::TornStrengthFirst => (9, 14),
-        _ => return order,
-    };
     let place = |number| ORDER.iter().position(|one| *one == number).unwrap();
-    order.swap(place(exchanged.0), place(exchanged.1));
+    order.swap(place(one), place(other));
     order
+}
+
+/// The order, under a fault another.
+pub fn order(fault: Fault) -> [u8; ORDER.len()] {
+    match fault {
+        Fault::FlagsAfterFloats => exchanged(4, 5),
+        Fault::CellsBeforePositions => exchanged(7, 8),
+        Fault::MisfitAfterMost => exchanged(12, 2),
+        Fault::StrengthsBeforePositions => exchanged(7, 13),
+        Fault::StrengthsAfterCells => exchanged(13, 8),
+        Fault::TornStrengthFirst => exchanged(9, 14),
+        _ => ORDER,
+    }
 }
 
 /// The accepted sheet, or the first number whose condition applies.

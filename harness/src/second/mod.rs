@@ -10,6 +10,7 @@ mod file;
 mod fills;
 mod filters;
 mod fit;
+mod join;
 mod labels;
 mod lines;
 mod map;
@@ -26,6 +27,7 @@ pub use fault::Fault;
 pub use file::{FILL, FILLS_ROOM, LAST_NUMBER, MAX_POINTS, ORDER, ROOM, ROW};
 pub use fills::Fill;
 pub use filters::FILTERS;
+pub use join::{Shift, FARTHEST, RIGHT_INDICES};
 pub use plane::over_30_degrees;
 pub use root::{root, whole_root, Distance, WholeRoot};
 pub use run::{keep_in_run, InRun, Record, FULL, MOST_SHEETS, NUMBERS, OLD, SUMMED, SUM_LIMIT};
@@ -272,6 +274,19 @@ pub fn answer(file: &[u8], buffer: usize, fault: Fault) -> Answer {
         return Answer::Refused(1);
     }
     match file::read(file, Buffer::for_rows(buffer), fault) {
+        Ok(sheet) => Judged::new(sheet, fault).answer(fault),
+        Err(number) => Answer::Refused(number),
+    }
+}
+
+/// The number that a file is refused with, if any, with a buffer of some length.
+pub fn refusal(file: &[u8], buffer: usize) -> Option<u8> {
+    file::read(file, Buffer::for_rows(buffer), Fault::None).err()
+}
+
+/// The answer to two files, a left and a right one, and a buffer's length: that of the joined list.
+pub fn join(left: &[u8], right: &[u8], shift: &Shift, buffer: usize, fault: Fault) -> Answer {
+    match join::joined([left, right], shift, Buffer::for_rows(buffer), fault) {
         Ok(sheet) => Judged::new(sheet, fault).answer(fault),
         Err(number) => Answer::Refused(number),
     }

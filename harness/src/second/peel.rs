@@ -2,6 +2,7 @@
 
 use super::board::Board;
 use super::fault::Fault;
+use super::join::RIGHT_INDICES;
 use super::plane::median;
 
 /// What the filter finds.
@@ -28,6 +29,7 @@ fn weak(board: &Board, fraction: f32, dropped: &[bool], fault: Fault) -> Vec<boo
     let counted = |k: &usize| match fault {
         Fault::MedianOfLive => !dropped[*k],
         Fault::MedianByIndex => board.home[*k] == *k,
+        Fault::JoinMedianOfLeft => board.points[*k].index < RIGHT_INDICES,
         _ => true,
     };
     let strength = |k: usize| board.points[k].strength;

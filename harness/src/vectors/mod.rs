@@ -1,11 +1,13 @@
 //! The recorded files of the vector crates: what each program reads and what it must write.
 
 mod float;
+mod join;
 mod run;
 mod sheet;
 mod sheet_file;
 
 pub use float::float;
+pub use join::join;
 pub use run::run;
 pub use sheet::{sheet, Choice};
 pub use sheet_file::{long, sheet_file, spoilt, weighed};

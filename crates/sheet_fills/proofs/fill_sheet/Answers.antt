@@ -10,8 +10,8 @@ fill_read-requires c = rw c.as_rows.ensures at c.in_ok-sheet.ensures
 pub returns-in_err-sheet-clause-answer : goal.returns-in_err-sheet-clause-answer
 unfolding fill_answer_of
 returns-in_err-sheet-clause-answer c =
-    rw (refused-sheet c.args.file.now _ _ (rw c.as_rows.ensures at c.in_err-sheet.ensures)) (handed-on _ _ c.from_residual.ensures.1)
+    rw (refused-sheet _ _ (rw c.as_rows.ensures at c.in_err-sheet.ensures)) (handed-on _ _ c.from_residual.ensures.1)
 
 pub returns-in_err-sheet-clause-fills : goal.returns-in_err-sheet-clause-fills
 unfolding fills_after
-returns-in_err-sheet-clause-fills c = rw (refused-sheet c.args.file.now _ _ (rw c.as_rows.ensures at c.in_err-sheet.ensures)) refl
+returns-in_err-sheet-clause-fills c = rw (refused-sheet _ _ (rw c.as_rows.ensures at c.in_err-sheet.ensures)) refl

@@ -1,4 +1,3 @@
-use Rattle.ruling.specs.Ruling.{rows_size}
 use Rattle.judging.proofs.Sheets.{refused-sheet}
 use Rattle.sheet_map.specs.Text.{map_ruling_of, map_text_of}
 use Rattle.sheet_map.proofs.Cases.{drawn}
@@ -12,4 +11,4 @@ returns-in-Ok c =
 
 pub returns-in-Err : goal.returns-in-Err
 unfolding map_text_of map_ruling_of
-returns-in-Err c = rw (refused-sheet c.args.file.now rows_size c.in-Err.refusal (rw c.in-Err.is at c.read.ensures)) (rw c.number.ensures at c.write_refusal.ensures)
+returns-in-Err c = rw (refused-sheet _ c.in-Err.refusal (rw c.in-Err.is at c.read.ensures)) (rw c.number.ensures at c.write_refusal.ensures)

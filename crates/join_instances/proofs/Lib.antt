@@ -1,0 +1,2 @@
+pub mod Joined
+pub mod Numbers

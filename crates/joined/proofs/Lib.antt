@@ -1,0 +1,11 @@
+pub mod Lists
+pub mod Cells
+pub mod Numbers
+pub mod Accepted
+pub mod Order
+pub mod Found
+pub mod Reading
+pub mod Given
+pub mod Moved
+pub mod Cases
+pub mod Examples

@@ -1,0 +1,3 @@
+pub mod Joined
+pub mod Halved
+pub mod Numbered

@@ -1,0 +1,2 @@
+pub mod Cases
+pub mod Whole
