@@ -127,6 +127,7 @@ moved-marks x a b s ps m =
       same = marks_stay s ps m.points m.size v t;
       leaf = λ h k. ap (has_mark leaf) (marks_stay s ps m.points m.size v t h k);
       rounds = λ h. (counts-stay s ps m.points m.size v t h).1;
+      counts = λ h. let c = counts-stay s ps m.points m.size v t h in rw (m.size, c.0, c.1);
       kept = kept-stays s ps m.points m.size v t;
     }
 

@@ -87,8 +87,8 @@ AnotherOrderPromise = (file other : List ℕ) (f : Layout) → Bytes file → fr
 -- ---- (c) an offset
 
 -- This ruling accepts, its points are the old ones at their moved cells and no others, and each has the same orientation and wrong-label marks;
--- if each has the same validate mark too, each has the same marks, "A whole move keeps L if the earlier marks hold", with as many rounds, and
--- "the kept patch has moved along".
+-- if each has the same validate mark too, each has the same marks, "A whole move keeps L if the earlier marks hold", with as many rounds and the
+-- same counts, and "the kept patch has moved along".
 pub record MovedMarks (x : Ruling) (a b : ℤ) (s : Settings) (ps : List Point) : Type 0 where
   pub along : MovedAlong x a b s ps
   pub orientation : (k : ℕ) → k < length ps → has_mark orientation (marks_in s along.points k) ≡ has_mark orientation (marks_in s ps k)
@@ -96,6 +96,7 @@ pub record MovedMarks (x : Ruling) (a b : ℤ) (s : Settings) (ps : List Point) 
   pub same : ((k : ℕ) → k < length ps → has_mark validate (marks_in s along.points k) ≡ has_mark validate (marks_in s ps k)) → (k : ℕ) → marks_in s along.points k ≡ marks_in s ps k
   pub leaf : ((k : ℕ) → k < length ps → has_mark validate (marks_in s along.points k) ≡ has_mark validate (marks_in s ps k)) → (k : ℕ) → has_mark leaf (marks_in s along.points k) ≡ has_mark leaf (marks_in s ps k)
   pub rounds : ((k : ℕ) → k < length ps → has_mark validate (marks_in s along.points k) ≡ has_mark validate (marks_in s ps k)) → rounds_of s along.points ≡ rounds_of s ps
+  pub counts : ((k : ℕ) → k < length ps → has_mark validate (marks_in s along.points k) ≡ has_mark validate (marks_in s ps k)) → counts_for s along.points ≡ counts_for s ps
   pub kept : ((k : ℕ) → k < length ps → has_mark validate (marks_in s along.points k) ≡ has_mark validate (marks_in s ps k)) → (k : ℕ) → kept_rank s along.points k ≡ kept_rank s ps k
 
 -- of every ruling that accepts the moved points, whatever it is of
