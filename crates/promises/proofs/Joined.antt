@@ -216,7 +216,8 @@ weighed-there file f = go (is_some f.weights) (float_at file (weights_of f).at)
     go true x = by_limit (outside x) x
     go false x = refl
 
-sheet-weighed : (file : List ℕ) (room : ℕ) (s : Settings) (ps : List Point) → ruling_of file room ≡ accepted s ps → is_weighed s.score_frac ≡ is_some (layout_of file).weights
+-- "a tag 4 in only one file" is looked for by the fractions: an accepted file has one just where it has tag 4
+pub sheet-weighed : (file : List ℕ) (room : ℕ) (s : Settings) (ps : List Point) → ruling_of file room ≡ accepted s ps → is_weighed s.score_frac ≡ is_some (layout_of file).weights
 sheet-weighed file room s ps e =
     ap (λ (t : Settings). is_weighed t.score_frac) (accepted-file file room s ps e).settings-are
     ∙ ap is_weighed (own-fraction file (layout_of file)) ∙ weighed-there file (layout_of file)
