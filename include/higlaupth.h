@@ -54,8 +54,8 @@ extern "C" {
    caller raises the first number, an addition the second, anything else the third. */
 #define HIGLAUPTH_VERSION_MAJOR 6
 #define HIGLAUPTH_VERSION_MINOR 1
-#define HIGLAUPTH_VERSION_PATCH 0
-#define HIGLAUPTH_VERSION "6.1.0"
+#define HIGLAUPTH_VERSION_PATCH 1
+#define HIGLAUPTH_VERSION "6.1.1"
 
 /* Sizes, in bytes but for the first three. */
 #define HIGLAUPTH_MOST_POINTS 2304  /* a sheet with more is refused */

@@ -1,5 +1,6 @@
 pub mod Predict
 pub mod Fills
 pub mod Sums
+pub mod Places
 pub mod Theorems
 pub mod Steps

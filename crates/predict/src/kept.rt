@@ -6,8 +6,8 @@ ghost use Rattle.float.specs.Constants.{half};
 ghost use Rattle.view.specs.View.{max_points};
 ghost use Rattle.predict.specs.Predict.{opposite, is_forward};
 
-use crate::PredictedPosition;
 use crate::sums::Sums;
+use crate::{PredictedPosition, predict_grid_position};
 use offsets::Offset;
 use view::{Floats, Marks, SeenLattice};
 
@@ -103,6 +103,6 @@ impl Kept<'_> {
         if self.marks[k] == 0 {
             return None;
         }
-        self.prediction(k)
+        predict_grid_position(&self.points, self.marks, self.sides, k)
     }
 }
